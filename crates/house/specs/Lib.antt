@@ -1,0 +1,2 @@
+-- What the contract of `house` cites, and what it means.
+pub mod Rule

@@ -1,0 +1,138 @@
+-- The house tabulation's rule, and that all its entries differ: ONE test that goes once through the table, and the law that turns the test
+-- into the two statements (document 01: "Entry i is (25,173 × i × i + 13,849) modulo 65,521 .. All entries differ").
+use mathlib.Core.Path.{_≡_, refl, sym, ap, _∙_}
+use mathlib.Core.Bool.{Bool, true, false, not, cond, _&&_, _||_, true≢false, false≢true}
+use mathlib.Core.List.{List, [], _∷_}
+use Prim.Native.Nat.{ℕ, zero, suc, _+_, _*_, _%_, _<_}
+use native.Mathlib.Nat.{le-of-suc-le-suc, not-suc-le-zero, add-zero, add-suc, suc-add, zero-add}
+use native.Mathlib.Omega.{arith}
+use borrow.Author.Tests.{eqb-true, eq-eqb, not-true}
+use lib.Dec.{ltb, eqb}
+use lib.ListN.{length, getD}
+
+-- "Entry i is (25,173 × i × i + 13,849) modulo 65,521"
+abbrev pub house-entry : ℕ → ℕ
+house-entry i = (25173 * i * i + 13849) % 65521
+
+-- the entries seen so far, in a binary search tree
+pub data Tree : Type 0 where
+  leaf : Tree
+  node : Tree → ℕ → Tree → Tree
+
+unfoldable pub has : ℕ → Tree → Bool
+has x leaf = false
+has x (node l y r) = eqb x y || cond (ltb x y) (has x l) (has x r)
+
+unfoldable pub put : ℕ → Tree → Tree
+put x leaf = node leaf x leaf
+put x (node l y r) = cond (ltb x y) (node (put x l) y r) (node l y (put x r))
+
+-- each entry from place i on is as the rule says, and is none of those seen before it; there are n
+unfoldable pub test-from : ℕ → ℕ → Tree → List ℕ → Bool
+test-from n i seen [] = eqb n 0
+test-from zero i seen (x ∷ xs) = false
+test-from (suc n) i seen (x ∷ xs) = eqb x (house-entry i) && not (has x seen) && test-from n (suc i) (put x seen) xs
+
+-- the whole test of a table of 2,048 entries
+unfoldable pub house-test : List ℕ → Bool
+house-test t = test-from 2048 0 leaf t
+
+and-true : (p q : Bool) → (p && q) ≡ true → (p ≡ true) × (q ≡ true)
+and-true true q e = (refl, e)
+and-true false q e = absurd (false≢true e)
+
+or-true : (p q : Bool) → q ≡ true → (p || q) ≡ true
+or-true true q e = refl
+or-true false q e = e
+
+-- what is put into the tree is in it
+has-put-same : (x : ℕ) (t : Tree) → has x (put x t) ≡ true
+unfolding has put
+has-put-same x leaf = rw (eq-eqb x x refl)
+has-put-same x (node l y r) = go (ltb x y) refl (has-put-same x l) (has-put-same x r)
+  where
+    go : (b : Bool) → ltb x y ≡ b → has x (put x l) ≡ true → has x (put x r) ≡ true
+        → has x (cond b (node (put x l) y r) (node l y (put x r))) ≡ true
+    go true e hl hr = or-true (eqb x y) _ (rw e hl)
+    go false e hl hr = or-true (eqb x y) _ (rw e hr)
+
+-- and what was in it stays
+has-put-other : (x z : ℕ) (t : Tree) → has z t ≡ true → has z (put x t) ≡ true
+unfolding has put
+has-put-other x z leaf h = absurd (false≢true h)
+has-put-other x z (node l y r) h = go (ltb x y) (eqb z y) (ltb z y) refl refl (has-put-other x z l) (has-put-other x z r) h
+  where
+    go : (b c d : Bool) → eqb z y ≡ c → ltb z y ≡ d → (has z l ≡ true → has z (put x l) ≡ true) → (has z r ≡ true → has z (put x r) ≡ true)
+        → (c || cond d (has z l) (has z r)) ≡ true → has z (cond b (node (put x l) y r) (node l y (put x r))) ≡ true
+    go true true d ec ed hl hr h = rw ec
+    go false true d ec ed hl hr h = rw ec
+    go true false true ec ed hl hr h = rw (ec, ed) (hl h)
+    go true false false ec ed hl hr h = rw (ec, ed) h
+    go false false true ec ed hl hr h = rw (ec, ed) h
+    go false false false ec ed hl hr h = rw (ec, ed) (hr h)
+
+-- what one entry's part of the test says
+record Entry (n i x : ℕ) (seen : Tree) (xs : List ℕ) : Type 0 where
+  ruled : x ≡ house-entry i
+  fresh : has x seen ≡ false
+  rest : test-from n (suc i) (put x seen) xs ≡ true
+
+entry : (n i x : ℕ) (seen : Tree) (xs : List ℕ) → test-from (suc n) i seen (x ∷ xs) ≡ true → Entry n i x seen xs
+unfolding test-from
+entry n i x seen xs e =
+    let p = and-true (eqb x (house-entry i) && not (has x seen)) _ e in
+    let q = and-true (eqb x (house-entry i)) _ (p .0) in
+    record { ruled = eqb-true x (house-entry i) (q .0); fresh = not-true (has x seen) (q .1); rest = p .1 }
+
+-- the rule at each place
+ruled-at : (n i : ℕ) (seen : Tree) (xs : List ℕ) → test-from n i seen xs ≡ true → (k : ℕ) → k < length xs → getD xs k 0 ≡ house-entry (i + k)
+unfolding test-from
+ruled-at n i seen [] e k l = absurd (not-suc-le-zero l)
+ruled-at zero i seen (x ∷ xs) e k l = absurd (false≢true e)
+ruled-at (suc n) i seen (x ∷ xs) e zero l = entry n i x seen xs e .ruled ∙ ap house-entry (sym (add-zero i))
+ruled-at (suc n) i seen (x ∷ xs) e (suc k) l =
+    ruled-at n (suc i) (put x seen) xs (entry n i x seen xs e .rest) k (le-of-suc-le-suc l)
+    ∙ ap house-entry (suc-add i k ∙ sym (add-suc i k))
+
+-- nothing that was seen before stands in the rest
+apart : (n i : ℕ) (seen : Tree) (xs : List ℕ) → test-from n i seen xs ≡ true → (z : ℕ) → has z seen ≡ true
+    → (k : ℕ) → k < length xs → getD xs k 0 ≡ z → ⊥
+unfolding test-from
+apart n i seen [] e z h k l q = not-suc-le-zero l
+apart zero i seen (x ∷ xs) e z h k l q = false≢true e
+apart (suc n) i seen (x ∷ xs) e z h zero l q = true≢false (sym (rw (← q) at h) ∙ entry n i x seen xs e .fresh)
+apart (suc n) i seen (x ∷ xs) e z h (suc k) l q =
+    apart n (suc i) (put x seen) xs (entry n i x seen xs e .rest) z (has-put-other x z seen h) k (le-of-suc-le-suc l) q
+
+differ-from : (n i : ℕ) (seen : Tree) (xs : List ℕ) → test-from n i seen xs ≡ true
+    → (j k : ℕ) → j < k → k < length xs → getD xs j 0 ≡ getD xs k 0 → ⊥
+unfolding test-from
+differ-from n i seen [] e j k h l q = not-suc-le-zero l
+differ-from zero i seen (x ∷ xs) e j k h l q = false≢true e
+differ-from (suc n) i seen (x ∷ xs) e j zero h l q = not-suc-le-zero h
+differ-from (suc n) i seen (x ∷ xs) e zero (suc k) h l q =
+    apart n (suc i) (put x seen) xs (entry n i x seen xs e .rest) x (has-put-same x seen) k (le-of-suc-le-suc l) (sym q)
+differ-from (suc n) i seen (x ∷ xs) e (suc j) (suc k) h l q =
+    differ-from n (suc i) (put x seen) xs (entry n i x seen xs e .rest) j k (le-of-suc-le-suc h) (le-of-suc-le-suc l) q
+
+long : (n i : ℕ) (seen : Tree) (xs : List ℕ) → test-from n i seen xs ≡ true → length xs ≡ n
+unfolding test-from
+long n i seen [] e = sym (eqb-true n 0 e)
+long zero i seen (x ∷ xs) e = absurd (false≢true e)
+long (suc n) i seen (x ∷ xs) e = ap suc (long n (suc i) (put x seen) xs (entry n i x seen xs e .rest))
+
+-- What the test means: 2,048 entries, each as the rule says, and no two equal.
+pub record House (t : List ℕ) : Type 0 where
+  pub long : length t ≡ 2048
+  pub ruled : (i : ℕ) → i < 2048 → getD t i 0 ≡ house-entry i
+  pub distinct : (i j : ℕ) → i < j → j < 2048 → getD t i 0 ≡ getD t j 0 → ⊥
+
+pub house : (t : List ℕ) → house-test t ≡ true → House t
+unfolding house-test
+house t e =
+    let l = long 2048 0 leaf t e in
+    record {
+      long = l;
+      ruled = λ i h. ruled-at 2048 0 leaf t e i (omega arith) ∙ ap house-entry (zero-add i);
+      distinct = λ i j h k. differ-from 2048 0 leaf t e i j h (omega arith);
+    }

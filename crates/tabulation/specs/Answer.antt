@@ -1,0 +1,56 @@
+-- What a request for both hashes of a key answers, for every tabulation, r and key (document 01: "Called alone it gives both places, or 1, 2
+-- (only for r outside its range) or 5 from the table below, in that order").
+use Prim.Native.Nat.{ℕ}
+use mathlib.Core.Bool.{Bool, true, false, not, cond}
+use mathlib.Core.Path.{_≡_, refl}
+use native.Mathlib.Omega.{arith}
+use mathlib.Core.List.{List, [], _∷_}
+use lib.Dec.{eqb}
+use lib.ListN.{length}
+use Rattle.tabulation.specs.Refusal.{done, wrong-tabulation, wrong-shape, blank-key, first-refusal}
+use Rattle.tabulation.specs.Hash.{tabulation-length, slots-in-range, blank, Family, hash}
+use Rattle.tabulation.specs.declared.Hashed.{Hashed}
+use Rattle.tabulation.specs.declared.Hashed.the-variants.{At, Refused}
+
+-- document 01's number of an answer, and its values: the hash in table 0, then in table 1
+abbrev pub number : Hashed → ℕ
+number (At h0 h1) = done
+number (Refused n) = n
+
+abbrev pub values : Hashed → List ℕ
+values (At h0 h1) = h0 ∷ h1 ∷ []
+values (Refused n) = []
+
+unfoldable pub hashes-refusal : Family → ℕ → ℕ
+hashes-refusal F key =
+    first-refusal
+    ((wrong-tabulation, not (eqb (length (F .tabulation)) tabulation-length))
+    ∷ (wrong-shape, not (slots-in-range (F .slots)))
+    ∷ (blank-key, blank key)
+    ∷ [])
+
+unfoldable pub hashes-values : Family → ℕ → List ℕ
+hashes-values F key = cond (eqb (hashes-refusal F key) done) (hash F 0 key ∷ hash F 1 key ∷ []) []
+
+-- what the out-parameter for a table holds after the exported call: the hash there, and after a refusal what it held before
+unfoldable pub written : Family → ℕ → ℕ → ℕ → ℕ
+written F key table old = cond (eqb (hashes-refusal F key) done) (hash F table key) old
+
+module _ (F : Family) (key old : ℕ) where
+  -- what the values of an answer say of the out-parameters
+  pub written-at : {h0 h1 : ℕ} → h0 ∷ h1 ∷ [] ≡ hashes-values F key → (h0 ≡ written F key 0 old) × (h1 ≡ written F key 1 old)
+  unfolding hashes-values written
+  written-at {h0} {h1} = go (eqb (hashes-refusal F key) done)
+    where
+      go : (t : Bool) → h0 ∷ h1 ∷ [] ≡ cond t (hash F 0 key ∷ hash F 1 key ∷ []) []
+          → (h0 ≡ cond t (hash F 0 key) old) × (h1 ≡ cond t (hash F 1 key) old)
+      go true e = (cc, cc)
+      go false e = absurd (let z : _≡_ {A = ℕ} 0 1 = cc in omega arith)
+
+  pub written-refused : [] ≡ hashes-values F key → (table : ℕ) → old ≡ written F key table old
+  unfolding hashes-values written
+  written-refused e table = go (eqb (hashes-refusal F key) done) e
+    where
+      go : (t : Bool) → [] ≡ cond t (hash F 0 key ∷ hash F 1 key ∷ []) [] → old ≡ cond t (hash F table key) old
+      go true e = absurd (let z : _≡_ {A = ℕ} 0 1 = cc in omega arith)
+      go false e = refl

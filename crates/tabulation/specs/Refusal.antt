@@ -1,0 +1,26 @@
+-- Refusals, document 01's "What a call gives back": the numbers of the table, and that "they are tried in this order". Every call lists
+-- its refusals as pairs of a number and a test; what it answers is the first of them that applies. Shared by all crates.
+use Prim.Native.Nat.{ℕ}
+use mathlib.Core.Bool.{Bool, cond}
+use mathlib.Core.List.{List, [], _∷_}
+
+-- 0, "done": accepted
+abbrev pub done : ℕ
+done = 0
+
+-- 1, "wrong book": book not 2,048 long
+abbrev pub wrong-tabulation : ℕ
+wrong-tabulation = 1
+
+-- 2, "wrong shape": of the hashes of a key alone, r outside its range
+abbrev pub wrong-shape : ℕ
+wrong-shape = 2
+
+-- 5, "blank card"
+abbrev pub blank-key : ℕ
+blank-key = 5
+
+-- the number of the first refusal whose test holds, or done
+abbrev pub first-refusal : List (ℕ × Bool) → ℕ
+first-refusal [] = done
+first-refusal (r ∷ rs) = cond (r .1) (r .0) (first-refusal rs)

@@ -1,0 +1,130 @@
+// The hashes of a key (the paper's "places of a card"): one function for both tables, and the public call that gives both hashes or a
+// refusal. Crates above use what it promises and the laws of specs/Hash.antt, and nothing else of it. The till maker links it alone.
+ghost use mathlib.Core.Path.{_≡_};
+ghost use Prim.Native.Nat.{_+_, _*_, _≤_, _<_};
+ghost use lib.ListN.{length};
+ghost use Rattle.tabulation.specs.Slots.{slot-0, slot-1};
+ghost use Rattle.tabulation.specs.Hash.{tabulation-length, max-slots, slots-in-range, blank, entry, hash};
+ghost use Rattle.tabulation.specs.Answer.{number, values, hashes-refusal, hashes-values, written};
+
+// Document 01's numbers, as far as this crate gives them.
+pub const WRONG_TABULATION: u32 = 1;
+
+pub const WRONG_SHAPE: u32 = 2;
+
+pub const BLANK_KEY: u32 = 5;
+
+// The length of a tabulation, and the most slots of a table.
+pub const TABULATION_LENGTH: usize = 2048;
+
+pub const MAX_SLOTS: u32 = 1024;
+
+// Both hashes of a key, in table 0 and in table 1, or the number of the refusal.
+pub enum Hashed {
+    At(u32, u32),
+    Refused(u32),
+}
+
+// Whether a key is blank: the key of no element.
+pub fn is_blank(key: u32) -> bool
+    ensures { λ b. ⌜ b ≡ blank key ⌝ }
+{
+    key == 0
+}
+
+// Whether a table may have r slots.
+pub fn in_range(r: u32) -> bool
+    ensures { λ b. ⌜ b ≡ slots-in-range r ⌝ }
+{
+    1 <= r && r <= MAX_SLOTS
+}
+
+fn wide(x: u16) -> u32
+    ensures { λ r. ⌜ r ≡ x ⌝ }
+{
+    x as u32
+}
+
+// The entry of the tabulation for byte i of a key, b, in a table.
+fn entry_at(tabulation: &[u16], table: usize, i: usize, b: u32) -> u32
+    requires { ⌜ (length (now tabulation) ≡ tabulation-length) × (table < 2) × (i < 4) × (b < 256) ⌝ }
+    ensures { λ e. ⌜ (e ≡ entry (now (tabulation .entry)) table i b) × (e < 65536) ⌝ }
+{
+    wide(tabulation[1024 * table + 256 * i + b as usize])
+}
+
+// The hash of a key in a table of r slots.
+pub fn hash_in(tabulation: &[u16], table: usize, r: u32, key: u32) -> u32
+    requires { ⌜ (length (now tabulation) ≡ tabulation-length) × (table < 2) × (0 < r) ⌝ }
+    ensures { λ h. ⌜ h ≡ hash (record { tabulation = now (tabulation .entry); slots = r }) table key ⌝ }
+{
+    let mut sum: u32 = 0;
+    let mut rest = key;
+    let mut i: usize = 0;
+    while i < 4 {
+        sum = sum + entry_at(tabulation, table, i, rest % 256);
+        rest = rest / 256;
+        i = i + 1;
+    }
+    sum % r
+}
+
+// Both hashes of a key, or 1, 2 or 5: for every tabulation, r and key.
+pub fn hashes(tabulation: &[u16], r: u32, key: u32) -> Hashed
+    ensures numbered { λ h. ⌜ number h ≡ hashes-refusal (record { tabulation = now (tabulation .entry); slots = r }) key ⌝ }
+    ensures valued { λ h. ⌜ values h ≡ hashes-values (record { tabulation = now (tabulation .entry); slots = r }) key ⌝ }
+{
+    if tabulation.len() != TABULATION_LENGTH {
+        return Hashed::Refused(WRONG_TABULATION);
+    }
+    if !in_range(r) {
+        return Hashed::Refused(WRONG_SHAPE);
+    }
+    if is_blank(key) {
+        return Hashed::Refused(BLANK_KEY);
+    }
+    Hashed::At(
+        hash_in(tabulation, 0, r, key),
+        hash_in(tabulation, 1, r, key),
+    )
+}
+
+// `hashes` for C and Rust: the answer is document 01's number, 0 for done. Done, the two hashes are written to `first` and `second`;
+// refused, both stay as they were.
+#[no_mangle]
+pub extern "C" fn pinorange_hashes(
+    tabulation: &[u16],
+    r: u32,
+    key: u32,
+    first: &mut u32,
+    second: &mut u32,
+) -> u32
+    ensures numbered { λ n. ⌜ n ≡ hashes-refusal (record { tabulation = now (tabulation .entry); slots = r }) key ⌝ }
+    ensures first_hash { λ n. ⌜ now (first .exit) ≡ written (record { tabulation = now (tabulation .entry); slots = r }) key 0 (now (first .entry)) ⌝ }
+    ensures second_hash { λ n. ⌜ now (second .exit) ≡ written (record { tabulation = now (tabulation .entry); slots = r }) key 1 (now (second .entry)) ⌝ }
+{
+    let h = hashes(tabulation, r, key);
+    match h {
+        Hashed::At(h0, h1) => {
+            *first = h0;
+            *second = h1;
+            0
+        }
+        Hashed::Refused(n) => n,
+    }
+}
+
+// The slot of a key in a table, in the row of both tables' slots: table 1's come after the r of table 0.
+pub fn first_slot(tabulation: &[u16], r: u32, key: u32) -> u32
+    requires { ⌜ (length (now tabulation) ≡ tabulation-length) × (0 < r) ⌝ }
+    ensures { λ v. ⌜ v ≡ slot-0 (record { tabulation = now (tabulation .entry); slots = r }) key ⌝ }
+{
+    hash_in(tabulation, 0, r, key)
+}
+
+pub fn second_slot(tabulation: &[u16], r: u32, key: u32) -> u32
+    requires { ⌜ (length (now tabulation) ≡ tabulation-length) × (0 < r) × (r ≤ max-slots) ⌝ }
+    ensures { λ v. ⌜ v ≡ slot-1 (record { tabulation = now (tabulation .entry); slots = r }) key ⌝ }
+{
+    r + hash_in(tabulation, 1, r, key)
+}

@@ -1,0 +1,38 @@
+/* The hashes of a key, for whoever links the hashing alone (libtabulation.a), without the dictionary.
+ *
+ * The function below is proved: it reads nothing outside the `length` entries it is lent, writes nothing but the two
+ * out-parameters, and returns for every input. The promise is stated in crates/tabulation/src/lib.rt. */
+#ifndef PINORANGE_HASHES_H
+#define PINORANGE_HASHES_H
+
+#include <stddef.h>
+#include <stdint.h>
+
+#ifdef __cplusplus
+extern "C" {
+#endif
+
+/* The numbers that a call answers. */
+#define PINORANGE_DONE 0u             /* accepted */
+#define PINORANGE_WRONG_TABULATION 1u /* the tabulation is not 2,048 entries long */
+#define PINORANGE_WRONG_SHAPE 2u      /* here: r is not 1 to 1,024 */
+#define PINORANGE_BLANK_KEY 5u        /* the key is 0 */
+
+#define PINORANGE_TABULATION_LENGTH 2048u /* entries of a tabulation: 1,024 for table 0, then 1,024 for table 1 */
+#define PINORANGE_MAX_SLOTS 1024u         /* the largest r */
+
+/* The two slots in which a key may sit, one in each table of r slots.
+ *
+ * Reads: the `length` entries of `tabulation` (any length, any content).
+ * Done (0): `*table0` and `*table1` are the key's hashes, both below r: in table k the sum, over the bytes b0 (lowest) to b3 of the
+ *   key, of entry 1024 k + 256 i + bi, modulo r.
+ * Refused (1, 2 or 5, tried in that order): `*table0` and `*table1` stay as they were.
+ * The tabulation is never written. `table0` and `table1` must not be null, and must not be the same. */
+uint32_t pinorange_hashes(const uint16_t *tabulation, size_t length, uint32_t r, uint32_t key, uint32_t *table0,
+                          uint32_t *table1);
+
+#ifdef __cplusplus
+}
+#endif
+
+#endif
