@@ -1,0 +1,196 @@
+//! The calls on a list: init, insert, remove, lookup, check and the stash view. All are total:
+//! tabulation, words and scratch may have any length and content. The engine given says how images
+//! are worked out.
+
+use crate::answer::{Answer, Refusal};
+use crate::counters::Counters;
+use crate::hash::{hashes, TABULATION_LEN};
+use crate::image::Engine;
+use crate::layout::{Shape, Slot};
+
+/// Makes the words an empty list (the paper's "lay").
+///
+/// Paper: "Laying fresh takes r and s and gives only 2; it borrows neither book nor sheet, and
+/// accepted it leaves r, s and zeros."
+pub fn init(r: u32, s: u32, words: &mut [u32], counters: &mut Counters) -> Answer {
+    let answer = init_words(r, s, words);
+    counters.count(answer);
+    answer
+}
+
+fn init_words(r: u32, s: u32, words: &mut [u32]) -> Answer {
+    let shape = Shape::new(r, s)?;
+    if words.len() != shape.words_len() {
+        return Err(Refusal::WrongShape);
+    }
+    words.fill(0);
+    words[0] = r;
+    words[1] = s;
+    Ok(())
+}
+
+/// Puts a key into the set (the paper's "add").
+///
+/// Paper: "Add can give 1 to 6 and 8". The words become the image of the new set; "Every refusal
+/// leaves list and book unchanged". The scratch "is zero over its full length after every call that
+/// borrows it".
+pub fn insert(
+    engine: &impl Engine,
+    tabulation: &[u16],
+    words: &mut [u32],
+    scratch: &mut [u32],
+    counters: &mut Counters,
+    key: u32,
+) -> Answer {
+    let new_words = with_key(engine, tabulation, words, scratch.len(), key);
+    finish(new_words, words, scratch, counters)
+}
+
+/// Takes a key out of the set (the paper's "withdraw").
+///
+/// Paper: "withdraw 1 to 5 and 7".
+pub fn remove(
+    engine: &impl Engine,
+    tabulation: &[u16],
+    words: &mut [u32],
+    scratch: &mut [u32],
+    counters: &mut Counters,
+    key: u32,
+) -> Answer {
+    let new_words = without_key(engine, tabulation, words, scratch.len(), key);
+    finish(new_words, words, scratch, counters)
+}
+
+/// Says whether the words are a canonical image (the paper's "check").
+///
+/// Paper: "check 1 to 4" and "check, look-up and view never change them".
+pub fn check(
+    engine: &impl Engine,
+    tabulation: &[u16],
+    words: &[u32],
+    scratch: &mut [u32],
+) -> Answer {
+    let answer = listed_keys(engine, tabulation, words, scratch.len());
+    scratch.fill(0);
+    answer.map(|_| ())
+}
+
+/// Says whether a key stands in the words (the paper's "look-up").
+///
+/// Paper: "Look-up borrows no sheet. It gives 1, 2, 5, or else yes exactly when the number stands
+/// as a card number in its rack 0 place, its rack 1 place or one of the s drawer words, tampered
+/// list or not."
+pub fn lookup(tabulation: &[u16], words: &[u32], key: u32) -> Result<bool, Refusal> {
+    if tabulation.len() != TABULATION_LEN {
+        return Err(Refusal::WrongTabulation);
+    }
+    let shape = Shape::of(words)?;
+    let hashes = hashes(tabulation, shape.r(), key)?;
+    let holds = |table: usize| {
+        let slot = Slot { table, index: hashes[table] as usize };
+        words[shape.slot_at(slot)] == key
+    };
+    Ok(holds(0) || holds(1) || words[shape.stash_at()..].contains(&key))
+}
+
+/// The filled part of the stash, as part of the borrowed words (the paper's "drawer view").
+///
+/// Paper: "The view answers with the filled stretch of the drawer as part of the lent list, without
+/// copying. Refused, the stretch is empty, and a call beside it gives the number." That call is
+/// [`stash_answer`].
+pub fn stash(words: &[u32]) -> &[u32] {
+    stash_part(words).unwrap_or(&[])
+}
+
+/// The answer that goes with [`stash`].
+///
+/// Paper: "The drawer view gives only 2, or 4 when word 3 exceeds s."
+pub fn stash_answer(words: &[u32]) -> Answer {
+    stash_part(words).map(|_| ())
+}
+
+fn stash_part(words: &[u32]) -> Result<&[u32], Refusal> {
+    let shape = Shape::of(words)?;
+    let filled = words[3];
+    if filled > shape.s() {
+        return Err(Refusal::NotCanonical);
+    }
+    Ok(&words[shape.stash_at()..][..filled as usize])
+}
+
+/// The keys of the set whose image the words are, ascending; or 1, 2, 3 or 4, in this order.
+///
+/// Every key of a set stands in the set's image, in a slot or in the stash, and no other does. So
+/// the words are the image of the keys that stand in them, or of no set at all.
+fn listed_keys(
+    engine: &impl Engine,
+    tabulation: &[u16],
+    words: &[u32],
+    scratch_len: usize,
+) -> Result<Vec<u32>, Refusal> {
+    if tabulation.len() != TABULATION_LEN {
+        return Err(Refusal::WrongTabulation);
+    }
+    let shape = Shape::of(words)?;
+    if scratch_len < shape.scratch_len() {
+        return Err(Refusal::ShortScratch);
+    }
+    let keys = shape.keys(words);
+    let image = engine.image(tabulation, shape.r(), shape.s(), &keys);
+    if image.as_deref() != Some(words) {
+        return Err(Refusal::NotCanonical);
+    }
+    Ok(keys)
+}
+
+/// The words after an insert, or its refusal.
+fn with_key(
+    engine: &impl Engine,
+    tabulation: &[u16],
+    words: &[u32],
+    scratch_len: usize,
+    key: u32,
+) -> Result<Vec<u32>, Refusal> {
+    let mut keys = listed_keys(engine, tabulation, words, scratch_len)?;
+    if key == 0 {
+        return Err(Refusal::BlankKey);
+    }
+    match keys.binary_search(&key) {
+        Ok(_) => return Err(Refusal::Listed),
+        Err(at) => keys.insert(at, key),
+    }
+    engine.image(tabulation, words[0], words[1], &keys).ok_or(Refusal::FullStash)
+}
+
+/// The words after a remove, or its refusal.
+fn without_key(
+    engine: &impl Engine,
+    tabulation: &[u16],
+    words: &[u32],
+    scratch_len: usize,
+    key: u32,
+) -> Result<Vec<u32>, Refusal> {
+    let mut keys = listed_keys(engine, tabulation, words, scratch_len)?;
+    if key == 0 {
+        return Err(Refusal::BlankKey);
+    }
+    match keys.binary_search(&key) {
+        Ok(at) => keys.remove(at),
+        Err(_) => return Err(Refusal::NotListed),
+    };
+    let image = engine.image(tabulation, words[0], words[1], &keys);
+    Ok(image.expect("a smaller set needs no more stash places"))
+}
+
+/// Ends an insert or remove: new words if accepted, zeros on the scratch, one count more.
+fn finish(
+    new_words: Result<Vec<u32>, Refusal>,
+    words: &mut [u32],
+    scratch: &mut [u32],
+    counters: &mut Counters,
+) -> Answer {
+    let answer = new_words.map(|new_words| words.copy_from_slice(&new_words));
+    scratch.fill(0);
+    counters.count(answer);
+    answer
+}

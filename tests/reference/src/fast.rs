@@ -1,0 +1,270 @@
+//! The canonical image another way, for lists of any allowed size: a spanning forest instead of
+//! listed cycles, and peeling instead of trying. Near n log n; the tests hold it against the slow
+//! definition.
+
+use crate::answer::Refusal;
+use crate::hash::TABULATION_LEN;
+use crate::image::Engine;
+use crate::layout::{Shape, HEADER_LEN};
+
+/// The engine that works by [`image`] of this module.
+#[derive(Clone, Copy, Debug, Default)]
+pub struct Fast;
+
+impl Engine for Fast {
+    fn image(&self, tabulation: &[u16], r: u32, s: u32, keys: &[u32]) -> Option<Vec<u32>> {
+        image(tabulation, r, s, keys)
+    }
+}
+
+/// The words of the canonical image of a set of keys; the same as [`crate::image::image`].
+///
+/// Paper: "The canonical image".
+pub fn image(tabulation: &[u16], r: u32, s: u32, keys: &[u32]) -> Option<Vec<u32>> {
+    let shape = Shape::new(r, s).ok()?;
+    let tabulation: &[u16; TABULATION_LEN] = tabulation.try_into().ok()?;
+    let mut keys = keys.to_vec();
+    keys.sort_unstable();
+    keys.dedup();
+    if keys.first() == Some(&0) {
+        return None;
+    }
+    let ends: Vec<[u32; 2]> = keys.iter().map(|&key| ends(tabulation, r, key)).collect();
+    let parts = Parts::new(2 * r as usize, &ends);
+    let stash: Vec<u32> = parts.in_stash().map(|i| keys[i]).collect();
+    if stash.len() > s as usize {
+        return None;
+    }
+    let mut words = vec![0; shape.words_len()];
+    words[..HEADER_LEN].copy_from_slice(&[r, s, keys.len() as u32, stash.len() as u32]);
+    let next = next_keys(&keys, &parts);
+    for (slot, &i) in assignment(&ends, &parts).iter().enumerate() {
+        if i != NONE {
+            words[HEADER_LEN + 2 * slot] = keys[i as usize];
+            words[HEADER_LEN + 2 * slot + 1] = next[i as usize];
+        }
+    }
+    words[shape.stash_at()..][..stash.len()].copy_from_slice(&stash);
+    Some(words)
+}
+
+/// Says whether a key stands in the words; the same as [`crate::calls::lookup`], with less to do at
+/// run time. It is the partner for benchmarks.
+///
+/// Paper: "Look-up borrows no sheet. It gives 1, 2, 5, or else yes exactly when the number stands
+/// as a card number in its rack 0 place, its rack 1 place or one of the s drawer words, tampered
+/// list or not."
+#[inline]
+pub fn lookup(tabulation: &[u16], words: &[u32], key: u32) -> Result<bool, Refusal> {
+    let Ok(tabulation) = <&[u16; TABULATION_LEN]>::try_from(tabulation) else {
+        return Err(Refusal::WrongTabulation);
+    };
+    let shape = Shape::of(words)?;
+    if key == 0 {
+        return Err(Refusal::BlankKey);
+    }
+    let [end0, end1] = ends(tabulation, shape.r(), key);
+    let holds = |end: u32| words[HEADER_LEN + 2 * end as usize] == key;
+    Ok(holds(end0) || holds(end1) || words[shape.stash_at()..].contains(&key))
+}
+
+/// Stands for "no key" among key numbers.
+const NONE: u32 = u32::MAX;
+
+/// The two slots of a key (the paper's "places"), numbered through both tables: slot i of table 0
+/// is i and slot i of table 1 is r + i.
+#[inline]
+fn ends(tabulation: &[u16; TABULATION_LEN], r: u32, key: u32) -> [u32; 2] {
+    let [b0, b1, b2, b3] = key.to_le_bytes().map(usize::from);
+    let entry = |i: usize| u32::from(tabulation[i]);
+    let sum0 = entry(b0) + entry(256 + b1) + entry(512 + b2) + entry(768 + b3);
+    let sum1 = entry(1_024 + b0) + entry(1_280 + b1) + entry(1_536 + b2) + entry(1_792 + b3);
+    [sum0 % r, r + sum1 % r]
+}
+
+/// The components of a set of keys and what goes to the stash. Keys go by their number in ascending
+/// order from here on.
+struct Parts {
+    /// For each key, the slot that stands for its component.
+    component: Vec<u32>,
+    /// For each slot that stands for a component, whether that component has a cycle.
+    cyclic: Vec<bool>,
+    /// For each key, whether it goes to the stash.
+    stashed: Vec<bool>,
+}
+
+impl Parts {
+    /// Paper: "the largest card that lies on a loop goes to the drawer, and again, until one loop
+    /// is left".
+    ///
+    /// Done to the end, that would be the way to a minimum spanning tree that deletes the largest
+    /// edge on a cycle again and again. It deletes in descending order, and in the end it has
+    /// deleted just the keys that close a cycle when keys are joined up in ascending order. It
+    /// stops one key short of the tree. So in each component all closing keys go to the stash, but
+    /// for the smallest.
+    fn new(slots: usize, ends: &[[u32; 2]]) -> Parts {
+        let mut sets = DisjointSets::new(slots);
+        let closing: Vec<usize> = (0..ends.len()).filter(|&i| !sets.union(ends[i])).collect();
+        let component: Vec<u32> = ends.iter().map(|end| sets.find(end[0])).collect();
+        let mut cyclic = vec![false; slots];
+        let mut stashed = vec![false; ends.len()];
+        for i in closing {
+            stashed[i] = std::mem::replace(&mut cyclic[component[i] as usize], true);
+        }
+        Parts { component, cyclic, stashed }
+    }
+
+    /// The keys that stay in the tables, ascending.
+    fn kept(&self) -> impl Iterator<Item = usize> + '_ {
+        (0..self.stashed.len()).filter(|&i| !self.stashed[i])
+    }
+
+    /// The keys that go to the stash, ascending.
+    fn in_stash(&self) -> impl Iterator<Item = usize> + '_ {
+        (0..self.stashed.len()).filter(|&i| self.stashed[i])
+    }
+}
+
+/// Disjoint sets of slots, with path halving and union by size.
+struct DisjointSets {
+    parent: Vec<u32>,
+    size: Vec<u32>,
+}
+
+impl DisjointSets {
+    fn new(slots: usize) -> DisjointSets {
+        DisjointSets { parent: (0..slots as u32).collect(), size: vec![1; slots] }
+    }
+
+    /// The slot that stands for the set of `slot`.
+    fn find(&mut self, mut slot: u32) -> u32 {
+        while self.parent[slot as usize] != slot {
+            let above = self.parent[self.parent[slot as usize] as usize];
+            self.parent[slot as usize] = above;
+            slot = above;
+        }
+        slot
+    }
+
+    /// Joins the sets of two slots; false when they were one set already.
+    fn union(&mut self, ends: [u32; 2]) -> bool {
+        let [mut small, mut large] = ends.map(|slot| self.find(slot));
+        if small == large {
+            return false;
+        }
+        if self.size[small as usize] > self.size[large as usize] {
+            std::mem::swap(&mut small, &mut large);
+        }
+        self.parent[small as usize] = large;
+        self.size[large as usize] += self.size[small as usize];
+        true
+    }
+}
+
+/// For each slot the number of the key that sits there, or [`NONE`].
+///
+/// Paper: "No loop in the group: its smallest card sits in both its pockets. That fixes every other
+/// card's pocket." and "One loop: the smallest card on the loop sits in rack 0. That fixes the
+/// rest."
+fn assignment(ends: &[[u32; 2]], parts: &Parts) -> Vec<u32> {
+    let slots = parts.cyclic.len();
+    let mut peeling = Peeling::new(slots, ends, parts);
+    let mut started = vec![false; slots];
+    for i in parts.kept() {
+        let component = parts.component[i] as usize;
+        let first = !std::mem::replace(&mut started[component], true);
+        if first && !parts.cyclic[component] {
+            peeling.assign_both(i);
+        }
+    }
+    peeling.peel_all();
+    // Only cycles are left. The smallest key of each comes up first and settles its whole cycle.
+    for i in parts.kept() {
+        if !peeling.is_assigned[i] {
+            peeling.assign(i, ends[i][0]);
+            peeling.peel_from(ends[i][1]);
+        }
+    }
+    peeling.held
+}
+
+/// Assigns keys to slots by peeling: a free slot that one key alone is left to take goes to that
+/// key.
+struct Peeling<'a> {
+    ends: &'a [[u32; 2]],
+    /// For each slot, how many keys that touch it are not assigned yet.
+    open: Vec<u32>,
+    /// For each slot, the exclusive or of the numbers of those keys; with one left, that is its
+    /// number.
+    mixed: Vec<u32>,
+    held: Vec<u32>,
+    is_assigned: Vec<bool>,
+}
+
+impl<'a> Peeling<'a> {
+    fn new(slots: usize, ends: &'a [[u32; 2]], parts: &Parts) -> Self {
+        let mut open = vec![0; slots];
+        let mut mixed = vec![0; slots];
+        for i in parts.kept() {
+            for slot in ends[i] {
+                open[slot as usize] += 1;
+                mixed[slot as usize] ^= i as u32;
+            }
+        }
+        Peeling { ends, open, mixed, held: vec![NONE; slots], is_assigned: vec![false; ends.len()] }
+    }
+
+    fn assign(&mut self, i: usize, slot: u32) {
+        self.held[slot as usize] = i as u32;
+        self.is_assigned[i] = true;
+        for end in self.ends[i] {
+            self.open[end as usize] -= 1;
+            self.mixed[end as usize] ^= i as u32;
+        }
+    }
+
+    fn assign_both(&mut self, i: usize) {
+        let [end0, end1] = self.ends[i];
+        self.assign(i, end0);
+        self.held[end1 as usize] = i as u32;
+    }
+
+    fn peel_all(&mut self) {
+        for slot in 0..self.held.len() as u32 {
+            self.peel_from(slot);
+        }
+    }
+
+    /// As long as the slot is free and one key alone is left that touches it, that key sits there,
+    /// and the same is tried at its other slot.
+    fn peel_from(&mut self, mut slot: u32) {
+        while self.held[slot as usize] == NONE && self.open[slot as usize] == 1 {
+            let i = self.mixed[slot as usize] as usize;
+            let [end0, end1] = self.ends[i];
+            self.assign(i, slot);
+            slot = if slot == end0 { end1 } else { end0 };
+        }
+    }
+}
+
+/// For each stored key its next number.
+///
+/// Paper: "The next number of a seated card is the next larger seated card of its group; the
+/// largest points to the smallest; a lone card points to itself."
+fn next_keys(keys: &[u32], parts: &Parts) -> Vec<u32> {
+    let mut next = vec![0; keys.len()];
+    let mut smallest = vec![NONE; parts.cyclic.len()];
+    let mut latest = vec![NONE; parts.cyclic.len()];
+    for i in parts.kept() {
+        let component = parts.component[i] as usize;
+        if smallest[component] == NONE {
+            smallest[component] = i as u32;
+        } else {
+            next[latest[component] as usize] = keys[i];
+        }
+        // Points back to the smallest until a larger one comes.
+        next[i] = keys[smallest[component] as usize];
+        latest[component] = i as u32;
+    }
+    next
+}

@@ -1,0 +1,30 @@
+//! The program by another hand: an independent implementation of document 01 ("the forecourt card
+//! list"), written from the papers alone and used as the yardstick for the product. It holds a
+//! plain and slow version ([`image`]) and a fast one ([`fast`]) behind the same calls ([`calls`]).
+//!
+//! The code uses the field's terms: a card is a key, a rack a table, a pocket a slot, the drawer
+//! the stash, the spread book the tabulation, a place a hash, a group a component, a loop a cycle,
+//! the lent list the words, the work sheet the scratch, the meter the counters, and the plain
+//! register the reference model. Formats, commands and printed output stay as the paper writes
+//! them.
+//!
+//! Where to start: [`image`] is the definition of the canonical image, [`calls`] the calls over it,
+//! [`model`] the reference model for whole sequences of calls, [`console`] the console program.
+
+#![forbid(unsafe_code)]
+#![warn(missing_docs)]
+
+pub mod answer;
+pub mod calls;
+pub mod console;
+pub mod counters;
+pub mod fast;
+pub mod graph;
+pub mod hash;
+pub mod house;
+pub mod image;
+pub mod layout;
+pub mod model;
+pub mod placement;
+pub mod rng;
+pub mod samples;

@@ -1,0 +1,46 @@
+//! Tabulations and key sets to try things on: the paper's test book, tabulations that give chosen
+//! hashes, and random ones with few values so that small boards have many cycles.
+
+use std::collections::BTreeSet;
+
+use crate::hash::TABULATION_LEN;
+use crate::rng::Rng;
+
+/// The paper's "test book".
+///
+/// Paper: "Test book: entry v is v and entry 1,024 + v is v/16 rounded down, for v from 0 to 255;
+/// all others 0."
+pub fn test_tabulation() -> Vec<u16> {
+    let hashes: Vec<[u16; 2]> = (0..=255).map(|v| [v, v / 16]).collect();
+    chosen_tabulation(&hashes)
+}
+
+/// A tabulation under which key v, below 256, has the hashes `hashes[v]` (before they are taken
+/// modulo r); entries that are not chosen are 0.
+pub fn chosen_tabulation(hashes: &[[u16; 2]]) -> Vec<u16> {
+    let mut tabulation = vec![0; TABULATION_LEN];
+    for (v, &[hash0, hash1]) in hashes.iter().enumerate() {
+        tabulation[v] = hash0;
+        tabulation[1_024 + v] = hash1;
+    }
+    tabulation
+}
+
+/// A random tabulation with all entries below `values`.
+pub fn random_tabulation(rng: &mut Rng, values: usize) -> Vec<u16> {
+    (0..TABULATION_LEN).map(|_| rng.below(values) as u16).collect()
+}
+
+/// A random set of `count` keys in ascending order: half of the time small keys (of which there are
+/// 255, so `count` must be well below that), half of the time keys of any size.
+pub fn random_keys(rng: &mut Rng, count: usize) -> Vec<u32> {
+    let small = rng.one_in(2);
+    let mut keys = BTreeSet::new();
+    while keys.len() < count {
+        let key = if small { 1 + rng.below(255) as u32 } else { rng.next_u32() };
+        if key != 0 {
+            keys.insert(key);
+        }
+    }
+    keys.into_iter().collect()
+}

@@ -1,0 +1,139 @@
+//! What the tests share: the two engines, lists written out by hand, a list with everything that
+//! its calls borrow, and tallies that must not stay at zero.
+
+use std::collections::BTreeMap;
+
+use reference::answer::Answer;
+use reference::calls;
+use reference::counters::Counters;
+use reference::fast::Fast;
+use reference::image::{Engine, Slow};
+
+/// Both engines with their names.
+pub fn engines() -> [(&'static str, &'static dyn Engine); 2] {
+    [("slow", &Slow), ("fast", &Fast)]
+}
+
+/// A filled slot as the paper's boards give it: table, index, key, next.
+pub type HandEntry = (usize, usize, u32, u32);
+
+/// The words of a list written out by hand; `count` is word 2. Deliberately not by `layout`.
+pub fn hand_words(r: u32, s: u32, count: u32, entries: &[HandEntry], stash: &[u32]) -> Vec<u32> {
+    let per_table = 2 * r as usize;
+    let mut words = vec![0; 4 + 2 * per_table + s as usize];
+    words[..4].copy_from_slice(&[r, s, count, stash.len() as u32]);
+    for &(table, index, key, next) in entries {
+        let at = 4 + table * per_table + 2 * index;
+        words[at] = key;
+        words[at + 1] = next;
+    }
+    words[4 + 2 * per_table..][..stash.len()].copy_from_slice(stash);
+    words
+}
+
+/// A list with all that its calls borrow. Each call checks what every call promises beside
+/// its answer: a refusal leaves the words, the scratch ends as zeros, and the counters move by one.
+pub struct Harness<'a> {
+    pub engine: &'a dyn Engine,
+    pub tabulation: Vec<u16>,
+    pub words: Vec<u32>,
+    pub scratch_len: usize,
+    pub counters: Counters,
+}
+
+impl<'a> Harness<'a> {
+    /// A fresh list; the words held something else before.
+    pub fn new(engine: &'a dyn Engine, tabulation: &[u16], r: u32, s: u32) -> Self {
+        let mut words = vec![7; (4 + 4 * r + s) as usize];
+        let mut counters = Counters::default();
+        assert_eq!(calls::init(r, s, &mut words, &mut counters), Ok(()));
+        assert_eq!(counters, Counters { done: 1, refused: 0 });
+        let scratch_len = (8 * r + 4 * s) as usize;
+        Harness { engine, tabulation: tabulation.to_vec(), words, scratch_len, counters }
+    }
+
+    pub fn insert(&mut self, key: u32) -> Answer {
+        self.change(|engine, tabulation, words, scratch, counters| {
+            calls::insert(&engine, tabulation, words, scratch, counters, key)
+        })
+    }
+
+    pub fn remove(&mut self, key: u32) -> Answer {
+        self.change(|engine, tabulation, words, scratch, counters| {
+            calls::remove(&engine, tabulation, words, scratch, counters, key)
+        })
+    }
+
+    pub fn check(&mut self) -> Answer {
+        let mut scratch = vec![5; self.scratch_len];
+        let answer = calls::check(&self.engine, &self.tabulation, &self.words, &mut scratch);
+        assert!(scratch.iter().all(|&word| word == 0));
+        answer
+    }
+
+    fn change(
+        &mut self,
+        call: impl Fn(&dyn Engine, &[u16], &mut [u32], &mut [u32], &mut Counters) -> Answer,
+    ) -> Answer {
+        let (words_before, counters_before) = (self.words.clone(), self.counters);
+        let mut scratch = vec![5; self.scratch_len];
+        let answer =
+            call(self.engine, &self.tabulation, &mut self.words, &mut scratch, &mut self.counters);
+        assert!(scratch.iter().all(|&word| word == 0), "the scratch ends as zeros");
+        if answer.is_err() {
+            assert_eq!(self.words, words_before, "a refusal leaves the words");
+        } else {
+            assert_ne!(self.words, words_before, "an accepted change shows in the words");
+        }
+        let moved = [
+            self.counters.done - counters_before.done,
+            self.counters.refused - counters_before.refused,
+        ];
+        assert_eq!(moved, if answer.is_ok() { [1, 0] } else { [0, 1] });
+        answer
+    }
+}
+
+/// How often things of interest came up.
+#[derive(Default)]
+pub struct Tally(BTreeMap<String, usize>);
+
+impl Tally {
+    pub fn add(&mut self, what: impl Into<String>) {
+        self.add_many(what, 1);
+    }
+
+    pub fn add_many(&mut self, what: impl Into<String>, times: usize) {
+        *self.0.entry(what.into()).or_default() += times;
+    }
+
+    /// Prints the tally and fails unless each of the given things came up.
+    pub fn report(&self, title: &str, wanted: &[&str]) {
+        eprintln!("{title}: {:?}", self.0);
+        for &what in wanted {
+            assert!(self.0.get(what).is_some_and(|&times| times > 0), "{title}: no {what}");
+        }
+    }
+}
+
+/// All orders of the keys.
+pub fn permutations(keys: &[u32]) -> Vec<Vec<u32>> {
+    if keys.is_empty() {
+        return vec![Vec::new()];
+    }
+    let mut orders = Vec::new();
+    for (at, &first) in keys.iter().enumerate() {
+        let mut rest = keys.to_vec();
+        rest.remove(at);
+        for mut order in permutations(&rest) {
+            order.insert(0, first);
+            orders.push(order);
+        }
+    }
+    orders
+}
+
+/// The keys that a bit mask picks.
+pub fn subset(keys: &[u32], mask: usize) -> Vec<u32> {
+    keys.iter().enumerate().filter(|(i, _)| mask >> i & 1 == 1).map(|(_, &key)| key).collect()
+}

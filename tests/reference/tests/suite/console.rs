@@ -1,0 +1,272 @@
+//! The console program: the paper's worked listing, its grammar, random inputs against the
+//! reference model, and the binary itself.
+
+use std::io::Write;
+use std::path::PathBuf;
+use std::process::{Command, Stdio};
+
+use reference::answer::number;
+use reference::console::{run, session};
+use reference::counters::Counters;
+use reference::fast::Fast;
+use reference::image::Slow;
+use reference::model::{Call, Model, Reply};
+use reference::rng::Rng;
+use reference::samples::{random_tabulation, test_tabulation};
+
+use crate::common::{engines, Tally};
+
+const LISTING_INPUT: &str = "2,1\nA,65\nA,1\nA,33\nA,97\nL,65\n";
+const LISTING_OUTPUT: &str =
+    "A,65,0\nA,1,0\nA,33,0\nA,97,8\nL,65,1\nP,0,1,1,33\nP,1,0,33,1\nD,65\n";
+
+fn bytes_of(tabulation: &[u16]) -> Vec<u8> {
+    tabulation.iter().flat_map(|entry| [(entry % 256) as u8, (entry / 256) as u8]).collect()
+}
+
+/// What the console prints with the test book.
+fn printed(input: impl AsRef<[u8]>) -> String {
+    let book = bytes_of(&test_tabulation());
+    String::from_utf8(run(&Fast, Some(&book), input.as_ref())).unwrap()
+}
+
+#[test]
+fn worked_listing_and_its_words() {
+    let book = bytes_of(&test_tabulation());
+    for (_, engine) in engines() {
+        let session = session(&engine, Some(&book), LISTING_INPUT.as_bytes());
+        assert_eq!(String::from_utf8(session.output).unwrap(), LISTING_OUTPUT);
+        assert_eq!(session.words, [2, 1, 3, 1, 0, 0, 1, 33, 33, 1, 0, 0, 65]);
+        assert_eq!(session.counters, Counters { done: 4, refused: 1 });
+    }
+}
+
+#[test]
+fn a_book_of_another_length_prints_b_whatever_the_input() {
+    for input in [LISTING_INPUT, "", "x"] {
+        assert_eq!(run(&Fast, None, input.as_bytes()), b"B\n");
+        for len in [0, 1, 4_095, 4_097, 2_048, 8_192] {
+            assert_eq!(run(&Fast, Some(&vec![0; len]), input.as_bytes()), b"B\n");
+        }
+    }
+    assert_eq!(run(&Fast, Some(&[0; 4_096]), b"1,0"), b"");
+}
+
+#[test]
+fn the_book_is_read_low_byte_first() {
+    let mut bytes = vec![0; 4_096];
+    bytes[2 * 9 + 1] = 2; // entry 9 is 512
+    assert_eq!(run(&Fast, Some(&bytes), b"1000,0\nA,9"), b"A,9,0\nP,0,512,9,9\nP,1,0,9,9\n");
+}
+
+/// Line 1 of every form that is not accepted: E,1 and nothing more, whatever follows.
+#[test]
+fn a_bad_line_1_stops_the_program() {
+    let refused = "0,1|1025,1|1,65|4294967295,1|1,4294967295|1073741825,1";
+    let other_forms =
+        "|2|2,|,1|,|2,1,|2,1,1|2;1|02,1|2,01|00,1|+2,1|-2,1|2,-0|2, 1| 2,1|2,1 |2,1\r|2.0,1\
+        |0x2,1|4294967296,1|2,4294967296|2,99999999999999999999|A,65|\"2\",1|2,1\0|٢,1";
+    for line in refused.split('|').chain(other_forms.split('|')) {
+        for rest in ["", "\n", "\nA,65\n", "\n2,1\nA,65\n"] {
+            assert_eq!(printed(format!("{line}{rest}")), "E,1\n", "{line:?} {rest:?}");
+        }
+    }
+    assert_eq!(printed(""), "E,1\n", "line 1 is absent");
+    assert_eq!(printed(b"\xff,1"), "E,1\n");
+}
+
+#[test]
+fn an_accepted_line_1_prints_nothing() {
+    for line in ["2,1", "1,0", "1024,64", "1024,64\n", "1,64"] {
+        assert_eq!(printed(line), "", "{line:?}");
+    }
+}
+
+/// Later lines of another form print their number in their place, and the program goes on.
+#[test]
+fn lines_of_another_form_print_their_number() {
+    let other_forms =
+        "|,|A|A,|,5|A,5,|A,,5|A,5,5|A;5|a,5|w,5|l,5|AA,5|B,5|C,5|P,0,1,1,1|D,65|E,2|2,1\
+        |A,05|A,00|A,+5|A,-5|A,-0|A, 5|A,5 | A,5|A ,5|A,5\r|\r| |A,5.0|A,5e0|A,0x5|A,4294967296\
+        |A,4294967300|A,42949672950|A,10000000000|W,4294967296|L,4294967296|A,18446744073709551621\
+        |A,\"5\"|A,5\0|L,|L,01|W,01|A\t5|A,5\t|A,٥|A,4 294|A,5,B";
+    for line in other_forms.split('|') {
+        let expected = "A,5,0\nE,3\nL,5,1\nP,0,1,5,5\nP,1,0,5,5\n";
+        assert_eq!(printed(format!("2,1\nA,5\n{line}\nL,5\n")), expected, "{line:?}");
+    }
+    assert_eq!(printed(b"2,1\nA,\xff\n\xc3\x28\n"), "E,2\nE,3\n");
+    // A line may be of any length.
+    let long = format!("2,1\nA,{}\nA,1{}\n", "0".repeat(100_000), "0".repeat(100_000));
+    assert_eq!(printed(long), "E,2\nE,3\n");
+}
+
+#[test]
+fn every_line_counts_for_its_number() {
+    let input = format!("2,1\n{}\nA,x\n", "L,1\n\n".repeat(60));
+    let expected: String =
+        (0..60).map(|i| format!("L,1,0\nE,{}\n", 3 + 2 * i)).collect::<String>() + "E,122\nE,123\n";
+    assert_eq!(printed(input), expected);
+}
+
+#[test]
+fn a_newline_or_the_end_of_input_ends_a_line() {
+    let listed = "A,5,0\nP,0,1,5,5\nP,1,0,5,5\n";
+    assert_eq!(printed("2,1\nA,5"), listed, "the last newline is missing");
+    assert_eq!(printed("2,1\nA,5\n"), listed, "nothing after the last newline is no line");
+    assert_eq!(
+        printed("2,1\nA,5\n\n"),
+        listed.replacen("P", "E,3\nP", 1),
+        "an empty line is a line"
+    );
+    assert_eq!(printed("2,1\n "), "E,2\n");
+    assert_eq!(printed("\n"), "E,1\n");
+}
+
+#[test]
+fn answers_and_refusals_are_printed_by_number() {
+    assert_eq!(printed("2,1\nL,0\nA,0\nW,0\n"), "L,0,R5\nA,0,5\nW,0,5\n");
+    assert_eq!(printed("2,1\nW,7\nA,7\nA,7\nW,7\nL,7\n"), "W,7,7\nA,7,0\nA,7,6\nW,7,0\nL,7,0\n");
+    let last = "A,4294967295,0\nL,4294967295,1\n\
+        P,0,1,4294967295,4294967295\nP,1,1,4294967295,4294967295\n";
+    assert_eq!(printed("2,1\nA,4294967295\nL,4294967295"), last);
+    // Three keys in the stash are printed in ascending order, one a line.
+    let full =
+        "A,9,0\nA,7,0\nA,5,0\nA,3,0\nA,1,0\nA,2,8\nA,9,6\nP,0,0,1,3\nP,1,0,3,1\nD,5\nD,7\nD,9\n";
+    assert_eq!(printed("1,3\nA,9\nA,7\nA,5\nA,3\nA,1\nA,2\nA,9\n"), full);
+}
+
+/// A random line: mostly of a right form, else with something inserted, dropped or swapped.
+fn random_line(rng: &mut Rng) -> String {
+    let key = match rng.below(10) {
+        0 => 0,
+        1 => u64::from(u32::MAX) + rng.below(3) as u64 - 1,
+        _ => rng.below(9) as u64,
+    };
+    let mut line = format!("{},{key}", rng.pick(&["A", "A", "A", "W", "L"]));
+    if rng.one_in(4) {
+        let at = rng.below(line.len() + 1);
+        match rng.below(3) {
+            0 => {
+                line.insert(at, rng.pick(&['0', '1', ',', ' ', '\r', '-', '+', 'A', 'L', '\u{e9}']))
+            }
+            1 if at < line.len() => drop(line.remove(at)),
+            _ => line = line[at..].to_string() + &line[..at],
+        }
+    }
+    line
+}
+
+/// What a line says, found by writing numbers out again instead of reading digits.
+fn reread(line: &str) -> Option<(&str, u32)> {
+    let (letter, field) = line.split_once(',')?;
+    let key: u32 = field.parse().ok()?;
+    (["A", "W", "L"].contains(&letter) && key.to_string() == field).then_some((letter, key))
+}
+
+/// What the console should print for a line, by the reference model.
+fn answered(model: &mut Model<Slow>, line: &str, line_number: usize, tally: &mut Tally) -> String {
+    let (tabulation_len, scratch_len) = (2_048, 10_000);
+    let Some((letter, key)) = reread(line) else {
+        tally.add("lines of another form");
+        return format!("E,{line_number}\n");
+    };
+    let call = match letter {
+        "A" => Call::Insert { tabulation_len, scratch_len, key },
+        "W" => Call::Remove { tabulation_len, scratch_len, key },
+        _ => Call::Lookup { tabulation_len, key },
+    };
+    let answer = match model.feed(&call) {
+        Reply::Answer(answer) => number(answer).to_string(),
+        Reply::Lookup(Ok(found)) => u32::from(found).to_string(),
+        Reply::Lookup(Err(refusal)) => format!("R{}", refusal.number()),
+        Reply::Stash(_) => unreachable!("no view was asked for"),
+    };
+    tally.add(format!("{letter} {answer}"));
+    format!("{line},{answer}\n")
+}
+
+/// The P and D lines of words, read off without the layout module.
+fn listing(words: &[u32]) -> String {
+    let r = words[0] as usize;
+    let slots = (0..2 * r).filter(|slot| words[4 + 2 * slot] != 0);
+    let filled = slots.map(|slot| {
+        format!("P,{},{},{},{}\n", slot / r, slot % r, words[4 + 2 * slot], words[5 + 2 * slot])
+    });
+    let stash = words[4 + 4 * r..].iter().filter(|&&key| key != 0).map(|key| format!("D,{key}\n"));
+    filled.chain(stash).collect()
+}
+
+#[test]
+fn random_inputs_print_what_the_reference_model_answers() {
+    let mut rng = Rng::new(81);
+    let mut tally = Tally::default();
+    for _ in 0..500 {
+        let (r, s) = (1 + rng.below(3) as u32, rng.below(3) as u32);
+        let tabulation = random_tabulation(&mut rng, 5);
+        let mut model = Model::new(Slow, &tabulation, r, s).unwrap();
+        let mut input = format!("{r},{s}\n");
+        let mut expected = String::new();
+        for line_number in 2..2 + rng.below(30) {
+            let line = random_line(&mut rng);
+            expected += &answered(&mut model, &line, line_number, &mut tally);
+            input += &line;
+            input.push('\n');
+            tally.add("lines");
+        }
+        if rng.one_in(2) && !input.ends_with("\n\n") {
+            input.pop();
+        }
+        expected += &listing(&model.words());
+        let output = run(&Fast, Some(&bytes_of(&tabulation)), input.as_bytes());
+        assert_eq!(String::from_utf8(output).unwrap(), expected, "{input:?}");
+        tally.add("inputs");
+    }
+    let wanted = [
+        "inputs",
+        "lines",
+        "lines of another form",
+        "A 0",
+        "A 5",
+        "A 6",
+        "A 8",
+        "W 0",
+        "W 5",
+        "W 7",
+        "L 0",
+        "L 1",
+        "L R5",
+    ];
+    tally.report("console", &wanted);
+}
+
+/// Runs the binary in a folder of its own under the build folder.
+fn run_binary(name: &str, book: Option<&[u8]>, input: &[u8]) -> Vec<u8> {
+    let folder = PathBuf::from(env!("CARGO_TARGET_TMPDIR")).join(name);
+    std::fs::create_dir_all(&folder).unwrap();
+    let file = folder.join("book.bin");
+    match book {
+        Some(book) => std::fs::write(&file, book).unwrap(),
+        None => drop(std::fs::remove_file(&file)),
+    }
+    let mut child = Command::new(env!("CARGO_BIN_EXE_console"))
+        .current_dir(&folder)
+        .stdin(Stdio::piped())
+        .stdout(Stdio::piped())
+        .spawn()
+        .unwrap();
+    // Without a book the program does not read, and writing to it may fail; the output says enough.
+    let _ = child.stdin.take().unwrap().write_all(input);
+    let output = child.wait_with_output().unwrap();
+    assert!(output.status.success());
+    output.stdout
+}
+
+#[test]
+fn the_binary_reads_book_bin_and_standard_input() {
+    let book = bytes_of(&test_tabulation());
+    let listing = LISTING_INPUT.as_bytes();
+    assert_eq!(run_binary("listing", Some(&book), listing), LISTING_OUTPUT.as_bytes());
+    assert_eq!(run_binary("no-input", Some(&book), b""), b"E,1\n");
+    assert_eq!(run_binary("no-book", None, listing), b"B\n");
+    assert_eq!(run_binary("short-book", Some(&book[1..]), listing), b"B\n");
+}

@@ -1,0 +1,138 @@
+//! Document 01's "Other edges", the exact lengths, look-ups in damaged words, the stash view as
+//! part of the borrowed words, and the counters at their end.
+
+use reference::answer::Refusal;
+use reference::calls::{check, init, insert, lookup, remove, stash, stash_answer};
+use reference::counters::Counters;
+use reference::fast::{self, Fast};
+use reference::house::HOUSE;
+use reference::samples::test_tabulation;
+
+use crate::common::{engines, hand_words, Harness};
+
+/// The answer of init and the words it leaves, which all held 9 before.
+fn init_on(r: u32, s: u32, len: usize) -> (Result<(), Refusal>, Vec<u32>) {
+    let mut words = vec![9; len];
+    let mut counters = Counters::default();
+    let answer = init(r, s, &mut words, &mut counters);
+    let counted = Counters { done: answer.is_ok().into(), refused: answer.is_err().into() };
+    assert_eq!(counters, counted, "a refused init counts too");
+    (answer, words)
+}
+
+#[test]
+fn init_leaves_r_s_and_zeros() {
+    for (r, s) in [(1, 0), (1, 1), (3, 7), (1_024, 64), (1_024, 0), (1, 64)] {
+        let (answer, words) = init_on(r, s, (4 + 4 * r + s) as usize);
+        assert_eq!(answer, Ok(()));
+        assert_eq!(words, hand_words(r, s, 0, &[], &[]));
+    }
+    assert_eq!(init_on(1, 1, 9).0, Ok(()), "9 words with r = 1, s = 1");
+}
+
+#[test]
+fn init_refuses_other_shapes_and_leaves_the_words() {
+    let shapes = [
+        (1_025, 64, 4 + 4 * 1_025 + 64),
+        (1_024, 65, 4 + 4 * 1_024 + 65),
+        (0, 1, 5),
+        (0, 0, 4),
+        (0, 0, 0),
+        (1, 1, 8),
+        (1, 1, 10),
+        (1, 1, 0),
+        (1, 1, 3),
+        (u32::MAX, 0, 0),
+        (1, u32::MAX, 7),
+        // In 32-bit arithmetic 4 + 4r + s would wrap to the length of r = 1, s = 1.
+        (1 + (1 << 30), 1, 9),
+        (2, u32::MAX - 2, 9),
+    ];
+    for (r, s, len) in shapes {
+        assert_eq!(init_on(r, s, len), (Err(Refusal::WrongShape), vec![9; len]), "{r} {s} {len}");
+    }
+}
+
+#[test]
+fn the_largest_list_and_the_largest_key_are_accepted() {
+    for (_, engine) in engines() {
+        let mut list = Harness::new(engine, &HOUSE, 1_024, 64);
+        assert_eq!(list.insert(u32::MAX), Ok(()));
+        assert_eq!(list.check(), Ok(()));
+        assert_eq!(lookup(&HOUSE, &list.words, u32::MAX), Ok(true));
+        assert_eq!(lookup(&HOUSE, &list.words, u32::MAX - 1), Ok(false));
+        assert_eq!(list.words[2..4], [1, 0]);
+        assert_eq!(list.remove(u32::MAX), Ok(()));
+        assert_eq!(list.words, hand_words(1_024, 64, 0, &[], &[]));
+    }
+}
+
+/// Both ways to look a key up; they must agree.
+fn found(words: &[u32], key: u32) -> Result<bool, Refusal> {
+    let found = lookup(&test_tabulation(), words, key);
+    assert_eq!(found, fast::lookup(&test_tabulation(), words, key));
+    found
+}
+
+#[test]
+fn lookup_reads_its_slots_and_all_stash_words_of_a_damaged_list() {
+    // Key 17 stands in a slot of another key, in a next word, and in the header: all not seen.
+    let words = hand_words(4, 3, 17, &[(0, 2, 17, 17), (1, 3, 5, 17)], &[]);
+    assert_eq!(found(&words, 17), Ok(false));
+    // In either of its own slots alone, whatever the counts say: seen.
+    assert_eq!(found(&hand_words(4, 3, 0, &[(0, 1, 17, 0)], &[]), 17), Ok(true));
+    assert_eq!(found(&hand_words(4, 3, 0, &[(1, 1, 17, 0)], &[]), 17), Ok(true));
+    // In the last stash word beyond what word 3 says: seen.
+    let mut words = hand_words(4, 3, 0, &[], &[]);
+    words[22] = 17;
+    assert_eq!(words[3], 0);
+    assert_eq!(found(&words, 17), Ok(true));
+    assert_eq!(found(&words, 0), Err(Refusal::BlankKey));
+}
+
+#[test]
+fn the_stash_view_is_the_filled_part_of_the_borrowed_words() {
+    let mut words = hand_words(2, 3, 0, &[], &[]);
+    words[12..].copy_from_slice(&[9, 8, 7]);
+    // The view trusts word 3, also in words that are no image.
+    for filled in 0..=3 {
+        words[3] = filled;
+        let view = stash(&words);
+        assert_eq!(stash_answer(&words), Ok(()));
+        assert_eq!(view, &[9, 8, 7][..filled as usize]);
+        assert!(std::ptr::eq(view.as_ptr(), &words[12]), "no copy");
+    }
+    for beyond in [4, 64, u32::MAX] {
+        words[3] = beyond;
+        assert_eq!(stash_answer(&words), Err(Refusal::NotCanonical));
+        assert!(stash(&words).is_empty());
+    }
+    words.pop();
+    assert_eq!(stash_answer(&words), Err(Refusal::WrongShape));
+    assert!(stash(&words).is_empty());
+    // With s = 0 the view is the empty part at the end of the words.
+    let words = hand_words(2, 0, 0, &[], &[]);
+    assert_eq!((stash_answer(&words), stash(&words)), (Ok(()), &[][..]));
+}
+
+#[test]
+fn counters_stay_at_their_end_and_nothing_depends_on_them() {
+    let full = Counters { done: u32::MAX, refused: u32::MAX };
+    let almost = Counters { done: u32::MAX - 1, refused: u32::MAX - 1 };
+    for (start, done) in [(full, u32::MAX), (almost, u32::MAX)] {
+        let mut counters = start;
+        let mut words = vec![0; 9];
+        let mut scratch = vec![1; 12];
+        assert_eq!(init(1, 1, &mut words, &mut counters), Ok(()));
+        assert_eq!(counters, Counters { done, refused: start.refused });
+        let tabulation = test_tabulation();
+        assert_eq!(insert(&Fast, &tabulation, &mut words, &mut scratch, &mut counters, 5), Ok(()));
+        assert_eq!(remove(&Fast, &tabulation, &mut words, &mut scratch, &mut counters, 5), Ok(()));
+        assert_eq!(counters, Counters { done, refused: start.refused });
+        let refused = remove(&Fast, &tabulation, &mut words, &mut scratch, &mut counters, 5);
+        assert_eq!(refused, Err(Refusal::NotListed));
+        assert_eq!(counters, full);
+        assert_eq!(check(&Fast, &tabulation, &words, &mut scratch), Ok(()));
+        assert_eq!(counters, full);
+    }
+}

@@ -1,0 +1,17 @@
+//! The tests of the reference implementation, as one binary: document 01's boards and listings, its
+//! rules on random boards, and the fast engine against the slow one. Fixed seeds; nothing is timed.
+//! Run with `-- --nocapture` to see how many boards, sequences and lines were tried.
+
+mod common;
+mod console;
+mod damage;
+mod edges;
+mod engines;
+mod graph;
+mod hashes;
+mod histories;
+mod k_examples;
+mod placements;
+mod refusals;
+mod sequences;
+mod wrong_images;

@@ -1,0 +1,207 @@
+//! The order of refusals. An input is built with each combination of defects, and the first in the
+//! paper's order must be the answer. Some pairs cannot both apply by their nature: a blank key is
+//! in no set (5 with 6, 7 or 8), and a listed key leaves the set as it is (6 with 8).
+
+use reference::answer::{number, Answer};
+use reference::calls::{check, insert, lookup, remove, stash, stash_answer};
+use reference::counters::Counters;
+use reference::fast;
+use reference::image::Engine;
+use reference::samples::test_tabulation;
+
+use crate::common::{engines, hand_words, Tally};
+
+/// Which defects an input has, by the paper's numbers.
+#[derive(Clone, Copy)]
+struct Defects(u32);
+
+impl Defects {
+    fn has(self, number: u32) -> bool {
+        self.0 >> number & 1 == 1
+    }
+
+    /// The first defect in the paper's order; 0 when there is none.
+    fn first(self, possible: &[u32]) -> u32 {
+        possible.iter().copied().find(|&number| self.has(number)).unwrap_or(0)
+    }
+
+    /// All combinations of these defects.
+    fn all(possible: &'static [u32]) -> impl Iterator<Item = Defects> {
+        (0..1usize << possible.len()).map(|mask| {
+            let chosen = possible.iter().enumerate().filter(|(i, _)| mask >> i & 1 == 1);
+            Defects(chosen.map(|(_, number)| 1 << number).sum())
+        })
+    }
+}
+
+/// K5, whose stash is full: {1, 65, 129} with 129 in the stash.
+fn k5() -> Vec<u32> {
+    hand_words(4, 1, 3, &[(0, 1, 1, 65), (1, 0, 65, 1)], &[129])
+}
+
+/// The ways in which words can have a wrong shape; all keep their defect 4 if they have it.
+const WRONG_SHAPES: usize = 6;
+
+fn input_words(defects: Defects, way: usize) -> Vec<u32> {
+    let mut words = k5();
+    if defects.has(4) {
+        words[3] = 2;
+    }
+    if defects.has(2) {
+        match way {
+            0 => drop(words.pop()),
+            1 => words.push(0),
+            2 => words.truncate(3),
+            3 => words[0] = 0,
+            4 => words[1] = 65,
+            _ => words[0] = 1_025,
+        }
+    }
+    words
+}
+
+fn input_tabulation(defects: Defects, way: usize) -> Vec<u16> {
+    let mut tabulation = test_tabulation();
+    if defects.has(1) {
+        tabulation.resize([2_047, 2_049, 0][way % 3], 0);
+    }
+    tabulation
+}
+
+/// 8r + 4s is 36 for K5; with a wrong shape the scratch is too short by any reading of words 0 and
+/// 1.
+fn input_scratch(defects: Defects) -> Vec<u32> {
+    let len = match (defects.has(3), defects.has(2)) {
+        (true, true) => 0,
+        (true, false) => 35,
+        (false, _) => 8 * 1_025 + 4 * 65,
+    };
+    vec![4; len]
+}
+
+/// The key for an insert or remove; of several defects of the key, the first decides it.
+fn input_key(defects: Defects) -> u32 {
+    match () {
+        _ if defects.has(5) => 0,
+        _ if defects.has(6) => 1,
+        _ if defects.has(7) => 193,
+        _ if defects.has(8) => 193,
+        _ => 2,
+    }
+}
+
+/// Makes an insert or remove and checks that a refusal leaves everything as it should.
+fn change(engine: &dyn Engine, is_insert: bool, defects: Defects, way: usize) -> Answer {
+    let (tabulation, mut words, mut scratch) =
+        (input_tabulation(defects, way), input_words(defects, way), input_scratch(defects));
+    let (words_before, mut counters) = (words.clone(), Counters { done: 10, refused: 20 });
+    let answer = if is_insert {
+        insert(&engine, &tabulation, &mut words, &mut scratch, &mut counters, input_key(defects))
+    } else {
+        // Without a defect of the key, a listed one is taken out.
+        let key = if input_key(defects) == 2 { 65 } else { input_key(defects) };
+        remove(&engine, &tabulation, &mut words, &mut scratch, &mut counters, key)
+    };
+    assert!(scratch.iter().all(|&word| word == 0));
+    assert_eq!(words == words_before, answer.is_err());
+    let refused = u32::from(answer.is_err());
+    assert_eq!(counters, Counters { done: 11 - refused, refused: 20 + refused });
+    answer
+}
+
+#[test]
+fn insert_refuses_in_order() {
+    // A listed key cannot fill the stash any further; with the stash full already, 6 goes before 8.
+    const POSSIBLE: &[u32] = &[1, 2, 3, 4, 5, 6, 8];
+    let mut tally = Tally::default();
+    for (_, engine) in engines() {
+        for defects in Defects::all(POSSIBLE) {
+            for way in 0..WRONG_SHAPES {
+                let answer = number(change(engine, true, defects, way));
+                assert_eq!(answer, defects.first(POSSIBLE), "{:b}", defects.0);
+                tally.add(format!("insert {answer}"));
+            }
+        }
+    }
+    let wanted = [
+        "insert 0", "insert 1", "insert 2", "insert 3", "insert 4", "insert 5", "insert 6",
+        "insert 8",
+    ];
+    tally.report("order of refusals", &wanted);
+}
+
+#[test]
+fn remove_refuses_in_order() {
+    const POSSIBLE: &[u32] = &[1, 2, 3, 4, 5, 7];
+    let mut tally = Tally::default();
+    for (_, engine) in engines() {
+        for defects in Defects::all(POSSIBLE) {
+            for way in 0..WRONG_SHAPES {
+                let answer = number(change(engine, false, defects, way));
+                assert_eq!(answer, defects.first(POSSIBLE), "{:b}", defects.0);
+                tally.add(format!("remove {answer}"));
+            }
+        }
+    }
+    let wanted =
+        ["remove 0", "remove 1", "remove 2", "remove 3", "remove 4", "remove 5", "remove 7"];
+    tally.report("order of refusals", &wanted);
+}
+
+#[test]
+fn check_refuses_in_order() {
+    const POSSIBLE: &[u32] = &[1, 2, 3, 4];
+    let mut tally = Tally::default();
+    for (_, engine) in engines() {
+        for defects in Defects::all(POSSIBLE) {
+            for way in 0..WRONG_SHAPES {
+                let mut scratch = input_scratch(defects);
+                let answer = check(
+                    &engine,
+                    &input_tabulation(defects, way),
+                    &input_words(defects, way),
+                    &mut scratch,
+                );
+                assert!(scratch.iter().all(|&word| word == 0));
+                assert_eq!(number(answer), defects.first(POSSIBLE), "{:b}", defects.0);
+                tally.add(format!("check {}", number(answer)));
+            }
+        }
+    }
+    tally.report("order of refusals", &["check 0", "check 1", "check 2", "check 3", "check 4"]);
+}
+
+#[test]
+fn lookup_refuses_in_order() {
+    // Words that are no image (4) are no reason to refuse.
+    const GIVEN: &[u32] = &[1, 2, 5];
+    let mut tally = Tally::default();
+    for defects in Defects::all(&[1, 2, 4, 5]) {
+        for way in 0..WRONG_SHAPES {
+            let (tabulation, words) = (input_tabulation(defects, way), input_words(defects, way));
+            let key = if defects.has(5) { 0 } else { 129 };
+            let found = lookup(&tabulation, &words, key);
+            assert_eq!(found, fast::lookup(&tabulation, &words, key));
+            let answer = found.map(|is_listed| assert!(is_listed));
+            assert_eq!(number(answer), defects.first(GIVEN), "{:b}", defects.0);
+            tally.add(format!("lookup {}", number(answer)));
+        }
+    }
+    tally.report("order of refusals", &["lookup 0", "lookup 1", "lookup 2", "lookup 5"]);
+}
+
+#[test]
+fn the_stash_view_refuses_in_order() {
+    const POSSIBLE: &[u32] = &[2, 4];
+    let mut tally = Tally::default();
+    for defects in Defects::all(POSSIBLE) {
+        for way in 0..WRONG_SHAPES {
+            let words = input_words(defects, way);
+            let answer = number(stash_answer(&words));
+            assert_eq!(answer, defects.first(POSSIBLE), "{:b}", defects.0);
+            assert_eq!(stash(&words), if answer == 0 { &[129][..] } else { &[] });
+            tally.add(format!("stash {answer}"));
+        }
+    }
+    tally.report("order of refusals", &["stash 0", "stash 2", "stash 4"]);
+}

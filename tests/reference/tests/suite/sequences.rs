@@ -1,0 +1,254 @@
+//! Random sequences of calls on borrowed words against the reference model: every answer, the words
+//! after every call, the scratch and the counters. Then calls on arbitrary borrowed memory.
+
+use reference::answer::{number, Answer, Refusal};
+use reference::calls::{check, init, insert, lookup, remove, stash, stash_answer};
+use reference::counters::Counters;
+use reference::fast::{self, Fast};
+use reference::image::{Engine, Slow};
+use reference::model::{Call, Model, Reply};
+use reference::rng::Rng;
+use reference::samples::random_tabulation;
+
+use crate::common::{engines, Tally};
+
+/// One sequence in the making.
+struct Sequence<'a> {
+    engine: &'a dyn Engine,
+    tabulation: Vec<u16>,
+    r: u32,
+    s: u32,
+    words: Vec<u32>,
+    counters: Counters,
+    /// Always by the definition, whichever engine stands behind the calls.
+    model: Model<Slow>,
+}
+
+impl<'a> Sequence<'a> {
+    fn start(engine: &'a dyn Engine, rng: &mut Rng) -> Self {
+        let (r, s) = (1 + rng.below(3) as u32, rng.below(3) as u32);
+        let tabulation = random_tabulation(rng, 4);
+        let mut words: Vec<u32> = (0..4 + 4 * r + s).map(|_| rng.next_u32()).collect();
+        let mut counters = Counters { done: rng.next_u32(), refused: rng.next_u32() };
+        assert_eq!(init(r, s, &mut words, &mut counters), Ok(()));
+        let model = Model::new(Slow, &tabulation, r, s).unwrap();
+        assert_eq!(
+            words,
+            model.words(),
+            "with no call at all the words are the image of the empty set"
+        );
+        Sequence { engine, tabulation, r, s, words, counters, model }
+    }
+
+    /// The sequence's tabulation, or now and then one of a wrong length.
+    fn input_tabulation(&self, rng: &mut Rng) -> Vec<u16> {
+        let mut tabulation = self.tabulation.clone();
+        if rng.one_in(12) {
+            let len = rng.pick(&[0, 1, 2_047, 2_049, 4_096]);
+            tabulation.resize(len, 1);
+        }
+        tabulation
+    }
+
+    /// A scratch of some length and content, now and then too short.
+    fn input_scratch(&self, rng: &mut Rng) -> Vec<u32> {
+        let enough = (8 * self.r + 4 * self.s) as usize;
+        let len = if rng.one_in(10) { rng.below(enough) } else { enough + rng.below(3) };
+        (0..len).map(|_| rng.next_u32()).collect()
+    }
+
+    /// Makes one random call on the words and returns what the model is to be fed, and the reply.
+    fn call(&mut self, rng: &mut Rng) -> (Call, Reply) {
+        let (tabulation, mut scratch) = (self.input_tabulation(rng), self.input_scratch(rng));
+        let (tabulation_len, scratch_len) = (tabulation.len(), scratch.len());
+        let key = rng.below(10) as u32;
+        let (words, counters) = (&mut self.words, &mut self.counters);
+        let (call, reply) = match rng.below(12) {
+            0..=4 => {
+                let answer = insert(&self.engine, &tabulation, words, &mut scratch, counters, key);
+                (Call::Insert { tabulation_len, scratch_len, key }, Reply::Answer(answer))
+            }
+            5..=7 => {
+                let answer = remove(&self.engine, &tabulation, words, &mut scratch, counters, key);
+                (Call::Remove { tabulation_len, scratch_len, key }, Reply::Answer(answer))
+            }
+            8 => {
+                let found = lookup(&tabulation, words, key);
+                assert_eq!(found, fast::lookup(&tabulation, words, key));
+                return (Call::Lookup { tabulation_len, key }, Reply::Lookup(found));
+            }
+            9 => {
+                let answer = check(&self.engine, &tabulation, words, &mut scratch);
+                (Call::Check { tabulation_len, scratch_len }, Reply::Answer(answer))
+            }
+            10 => {
+                assert_eq!(stash_answer(words), Ok(()));
+                return (Call::Stash, Reply::Stash(stash(words).to_vec()));
+            }
+            _ => {
+                // A call of another kind that is refused: an init with another shape.
+                let (r, s) = rng.pick(&[
+                    (self.r, self.s + 1),
+                    (self.r + 1, self.s),
+                    (0, self.s),
+                    (self.r, u32::MAX),
+                    (self.r + (1 << 30), self.s),
+                ]);
+                let answer = init(r, s, words, counters);
+                return (Call::Other { refusal: Refusal::WrongShape }, Reply::Answer(answer));
+            }
+        };
+        assert!(scratch.iter().all(|&word| word == 0), "the scratch ends as zeros");
+        (call, reply)
+    }
+}
+
+/// A name for a call and its reply in the tally.
+fn label(call: &Call, reply: &Reply) -> String {
+    let kind = match call {
+        Call::Insert { .. } => "insert",
+        Call::Remove { .. } => "remove",
+        Call::Lookup { .. } => "lookup",
+        Call::Check { .. } => "check",
+        Call::Stash => "stash",
+        Call::Other { .. } => "other",
+    };
+    match reply {
+        Reply::Answer(answer) => format!("{kind} {}", number(*answer)),
+        Reply::Lookup(Ok(found)) => format!("{kind} {found}"),
+        Reply::Lookup(Err(refusal)) => format!("{kind} {}", refusal.number()),
+        Reply::Stash(view) if view.is_empty() => format!("{kind} empty"),
+        Reply::Stash(_) => format!("{kind} filled"),
+    }
+}
+
+/// How the counters stand after a reply.
+fn counted(mut counters: Counters, call: &Call, reply: &Reply) -> Counters {
+    if let (Call::Insert { .. } | Call::Remove { .. } | Call::Other { .. }, Reply::Answer(answer)) =
+        (call, reply)
+    {
+        counters.count(*answer);
+    }
+    counters
+}
+
+#[test]
+fn sequences_answer_as_the_reference_model() {
+    let mut rng = Rng::new(61);
+    let mut tally = Tally::default();
+    for (name, engine) in engines() {
+        for _ in 0..if name == "slow" { 150 } else { 1_000 } {
+            let mut sequence = Sequence::start(engine, &mut rng);
+            for _ in 0..rng.below(40) {
+                let counters = sequence.counters;
+                let (call, reply) = sequence.call(&mut rng);
+                assert_eq!(sequence.model.feed(&call), reply, "{name}, {call:?}");
+                assert_eq!(sequence.words, sequence.model.words(), "{name}, {call:?}");
+                assert_eq!(sequence.counters, counted(counters, &call, &reply), "{name}, {call:?}");
+                tally.add(label(&call, &reply));
+            }
+            tally.add("sequences");
+        }
+    }
+    let wanted = [
+        "sequences",
+        "insert 0",
+        "insert 1",
+        "insert 3",
+        "insert 5",
+        "insert 6",
+        "insert 8",
+        "remove 0",
+        "remove 1",
+        "remove 3",
+        "remove 5",
+        "remove 7",
+        "lookup true",
+        "lookup false",
+        "lookup 1",
+        "lookup 5",
+        "check 0",
+        "check 1",
+        "check 3",
+        "stash empty",
+        "stash filled",
+        "other 2",
+    ];
+    tally.report("sequences", &wanted);
+}
+
+#[test]
+fn the_model_starts_only_where_init_is_accepted() {
+    let tabulation = vec![0; 2_048];
+    assert!(Model::new(Slow, &tabulation, 1_024, 64).is_ok());
+    for (len, r, s, refusal) in [
+        (2_047, 1, 1, Refusal::WrongTabulation),
+        (2_048, 0, 1, Refusal::WrongShape),
+        (2_048, 1_025, 1, Refusal::WrongShape),
+        (2_048, 1, 65, Refusal::WrongShape),
+    ] {
+        assert_eq!(Model::new(Slow, &tabulation[..len], r, s).err(), Some(refusal));
+    }
+}
+
+/// Words of any length and content; often of a right shape, and with small numbers so that keys
+/// repeat.
+fn any_words(rng: &mut Rng) -> Vec<u32> {
+    let (r, s) = (1 + rng.below(3) as u32, rng.below(3) as u32);
+    let right_len = (4 + 4 * r + s) as usize;
+    let len = if rng.one_in(4) { rng.below(20) } else { right_len };
+    let mut words: Vec<u32> =
+        (0..len).map(|_| if rng.one_in(3) { rng.below(7) as u32 } else { 0 }).collect();
+    for (at, value) in [(0, r), (1, s)] {
+        let value = if rng.one_in(10) { rng.next_u32() } else { value };
+        if let Some(word) = words.get_mut(at) {
+            *word = value;
+        }
+    }
+    words
+}
+
+/// What a call on arbitrary memory left.
+type Outcome = (Answer, Vec<u32>, Vec<u32>, Counters);
+
+#[test]
+fn calls_are_total_and_the_engines_agree_on_any_memory() {
+    let mut rng = Rng::new(62);
+    let mut tally = Tally::default();
+    for _ in 0..6_000 {
+        let tabulation_len = if rng.one_in(15) { rng.below(3_000) } else { 2_048 };
+        let tabulation: Vec<u16> = (0..tabulation_len).map(|_| rng.below(4) as u16).collect();
+        let words = any_words(&mut rng);
+        let scratch: Vec<u32> = vec![6; rng.below(60)];
+        let key = rng.below(8) as u32;
+        let outcome = |engine: &dyn Engine, kind: usize| -> Outcome {
+            let (mut words, mut scratch) = (words.clone(), scratch.clone());
+            let mut counters = Counters::default();
+            let answer = match kind {
+                0 => insert(&engine, &tabulation, &mut words, &mut scratch, &mut counters, key),
+                1 => remove(&engine, &tabulation, &mut words, &mut scratch, &mut counters, key),
+                _ => check(&engine, &tabulation, &words, &mut scratch),
+            };
+            (answer, words, scratch, counters)
+        };
+        for (kind, name) in ["insert", "remove", "check"].into_iter().enumerate() {
+            let slow = outcome(&Slow, kind);
+            assert_eq!(slow, outcome(&Fast, kind));
+            let (answer, words_after, scratch_after, _) = slow;
+            assert!(scratch_after.iter().all(|&word| word == 0));
+            if answer.is_err() || name == "check" {
+                assert_eq!(words_after, words);
+            }
+            tally.add(format!("{name} {}", number(answer)));
+        }
+        assert_eq!(lookup(&tabulation, &words, key), fast::lookup(&tabulation, &words, key));
+        tally.add(format!("stash {}", number(stash_answer(&words))));
+        assert!(stash_answer(&words).is_ok() || stash(&words).is_empty());
+    }
+    let wanted = [
+        "insert 0", "insert 1", "insert 2", "insert 3", "insert 4", "remove 1", "remove 2",
+        "remove 3", "remove 4", "check 0", "check 1", "check 2", "check 3", "check 4", "stash 0",
+        "stash 2", "stash 4",
+    ];
+    tally.report("any memory", &wanted);
+}

@@ -1,0 +1,132 @@
+//! Document 01's "Shuffles that look canonical": each wrong shuffle is built on the board the paper
+//! names, and shown to differ from the image and to be refused by check.
+
+use std::collections::{BTreeMap, BTreeSet};
+
+use reference::answer::Refusal;
+use reference::calls::{check, lookup};
+use reference::graph::{components, edges, simple_cycles};
+use reference::image::{assignment, assignments, image, next_keys, split_stash, Assignment};
+use reference::layout::{Contents, Entry, Shape, Slot};
+use reference::samples::test_tabulation;
+
+use crate::common::{engines, hand_words};
+
+const K9: [u32; 5] = [1, 33, 34, 65, 98];
+const K11: [u32; 5] = [1, 34, 65, 98, 225];
+
+/// The words of a wrong shuffle with r = 4, s = 1: every assignment with its own cycle of next
+/// numbers.
+fn wrong_words(parts: &[&Assignment], stash: &[u32]) -> Vec<u32> {
+    let mut contents =
+        Contents { entries: BTreeMap::new(), stash: stash.iter().copied().collect() };
+    for &part in parts {
+        let next = next_keys(part.values().copied());
+        contents
+            .entries
+            .extend(part.iter().map(|(&slot, &key)| (slot, Entry { key, next: next[&key] })));
+    }
+    Shape::new(4, 1).unwrap().write(&contents)
+}
+
+/// The one component of a set of keys on the test board.
+fn component(keys: &[u32]) -> Vec<reference::graph::Edge> {
+    let mut parts = components(&edges(&test_tabulation(), 4, keys).unwrap());
+    assert_eq!(parts.len(), 1, "{keys:?} is one component");
+    parts.remove(0)
+}
+
+/// The wrong words are not the image of the set, and check says so.
+fn assert_wrong(wrong: &[u32], keys: &[u32]) {
+    let right = image(&test_tabulation(), 4, 1, keys).expect("the board has an image");
+    assert_eq!(wrong.len(), right.len());
+    assert_ne!(wrong, right);
+    for (_, engine) in engines() {
+        let mut scratch = vec![0; 36];
+        assert_eq!(check(&engine, &test_tabulation(), &right, &mut scratch), Ok(()));
+        assert_eq!(
+            check(&engine, &test_tabulation(), wrong, &mut scratch),
+            Err(Refusal::NotCanonical)
+        );
+    }
+}
+
+/// Paper: "Sending the largest card of the group to the drawer: K11 has 225 off every loop."
+#[test]
+fn largest_key_of_the_component_in_the_stash() {
+    let k11 = component(&K11);
+    assert!(simple_cycles(&k11).iter().all(|cycle| !cycle.contains(&225)));
+    assert_eq!(split_stash(&k11).1, [98]);
+    // Without 225 two cycles of two are left, which are stored by themselves.
+    let rest = edges(&test_tabulation(), 4, &[1, 34, 65, 98]).unwrap();
+    let parts: Vec<Assignment> = components(&rest).iter().map(|part| assignment(part)).collect();
+    assert_eq!(parts.len(), 2);
+    assert_wrong(&wrong_words(&[&parts[0], &parts[1]], &[225]), &K11);
+    // The same with the next numbers in one cycle, as of one component.
+    let whole: Assignment = parts.into_iter().flatten().collect();
+    assert_wrong(&wrong_words(&[&whole], &[225]), &K11);
+}
+
+/// Paper: "Seating the group's smallest in rack 0: K8 turns on the smallest on the loop."
+#[test]
+fn smallest_key_of_the_component_in_table_0() {
+    let k8 = component(&[17, 65, 129]);
+    let (at_01, at_10, at_11) =
+        (Slot { table: 0, index: 1 }, Slot { table: 1, index: 0 }, Slot { table: 1, index: 1 });
+    // There are two assignments; neither has 17 in table 0, and 65 on the cycle decides between
+    // them.
+    let right = Assignment::from([(at_01, 65), (at_10, 129), (at_11, 17)]);
+    let wrong = Assignment::from([(at_01, 129), (at_10, 65), (at_11, 17)]);
+    assert_eq!(assignments(&k8, None), [right.clone(), wrong.clone()]);
+    assert_eq!(image(&test_tabulation(), 4, 1, &[17, 65, 129]), Some(wrong_words(&[&right], &[])));
+    assert_wrong(&wrong_words(&[&wrong], &[]), &[17, 65, 129]);
+    // With 17 in table 0 by force, one of the others has to go to the stash.
+    for (stored, stashed) in [(65, 129), (129, 65)] {
+        let forced = Assignment::from([(at_01, 17), (at_10, stored)]);
+        assert_wrong(&wrong_words(&[&forced], &[stashed]), &[17, 65, 129]);
+    }
+}
+
+/// Paper: "Leaving a drawer card there after a withdrawal: K7, K10."
+#[test]
+fn stash_key_left_after_a_remove() {
+    // K7: 65 has left, 1 stays where it was; or 1 takes both slots as if alone.
+    let stays = Assignment::from([(Slot { table: 0, index: 1 }, 1)]);
+    assert_wrong(&wrong_words(&[&stays], &[129]), &[1, 129]);
+    assert_wrong(&wrong_words(&[&assignment(&component(&[1]))], &[129]), &[1, 129]);
+    // K10: 33 has left, and 98 stays in the stash, with 34 alone in one or in both of its slots.
+    let cycle = assignment(&component(&[1, 65]));
+    let stays = Assignment::from([(Slot { table: 0, index: 2 }, 34)]);
+    assert_wrong(&wrong_words(&[&cycle, &stays], &[98]), &[1, 34, 65, 98]);
+    assert_wrong(&wrong_words(&[&cycle, &assignment(&component(&[34]))], &[98]), &[1, 34, 65, 98]);
+}
+
+/// Paper: "Clearing one of the two pockets of a withdrawn lone card."
+#[test]
+fn one_of_two_slots_cleared() {
+    let k2 = image(&test_tabulation(), 4, 1, &[17]).unwrap();
+    for table in 0..2 {
+        let mut wrong = k2.clone();
+        wrong[2] = 0;
+        let at = Shape::new(4, 1).unwrap().slot_at(Slot { table, index: 1 });
+        wrong[at..at + 2].fill(0);
+        assert_wrong(&wrong, &[]);
+        assert_eq!(lookup(&test_tabulation(), &wrong, 17), Ok(true), "it would still be found");
+    }
+}
+
+/// Paper: "Threading drawer cards into the next numbers."
+#[test]
+fn stash_keys_among_the_next_numbers() {
+    let k5 = hand_words(4, 1, 3, &[(0, 1, 1, 65), (1, 0, 65, 129)], &[129]);
+    assert_wrong(&k5, &[1, 65, 129]);
+    for keys in [K9, K11] {
+        let right = image(&test_tabulation(), 4, 1, &keys).unwrap();
+        let threaded = next_keys(BTreeSet::from(keys));
+        let mut wrong = right.clone();
+        for at in (4..20).step_by(2).filter(|&at| right[at] != 0) {
+            wrong[at + 1] = threaded[&right[at]];
+        }
+        assert_wrong(&wrong, &keys);
+    }
+}
