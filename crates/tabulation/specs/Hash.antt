@@ -5,7 +5,7 @@ use mathlib.Core.Path.{_≡_}
 use mathlib.Core.Bool.{Bool, true, false, _&&_, false≢true}
 use mathlib.Core.List.{List}
 use native.Mathlib.Nat.{mod-lt}
-use borrow.Author.Tests.{leb-true}
+use borrow.Author.Tests.{leb-true, le-leb}
 use lib.Dec.{eqb, leb}
 use lib.ListN.{getD}
 
@@ -32,6 +32,10 @@ in-range-pos r e = leb-true 1 r (and-true (leb 1 r) (leb r max-slots) e .0)
 pub in-range-max : (r : ℕ) → slots-in-range r ≡ true → r ≤ max-slots
 unfolding slots-in-range
 in-range-max r e = leb-true r max-slots (and-true (leb 1 r) (leb r max-slots) e .1)
+
+pub range-in : (r : ℕ) → 0 < r → r ≤ max-slots → slots-in-range r ≡ true
+unfolding slots-in-range
+range-in r some most = rw (le-leb 1 r some) (le-leb r max-slots most)
 
 -- "Zero means no card": a blank key is the key of no element
 unfoldable pub blank : ℕ → Bool

@@ -8,17 +8,37 @@ use mathlib.Core.List.{List, [], _∷_}
 abbrev pub done : ℕ
 done = 0
 
--- 1, "wrong book": book not 2,048 long
+-- 1, "wrong book": the tabulation is not 2,048 long
 abbrev pub wrong-tabulation : ℕ
 wrong-tabulation = 1
 
--- 2, "wrong shape": of the hashes of a key alone, r outside its range
+-- 2, "wrong shape": the words are not laid out as a dictionary; of the hashes of a key alone, r outside its range
 abbrev pub wrong-shape : ℕ
 wrong-shape = 2
+
+-- 3, "short sheet": the scratch is too short
+abbrev pub short-scratch : ℕ
+short-scratch = 3
+
+-- 4, "tampered": the words are the canonical image of no set
+abbrev pub not-canonical : ℕ
+not-canonical = 4
 
 -- 5, "blank card"
 abbrev pub blank-key : ℕ
 blank-key = 5
+
+-- 6, "listed": insert of a key that is in the set
+abbrev pub key-present : ℕ
+key-present = 6
+
+-- 7, "not listed": removal of a key that is not in the set
+abbrev pub key-absent : ℕ
+key-absent = 7
+
+-- 8, "full drawer": the stash of the new set would have more than s keys
+abbrev pub stash-full : ℕ
+stash-full = 8
 
 -- the number of the first refusal whose test holds, or done
 abbrev pub first-refusal : List (ℕ × Bool) → ℕ
