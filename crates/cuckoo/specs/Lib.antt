@@ -19,3 +19,4 @@ pub mod Filled
 pub mod Next
 pub mod Locality
 pub mod Placement
+pub mod Agree

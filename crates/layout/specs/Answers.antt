@@ -1,0 +1,86 @@
+-- What lookup, the stash view and the laying of fresh words answer and leave, for every content and length of the lent words (document 01, "What a
+-- call gives back"). These definitions are the promises.
+use Prim.Native.Nat.{ℕ, _-_}
+use mathlib.Core.Path.{_≡_}
+use mathlib.Core.Bool.{Bool, true, false, not, cond, _&&_, _||_}
+use mathlib.Core.List.{List, [], _∷_}
+use lib.Dec.{eqb, ltb}
+use lib.ListN.{length, getD, take, drop, replicate}
+use Rattle.cuckoo.specs.Graph.{member}
+use Rattle.tabulation.specs.Refusal.{done, wrong-tabulation, wrong-shape, not-canonical, blank-key, first-refusal}
+use Rattle.tabulation.specs.Hash.{Family, tabulation-length, blank}
+use Rattle.tabulation.specs.Slots.{slot-0, slot-1}
+use Rattle.layout.specs.Layout.{shaped, sizes-in-range, slots-of, places-of, stash-count, stash-at, stash-part, key-at, words-length}
+use Rattle.layout.specs.declared.Found.{Found}
+use Rattle.layout.specs.declared.Found.the-variants.{Present, Absent, Refused}
+
+-- lookup
+
+-- document 01's number of a lookup's answer, and its value: 1 yes, 0 no
+abbrev pub number : Found → ℕ
+number Present = done
+number Absent = done
+number (Refused n) = n
+
+abbrev pub values : Found → List ℕ
+values Present = 1 ∷ []
+values Absent = 0 ∷ []
+values (Refused n) = []
+
+unfoldable pub lookup-refusal : List ℕ → List ℕ → ℕ → ℕ
+lookup-refusal tabulation ws key =
+    first-refusal
+    ((wrong-tabulation, not (eqb (length tabulation) tabulation-length))
+    ∷ (wrong-shape, not (shaped ws))
+    ∷ (blank-key, blank key)
+    ∷ [])
+
+-- "the number stands as a card number in its rack 0 place, its rack 1 place or one of the s drawer words"
+unfoldable pub stands : List ℕ → List ℕ → ℕ → Bool
+stands tabulation ws key =
+    let F : Family = record { tabulation = tabulation; slots = slots-of ws } in
+    eqb (getD ws (key-at (slot-0 F key)) 0) key || eqb (getD ws (key-at (slot-1 F key)) 0) key || member key (stash-part ws)
+
+unfoldable pub lookup-values : List ℕ → List ℕ → ℕ → List ℕ
+lookup-values tabulation ws key =
+    cond (eqb (lookup-refusal tabulation ws key) done) (cond (stands tabulation ws key) 1 0 ∷ []) []
+
+-- the stash view
+
+-- "The drawer view gives only 2, or 4 when word 3 exceeds s."
+unfoldable pub view-refusal : List ℕ → ℕ
+view-refusal ws = first-refusal ((wrong-shape, not (shaped ws)) ∷ (not-canonical, ltb (places-of ws) (stash-count ws)) ∷ [])
+
+-- "the filled stretch of the drawer as part of the lent list"; "Refused, the stretch is empty"
+unfoldable pub view-of : List ℕ → List ℕ
+view-of ws = cond (eqb (view-refusal ws) done) (take (stash-count ws) (drop (stash-at (slots-of ws)) ws)) []
+
+-- fresh words
+
+-- "Laying fresh takes r and s and gives only 2"
+unfoldable pub fresh-refusal : ℕ → ℕ → ℕ → ℕ
+fresh-refusal len r s = first-refusal ((wrong-shape, not (sizes-in-range r s && eqb len (words-length r s))) ∷ [])
+
+-- "accepted it leaves r, s and zeros"; a refusal leaves the words
+unfoldable pub fresh-words : List ℕ → ℕ → ℕ → List ℕ
+fresh-words ws r s = cond (eqb (fresh-refusal (length ws) r s) done) (r ∷ s ∷ replicate (length ws - 2) 0) ws
+
+-- `stands`, test by test
+module _ (tabulation ws : List ℕ) (key : ℕ) where
+  abbrev pub in-table-0 : Bool
+  in-table-0 = eqb (getD ws (key-at (slot-0 (record { tabulation = tabulation; slots = slots-of ws }) key)) 0) key
+
+  abbrev pub in-table-1 : Bool
+  in-table-1 = eqb (getD ws (key-at (slot-1 (record { tabulation = tabulation; slots = slots-of ws }) key)) 0) key
+
+  pub stands-first : in-table-0 ≡ true → stands tabulation ws key ≡ true
+  unfolding stands
+  stands-first e = rw e
+
+  pub stands-second : in-table-0 ≡ false → in-table-1 ≡ true → stands tabulation ws key ≡ true
+  unfolding stands
+  stands-second e f = rw (e, f)
+
+  pub stands-stash : in-table-0 ≡ false → in-table-1 ≡ false → stands tabulation ws key ≡ member key (stash-part ws)
+  unfolding stands
+  stands-stash e f = rw (e, f)

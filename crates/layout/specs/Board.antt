@@ -1,0 +1,206 @@
+-- Document 01's "Cards on a test board": K1 to K12 and the console listing as ONE table, every word of every image written out, proved as a
+-- whole to follow from the image rule. The hashes come from the test board's 2,048 numbers through the definition of crate tabulation: one
+-- test, which the checker computes, sees that each key's two hashes are its plain ends and that the image over these has the words; the laws
+-- of Ends turn it into statements about `image` and `fits`. Assumes nothing.
+use Prim.Native.Nat.{ℕ, zero, suc, _+_, _-_, _/_, _%_, _<_}
+use mathlib.Core.Path.{_≡_, refl, _∙_}
+use mathlib.Core.Bool.{Bool, true, false, not, cond, _&&_, false≢true}
+use mathlib.Core.List.{List, [], _∷_, List·Memᴰ as In, List·Memᴰ·head as here, List·Memᴰ·tail as there}
+use native.Mathlib.Omega.{arith}
+use borrow.Author.Tests.{eqb-true, ne-eqb, ltb-true, not-true}
+use lib.Dec.{T, eqb, ltb, leb}
+use lib.ListN.{length}
+use Rattle.cuckoo.specs.Graph.{without, label, joined, component, onCycle, cyclic, spare, settle, seated, stash, root, sits, occupant, next, slot-key, slot-next}
+use Rattle.cuckoo.specs.Rows.{same}
+use Rattle.cuckoo.specs.Agree.{agree-none, agree-some}
+use Rattle.cuckoo.specs.Sets.{Asc, none, some, and-true}
+use Rattle.tabulation.specs.Hash.{Family, hash, blank, tabulation-length}
+use Rattle.tabulation.specs.Slots.{slot-0, slot-1}
+use Rattle.layout.specs.Layout.{Params, family, ValidSet, fits, image}
+use Rattle.layout.specs.Ends.{Known, fits-by, slot-words-by, image-by, fits-known, image-known}
+
+-- the test board's tabulation
+
+-- "entry v is v and entry 1,024 + v is v/16 rounded down, for v from 0 to 255; all others 0"
+abbrev pub board-entry : ℕ → ℕ
+board-entry i = cond (ltb i 256) i (cond (leb 1024 i && ltb i 1280) ((i - 1024) / 16) 0)
+
+-- n entries from entry i on
+abbrev pub entries : ℕ → ℕ → List ℕ
+entries i zero = []
+entries i (suc n) = board-entry i ∷ entries (suc i) n
+
+unfoldable pub board-tabulation : List ℕ
+board-tabulation = entries 0 tabulation-length
+
+pub board-length : length board-tabulation ≡ tabulation-length
+unfolding board-tabulation
+board-length = refl
+
+-- an image on the test board: r slots to a table, s places in the stash
+abbrev pub board : ℕ → ℕ → Params
+board r s = record { tabulation = board-tabulation; slots = r; places = s }
+
+-- rows
+
+-- the image of a set has these words, or the set does not fit ("refused 8")
+pub data Row : Type 0 where
+  shows : (r s : ℕ) → List ℕ → List ℕ → Row
+  full : (r s : ℕ) → List ℕ → Row
+
+pub record Shown (r s : ℕ) (S words : List ℕ) : Type 0 where
+  pub valid : ValidSet S
+  pub fit : fits (board r s) S ≡ true
+  pub words-are : image (board r s) S ≡ words
+
+pub record Full (r s : ℕ) (S : List ℕ) : Type 0 where
+  pub valid : ValidSet S
+  pub unfit : fits (board r s) S ≡ false
+
+abbrev pub Holds : Row → Type 0
+Holds (shows r s S words) = Shown r s S words
+Holds (full r s S) = Full r s S
+
+-- the test of a row
+
+-- "the places are card modulo 4 and card/16 rounded down, modulo 4", and so for each r
+abbrev plain-0 : ℕ → ℕ → ℕ
+plain-0 r c = c % r
+
+abbrev plain-1 : ℕ → ℕ → ℕ
+plain-1 r c = r + c / 16 % r
+
+-- each key of S hashes to its plain ends, through the tabulation
+abbrev hashed : Family → List ℕ → Bool
+hashed F [] = true
+hashed F (c ∷ S) = eqb (slot-0 F c) (plain-0 (F .slots) c) && eqb (slot-1 F c) (plain-1 (F .slots) c) && hashed F S
+
+-- ascending, and above n
+abbrev rises : ℕ → List ℕ → Bool
+rises n [] = true
+rises n (c ∷ S) = ltb n c && rises c S
+
+-- S is a set, and its keys hash to their plain ends
+abbrev ready : ℕ → ℕ → List ℕ → Bool
+ready r s S = rises 0 S && hashed (family (board r s)) S
+
+abbrev follows : Row → Bool
+follows (shows r s S words) =
+    ready r s S && (fits-by (plain-0 r) (plain-1 r) s S && same (image-by (plain-0 r) (plain-1 r) r s S) words)
+follows (full r s S) = ready r s S && not (fits-by (plain-0 r) (plain-1 r) s S)
+
+abbrev all : List Row → Bool
+all [] = true
+all (R ∷ Rs) = follows R && all Rs
+
+-- In a row of words: r, s, keys, keys in the stash; then key, next of the slots of table 0; of table 1; then the stash. "0.1" is table 0,
+-- slot 1.
+abbrev pub rows : List Row
+rows =
+    -- K1 {}: all slots empty
+    shows 4 1 [] (4 ∷ 1 ∷ 0 ∷ 0 ∷ 0 ∷ 0 ∷ 0 ∷ 0 ∷ 0 ∷ 0 ∷ 0 ∷ 0 ∷ 0 ∷ 0 ∷ 0 ∷ 0 ∷ 0 ∷ 0 ∷ 0 ∷ 0 ∷ 0 ∷ [])
+    -- K2 {17}: 0.1 and 1.1 hold 17, next 17
+    ∷ shows 4 1 (17 ∷ []) (4 ∷ 1 ∷ 1 ∷ 0 ∷ 0 ∷ 0 ∷ 17 ∷ 17 ∷ 0 ∷ 0 ∷ 0 ∷ 0 ∷ 0 ∷ 0 ∷ 17 ∷ 17 ∷ 0 ∷ 0 ∷ 0 ∷ 0 ∷ 0 ∷ [])
+    -- K3 {1, 17}: 0.1 and 1.0 hold 1; 1.1 holds 17
+    ∷ shows 4 1 (1 ∷ 17 ∷ []) (4 ∷ 1 ∷ 2 ∷ 0 ∷ 0 ∷ 0 ∷ 1 ∷ 17 ∷ 0 ∷ 0 ∷ 0 ∷ 0 ∷ 1 ∷ 17 ∷ 17 ∷ 1 ∷ 0 ∷ 0 ∷ 0 ∷ 0 ∷ 0 ∷ [])
+    -- K4 {1, 65}: 0.1 holds 1, 1.0 holds 65
+    ∷ shows 4 1 (1 ∷ 65 ∷ []) (4 ∷ 1 ∷ 2 ∷ 0 ∷ 0 ∷ 0 ∷ 1 ∷ 65 ∷ 0 ∷ 0 ∷ 0 ∷ 0 ∷ 65 ∷ 1 ∷ 0 ∷ 0 ∷ 0 ∷ 0 ∷ 0 ∷ 0 ∷ 0 ∷ [])
+    -- K5 {1, 65, 129}: as K4, stash 129
+    ∷ shows 4 1 (1 ∷ 65 ∷ 129 ∷ []) (4 ∷ 1 ∷ 3 ∷ 1 ∷ 0 ∷ 0 ∷ 1 ∷ 65 ∷ 0 ∷ 0 ∷ 0 ∷ 0 ∷ 65 ∷ 1 ∷ 0 ∷ 0 ∷ 0 ∷ 0 ∷ 0 ∷ 0 ∷ 129 ∷ [])
+    -- K6, K5 plus 193: refused 8
+    ∷ full 4 1 (1 ∷ 65 ∷ 129 ∷ 193 ∷ [])
+    -- K6 with s = 2: accepted, stash 129, 193
+    ∷ shows 4 2 (1 ∷ 65 ∷ 129 ∷ 193 ∷ []) (4 ∷ 2 ∷ 4 ∷ 2 ∷ 0 ∷ 0 ∷ 1 ∷ 65 ∷ 0 ∷ 0 ∷ 0 ∷ 0 ∷ 65 ∷ 1 ∷ 0 ∷ 0 ∷ 0 ∷ 0 ∷ 0 ∷ 0 ∷ 129 ∷ 193 ∷ [])
+    -- K7, K5 less 65: 0.1 holds 1, 1.0 holds 129, stash empty
+    ∷ shows 4 1 (1 ∷ 129 ∷ []) (4 ∷ 1 ∷ 2 ∷ 0 ∷ 0 ∷ 0 ∷ 1 ∷ 129 ∷ 0 ∷ 0 ∷ 0 ∷ 0 ∷ 129 ∷ 1 ∷ 0 ∷ 0 ∷ 0 ∷ 0 ∷ 0 ∷ 0 ∷ 0 ∷ [])
+    -- K8 {17, 65, 129}: 0.1 holds 65, 1.0 holds 129, 1.1 holds 17; next 17 to 65 to 129 to 17
+    ∷ shows 4 1 (17 ∷ 65 ∷ 129 ∷ []) (4 ∷ 1 ∷ 3 ∷ 0 ∷ 0 ∷ 0 ∷ 65 ∷ 129 ∷ 0 ∷ 0 ∷ 0 ∷ 0 ∷ 129 ∷ 17 ∷ 17 ∷ 65 ∷ 0 ∷ 0 ∷ 0 ∷ 0 ∷ 0 ∷ [])
+    -- K9 {1, 33, 34, 65, 98}: 0.1 holds 1, 1.0 holds 65, 1.2 holds 33, 0.2 holds 34, stash 98
+    ∷ shows 4 1 (1 ∷ 33 ∷ 34 ∷ 65 ∷ 98 ∷ []) (4 ∷ 1 ∷ 5 ∷ 1 ∷ 0 ∷ 0 ∷ 1 ∷ 33 ∷ 34 ∷ 65 ∷ 0 ∷ 0 ∷ 65 ∷ 1 ∷ 0 ∷ 0 ∷ 33 ∷ 34 ∷ 0 ∷ 0 ∷ 98 ∷ [])
+    -- K10, K9 less 33: 1.2 holds 98, the stash is empty
+    ∷ shows 4 1 (1 ∷ 34 ∷ 65 ∷ 98 ∷ []) (4 ∷ 1 ∷ 4 ∷ 0 ∷ 0 ∷ 0 ∷ 1 ∷ 65 ∷ 34 ∷ 98 ∷ 0 ∷ 0 ∷ 65 ∷ 1 ∷ 0 ∷ 0 ∷ 98 ∷ 34 ∷ 0 ∷ 0 ∷ 0 ∷ [])
+    -- K11 {1, 34, 65, 98, 225}: 225 in 1.2, stash 98
+    ∷ shows 4 1 (1 ∷ 34 ∷ 65 ∷ 98 ∷ 225 ∷ []) (4 ∷ 1 ∷ 5 ∷ 1 ∷ 0 ∷ 0 ∷ 1 ∷ 34 ∷ 34 ∷ 65 ∷ 0 ∷ 0 ∷ 65 ∷ 225 ∷ 0 ∷ 0 ∷ 225 ∷ 1 ∷ 0 ∷ 0 ∷ 98 ∷ [])
+    -- K12, r = 1, s = 0: two keys fit, the smaller in table 0 (for every two keys: Smallest.antt)
+    ∷ shows 1 0 (7 ∷ 200 ∷ []) (1 ∷ 0 ∷ 2 ∷ 0 ∷ 7 ∷ 200 ∷ 200 ∷ 7 ∷ [])
+    -- K12: a third is refused 8
+    ∷ full 1 0 (7 ∷ 200 ∷ 201 ∷ [])
+    -- the console listing, r = 2: 0.1 holds 1, next 33; 1.0 holds 33, next 1; stash 65
+    ∷ shows 2 1 (1 ∷ 33 ∷ 65 ∷ []) (2 ∷ 1 ∷ 3 ∷ 1 ∷ 0 ∷ 0 ∷ 1 ∷ 33 ∷ 33 ∷ 1 ∷ 0 ∷ 0 ∷ 65 ∷ [])
+    -- the console listing: 97 on top is refused 8
+    ∷ full 2 1 (1 ∷ 33 ∷ 65 ∷ 97 ∷ [])
+    ∷ []
+
+-- the rows follow from the image rule, all at once
+rows-follow : T (all rows)
+unfolding without label joined component onCycle cyclic spare settle seated stash root sits occupant next slot-key slot-next hash board-tabulation fits-by slot-words-by image-by
+rows-follow = tt
+
+-- what the test means
+
+T-true : (t : Bool) → T t → t ≡ true
+T-true true h = refl
+T-true false h = absurd h
+
+same-equal : (xs ys : List ℕ) → same xs ys ≡ true → xs ≡ ys
+same-equal [] [] e = refl
+same-equal [] (y ∷ ys) e = absurd (false≢true e)
+same-equal (x ∷ xs) [] e = absurd (false≢true e)
+same-equal (x ∷ xs) (y ∷ ys) e =
+    let p = and-true (eqb x y) (same xs ys) e in
+    let q = eqb-true x y (p .0) in
+    let r = same-equal xs ys (p .1) in
+    cc
+
+rises-valid : (n : ℕ) (S : List ℕ) → rises n S ≡ true → Asc S × ((c : ℕ) → In c S → n < c)
+rises-valid n [] e = (none, λ c i. elim i [ ])
+rises-valid n (d ∷ S) e =
+    let p = and-true (ltb n d) (rises d S) e in
+    let l = ltb-true n d (p .0) in
+    let r = rises-valid d S (p .1) in
+    (some (r .1) (r .0), λ c i. elim i [ here q ↦ omega arith | there k ↦ omega (arith, r .1 c k) ])
+
+hashed-known : (r s : ℕ) (S : List ℕ) → hashed (family (board r s)) S ≡ true → Known (board r s) (plain-0 r) (plain-1 r) S
+hashed-known r s [] e = agree-none
+hashed-known r s (c ∷ S) e =
+    let F = family (board r s) in
+    let p = and-true (eqb (slot-0 F c) (plain-0 r c) && eqb (slot-1 F c) (plain-1 r c)) (hashed F S) e in
+    let q = and-true (eqb (slot-0 F c) (plain-0 r c)) (eqb (slot-1 F c) (plain-1 r c)) (p .0) in
+    agree-some (eqb-true (slot-0 F c) (plain-0 r c) (q .0)) (eqb-true (slot-1 F c) (plain-1 r c) (q .1)) (hashed-known r s S (p .1))
+
+record Ready (r s : ℕ) (S : List ℕ) : Type 0 where
+  valid : ValidSet S
+  known : Known (board r s) (plain-0 r) (plain-1 r) S
+
+ready-is : (r s : ℕ) (S : List ℕ) → ready r s S ≡ true → Ready r s S
+unfolding blank
+ready-is r s S e =
+    let p = and-true (rises 0 S) (hashed (family (board r s)) S) e in
+    let v = rises-valid 0 S (p .0) in
+    record { valid = record { asc = v .0; solid = λ c i. ne-eqb c 0 (omega (arith, v .1 c i)) }; known = hashed-known r s S (p .1) }
+
+holds : (R : Row) → follows R ≡ true → Holds R
+holds (shows r s S words) e =
+    let F = fits-by (plain-0 r) (plain-1 r) s S in
+    let W = image-by (plain-0 r) (plain-1 r) r s S in
+    let p = and-true (ready r s S) (F && same W words) e in
+    let q = and-true F (same W words) (p .1) in
+    let d = ready-is r s S (p .0) in
+    record {
+      valid = d .valid;
+      fit = fits-known (board r s) (d .known) ∙ q .0;
+      words-are = image-known (board r s) (d .known) ∙ same-equal W words (q .1);
+    }
+holds (full r s S) e =
+    let F = fits-by (plain-0 r) (plain-1 r) s S in
+    let p = and-true (ready r s S) (not F) e in
+    let d = ready-is r s S (p .0) in
+    record { valid = d .valid; unfit = fits-known (board r s) (d .known) ∙ not-true F (p .1) }
+
+all-hold : (Rs : List Row) → all Rs ≡ true → (R : Row) → In R Rs → Holds R
+all-hold (R ∷ Rs) e Q (here q) = rw q (holds R (and-true (follows R) (all Rs) e .0))
+all-hold (R ∷ Rs) e Q (there i) = all-hold Rs (and-true (follows R) (all Rs) e .1) Q i
+
+-- Every row holds: K1 to K12 and the console listing follow from the image rule.
+pub board-rows : (R : Row) → In R rows → Holds R
+board-rows = all-hold rows (T-true (all rows) rows-follow)

@@ -1,0 +1,58 @@
+-- Fresh words are the image of the empty set, which fits with every r and s. Assumes nothing.
+use Prim.Native.Nat.{ℕ, zero, suc, _+_, _*_, _-_}
+use mathlib.Core.Path.{_≡_, refl, sym}
+use mathlib.Core.Bool.{true, _&&_}
+use mathlib.Core.Logic.{inl, inr}
+use mathlib.Core.List.{List, [], _∷_}
+use native.Mathlib.Omega.{arith}
+use borrow.Author.Tests.{eqb-true}
+use lib.Dec.{eqb}
+use lib.ListN.{length, replicate, replicate-append-replicate}
+use Rattle.cuckoo.specs.Graph.{settle, seated, stash, occupant, slot-key, slot-next}
+use Rattle.cuckoo.specs.Sets.{none, test, and-true}
+use Rattle.tabulation.specs.Refusal.{done}
+use Rattle.layout.specs.Layout.{Params, ValidSet, slot-width, words-length, sizes-in-range, stash-of, fits, slot-words, image}
+use Rattle.layout.specs.Answers.{fresh-refusal, fresh-words}
+use Rattle.layout.specs.Image.{le-fits}
+
+pub empty-valid : ValidSet []
+empty-valid = record { asc = none; solid = λ c i. elim i [ ] }
+
+module _ (P : Params) where
+  pub empty-stash : stash-of P [] ≡ []
+  unfolding stash
+  empty-stash = refl
+
+  pub empty-fits : fits P [] ≡ true
+  unfolding fits stash
+  empty-fits = le-fits P [] (omega arith)
+
+  -- no slot holds a key
+  empty-slots : (v n : ℕ) → slot-words P [] v n ≡ replicate (slot-width * n) 0
+  unfolding slot-words slot-key slot-next occupant seated settle
+  empty-slots v zero = refl
+  empty-slots v (suc n) = let e : slot-width * suc n ≡ suc (suc (slot-width * n)) = omega arith in rw (e, empty-slots (suc v) n)
+
+  -- "r, s and zeros"
+  pub empty-image : image P [] ≡ P .slots ∷ P .places ∷ replicate (words-length (P .slots) (P .places) - 2) 0
+  unfolding image stash
+  empty-image =
+      let r = P .slots in
+      let s = P .places in
+      let e : words-length r s - 2 ≡ suc (suc (slot-width * (r + r) + (s - 0))) = omega arith in
+      rw (e, empty-slots 0 (r + r), replicate-append-replicate)
+
+-- an accepted call lays the image of the empty set
+module _ (P : Params) (ws : List ℕ) (accepted : fresh-refusal (length ws) (P .slots) (P .places) ≡ done) where
+  pub fresh-sizes : (sizes-in-range (P .slots) (P .places) ≡ true) × (length ws ≡ words-length (P .slots) (P .places))
+  unfolding fresh-refusal
+  fresh-sizes = elim (test (sizes-in-range (P .slots) (P .places) && eqb (length ws) (words-length (P .slots) (P .places)))) [
+    | inl e ↦
+        let p = and-true (sizes-in-range (P .slots) (P .places)) (eqb (length ws) (words-length (P .slots) (P .places))) e in
+        (p .0, eqb-true (length ws) (words-length (P .slots) (P .places)) (p .1))
+    | inr e ↦ absurd (let z : _≡_ {A = ℕ} 2 0 = rw e at accepted in omega arith)
+  ]
+
+  pub fresh-image : fresh-words ws (P .slots) (P .places) ≡ image P []
+  unfolding fresh-words
+  fresh-image = rw (accepted, fresh-sizes .1) (sym (empty-image P))

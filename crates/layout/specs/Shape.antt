@@ -1,0 +1,75 @@
+-- What the shape of words means, as facts about numbers: for callers, which use these laws and not the text of `shaped`.
+use Prim.Native.Nat.{ℕ, _+_, _≤_, _<_}
+use mathlib.Core.Path.{_≡_, refl}
+use mathlib.Core.Bool.{Bool, true, false, not, cond, _&&_, false≢true}
+use mathlib.Core.List.{List}
+use native.Mathlib.Omega.{arith}
+use borrow.Author.Tests.{leb-true, eqb-true, le-leb, eq-eqb, ltb-false}
+use lib.Dec.{leb, ltb}
+use lib.ListN.{length, drop, length-drop}
+use lib.Seq.{take-all}
+use Rattle.tabulation.specs.Hash.{slots-in-range, max-slots, in-range-pos, in-range-max, range-in}
+use Rattle.layout.specs.Layout.{header-length, key-at, slots-of, places-of, stash-count, max-places, sizes-in-range, shaped, words-length, stash-at, stash-part}
+use Rattle.layout.specs.Answers.{view-refusal}
+
+and-true : (p q : Bool) → (p && q) ≡ true → (p ≡ true) × (q ≡ true)
+and-true true q e = (refl, e)
+and-true false q e = absurd (false≢true e)
+
+-- r and s are in their ranges
+pub record Sized (r s : ℕ) : Type 0 where
+  pub some : 0 < r
+  pub most : r ≤ max-slots
+  pub few : s ≤ max-places
+
+pub sized : (r s : ℕ) → sizes-in-range r s ≡ true → Sized r s
+unfolding sizes-in-range
+sized r s e =
+    let p = and-true (slots-in-range r) _ e in
+    record { some = in-range-pos r (p .0); most = in-range-max r (p .0); few = leb-true s max-places (p .1) }
+
+pub sized-true : (r s : ℕ) → Sized r s → sizes-in-range r s ≡ true
+unfolding sizes-in-range
+sized-true r s z = rw (range-in r (z .some) (z .most)) (le-leb s max-places (z .few))
+
+-- the words have the length that their heading tells, and its sizes are in their ranges
+pub record Shaped (ws : List ℕ) : Type 0 where
+  pub sizes : Sized (slots-of ws) (places-of ws)
+  pub size : length ws ≡ words-length (slots-of ws) (places-of ws)
+
+pub shape : (ws : List ℕ) → shaped ws ≡ true → Shaped ws
+unfolding shaped
+shape ws e =
+    let p = and-true (leb header-length (length ws) && sizes-in-range (slots-of ws) (places-of ws)) _ e in
+    let q = and-true (leb header-length (length ws)) _ (p .0) in
+    record { sizes = sized _ _ (q .1); size = eqb-true (length ws) _ (p .1) }
+
+pub shape-true : (ws : List ℕ) → Shaped ws → shaped ws ≡ true
+unfolding shaped
+shape-true ws h =
+    rw (le-leb header-length (length ws) (omega arith), sized-true (slots-of ws) (places-of ws) (h .sizes))
+    (eq-eqb (length ws) (words-length (slots-of ws) (places-of ws)) (h .size))
+
+-- the stash is all that comes after the slots
+pub stash-rest : (ws : List ℕ) → Shaped ws → stash-part ws ≡ drop (stash-at (slots-of ws)) ws
+stash-rest ws h =
+    let l : length (drop (stash-at (slots-of ws)) ws) ≤ places-of ws = simp length-drop (omega arith) in
+    take-all (places-of ws) (drop (stash-at (slots-of ws)) ws) l
+
+-- a view that is not refused
+pub record Viewed (ws : List ℕ) : Type 0 where
+  pub shape : Shaped ws
+  pub filled : stash-count ws ≤ places-of ws
+
+pub viewed : (ws : List ℕ) → view-refusal ws ≡ 0 → Viewed ws
+unfolding view-refusal
+viewed ws = go (shaped ws) (ltb (places-of ws) (stash-count ws)) refl refl
+  where
+    go : (p q : Bool) → shaped ws ≡ p → ltb (places-of ws) (stash-count ws) ≡ q → _≡_ {A = ℕ} (cond (not p) 2 (cond q 4 0)) 0 → Viewed ws
+    go true true e f h = absurd (omega arith)
+    go true false e f h = record { shape = shape ws e; filled = ltb-false _ _ f }
+    go false q e f h = absurd (omega arith)
+
+-- a slot's words lie inside
+pub slot-inside : (ws : List ℕ) → Shaped ws → (v : ℕ) → v < slots-of ws + slots-of ws → key-at v + 1 < length ws
+slot-inside ws h v l = omega arith

@@ -1,0 +1,141 @@
+-- K12 for every tabulation and all keys: with one slot to a table and no stash, two keys fit, the smaller in table 0, and three do not.
+-- Assumes nothing.
+use Prim.Native.Nat.{ℕ, _+_, _<_}
+use mathlib.Core.Path.{_≡_, refl, _∙_}
+use mathlib.Core.Bool.{true, false, and-false}
+use mathlib.Core.Logic.{inl, inr}
+use mathlib.Core.List.{List, [], _∷_, List·Memᴰ·head as here, List·Memᴰ·tail as there}
+use native.Mathlib.Nat.{mod-one}
+use native.Mathlib.Omega.{arith}
+use borrow.Author.Tests.{eq-eqb, ne-eqb, lt-ltb, le-ltb, leb-true}
+use lib.Dec.{eqb, leb}
+use lib.ListN.{length}
+use Rattle.cuckoo.specs.Graph.{without, label, joined, component, onCycle, cyclic, spare, settle, seated, stash, root, sits, occupant, next, slot-key, slot-next}
+use Rattle.cuckoo.specs.Sets.{test, Asc, none, some}
+use Rattle.cuckoo.specs.Placement.{fits-bound}
+use Rattle.tabulation.specs.Hash.{hash}
+use Rattle.tabulation.specs.Slots.{slot-0, slot-1, slot-0-lt, slot-1-lt}
+use Rattle.layout.specs.Layout.{Params, family, fits, image}
+use Rattle.layout.specs.Ends.{Known, fits-by, slot-words-by, image-by, fits-known, image-known}
+
+-- more keys than slots and stash places do not fit
+crowded : (P : Params) {S : List ℕ} → Asc S → 0 < P .slots → P .slots + P .slots + P .places < length S → fits P S ≡ false
+unfolding fits
+crowded P {S} h pos more =
+    let F = family P in
+    let a = slot-0 F in
+    let b = slot-1 F in
+    elim (test (leb (length (stash a b S)) (P .places))) [
+      | inl t ↦ absurd (omega (
+        arith,
+        fits-bound a b h (P .slots + P .slots) (λ c i. omega (arith, slot-0-lt F pos c)) (λ c i. slot-1-lt F pos c)
+            (leb-true (length (stash a b S)) (P .places) t),
+      ))
+      | inr t ↦ t
+    ]
+
+-- a smaller key in front
+above : {c d : ℕ} {R : List ℕ} → c < d → Asc (d ∷ R) → Asc (c ∷ d ∷ R)
+above {c} {d} {R} l (some h k) = some {c = c} {R = d ∷ R} (λ x i. elim i [ here q ↦ omega arith | there j ↦ omega (arith, h x j) ]) (some h k)
+
+-- the ends of every key where a table has one slot
+abbrev left : ℕ → ℕ
+left c = 0
+
+abbrev right : ℕ → ℕ
+right c = 1
+
+module _ (tabulation : List ℕ) where
+  -- the smallest dictionary: r = 1, s = 0
+  abbrev pub smallest : Params
+  smallest = record { tabulation = tabulation; slots = 1; places = 0 }
+
+  -- every key has slot 0 in table 0 and slot 1 in table 1, whatever the tabulation
+  one-slot : (S : List ℕ) → Known smallest left right S
+  unfolding hash
+  one-slot S = record { at-0 = λ c i. mod-one _; at-1 = λ c i. rw mod-one }
+
+-- one key is no cycle, so a key with one other is not spare
+out-lone : (c : ℕ) → without c (c ∷ []) ≡ []
+unfolding without
+out-lone c = rw (eq-eqb c c refl)
+
+lone : (c : ℕ) → onCycle left right (c ∷ []) c ≡ false
+unfolding onCycle joined label
+lone c = rw (out-lone c, and-false)
+
+not-spare : (R : List ℕ) (c d : ℕ) → without c R ≡ d ∷ [] → spare left right R c ≡ false
+unfolding spare cyclic component joined label
+not-spare R c d e = rw (e, lone d, and-false)
+
+-- the set {c, d}
+module _ (c d : ℕ) (l : c < d) where
+  c-c : eqb c c ≡ true
+  c-c = eq-eqb c c refl
+
+  d-d : eqb d d ≡ true
+  d-d = eq-eqb d d refl
+
+  c-d : eqb c d ≡ false
+  c-d = ne-eqb c d (omega arith)
+
+  d-c : eqb d c ≡ false
+  d-c = ne-eqb d c (omega arith)
+
+  out-c : without c (c ∷ d ∷ []) ≡ d ∷ []
+  unfolding without
+  out-c = rw (c-c, c-d)
+
+  out-d : without d (c ∷ d ∷ []) ≡ c ∷ []
+  unfolding without
+  out-d = rw (d-d, d-c)
+
+  both-seated : seated left right (c ∷ d ∷ []) ≡ c ∷ d ∷ []
+  unfolding seated settle
+  both-seated = rw (settle, not-spare (c ∷ d ∷ []) c d out-c, not-spare (c ∷ d ∷ []) d c out-d)
+
+  no-stash : stash left right (c ∷ d ∷ []) ≡ []
+  unfolding stash
+  no-stash = rw (both-seated, c-c, d-d, d-c)
+
+  cycle : onCycle left right (c ∷ d ∷ []) c ≡ true
+  unfolding onCycle joined label
+  cycle = rw (c-c, out-c)
+
+  root-c : root left right (c ∷ d ∷ []) 0 ≡ c
+  unfolding root component joined label
+  root-c = rw cycle
+
+  in-0 : occupant left right (c ∷ d ∷ []) 0 ≡ c
+  unfolding occupant sits
+  in-0 = rw (root-c, cycle, c-c)
+
+  in-1 : occupant left right (c ∷ d ∷ []) 1 ≡ d
+  unfolding occupant sits joined label
+  in-1 = rw (root-c, cycle, c-c, d-c, out-c, out-lone d)
+
+  next-c : next left right (c ∷ d ∷ []) c ≡ d
+  unfolding next component joined label
+  next-c = rw (le-ltb c c (omega arith), lt-ltb c d l)
+
+  next-d : next left right (c ∷ d ∷ []) d ≡ c
+  unfolding next component joined label
+  next-d = rw (le-ltb d c (omega arith), le-ltb d d (omega arith))
+
+  two-words : 0 < c → image-by left right 1 0 (c ∷ d ∷ []) ≡ 1 ∷ 0 ∷ 2 ∷ 0 ∷ c ∷ d ∷ d ∷ c ∷ []
+  unfolding image-by slot-words-by slot-key slot-next
+  two-words h = rw (no-stash, both-seated, in-0, in-1, ne-eqb c 0 (omega arith), ne-eqb d 0 (omega arith), next-c, next-d)
+
+-- K12, whatever the tabulation (any list at all)
+module _ (tabulation : List ℕ) where
+  -- "two cards fit, the smaller in rack 0": r, s, two keys, none stashed; c and its next d in table 0, d and its next c in table 1
+  pub two-image : (c d : ℕ) → 0 < c → c < d → image (smallest tabulation) (c ∷ d ∷ []) ≡ 1 ∷ 0 ∷ 2 ∷ 0 ∷ c ∷ d ∷ d ∷ c ∷ []
+  two-image c d h l = image-known (smallest tabulation) (one-slot tabulation (c ∷ d ∷ [])) ∙ two-words c d l h
+
+  pub two-fit : (c d : ℕ) → c < d → fits (smallest tabulation) (c ∷ d ∷ []) ≡ true
+  unfolding fits-by
+  two-fit c d l = fits-known (smallest tabulation) (one-slot tabulation (c ∷ d ∷ [])) ∙ rw (no-stash c d l)
+
+  -- "a third is refused 8"
+  pub three-full : (c d e : ℕ) → c < d → d < e → fits (smallest tabulation) (c ∷ d ∷ e ∷ []) ≡ false
+  three-full c d e l k = crowded (smallest tabulation) (above l (above k (some (λ x i. elim i [ ]) none))) (omega arith) (omega arith)

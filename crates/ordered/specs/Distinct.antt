@@ -1,0 +1,128 @@
+-- `distinct` has the same members, and of a sorted list it is a set of keys: strictly ascending. Assumes nothing.
+use Prim.Native.Nat.{ℕ, suc, _+_, _≤_, _<_}
+use mathlib.Core.Path.{_≡_, refl, _∙_}
+use mathlib.Core.Logic.{inl, inr}
+use mathlib.Core.List.{List·Memᴰ·head as here, List·Memᴰ·tail as there, List, [], _∷_, _++_, append-assoc}
+use native.Mathlib.Nat.{le-refl}
+use native.Mathlib.Numerals.{add-one}
+use native.Mathlib.Omega.{arith}
+use borrow.Author.Tests.{eq-eqb, ne-eqb}
+use lib.ListN.{length, getD, set, take, drop, drop-of-length-le}
+use lib.Seq.{take-suc-set, drop-set-lt, drop-cons}
+use Rattle.cuckoo.specs.Sets.{Sub, Asc, asc-ext, eq?}
+use Rattle.ordered.specs.Keys.{sorted, distinct}
+use Rattle.ordered.specs.Sorting.{Sorted, sorted-sorted, sorted-in, in-sorted}
+
+-- one element of the list at a time
+distinct-double : (x y : ℕ) (ys : List ℕ) → x ≡ y → distinct (x ∷ y ∷ ys) ≡ distinct (y ∷ ys)
+unfolding distinct
+distinct-double x y ys e = rw (eq-eqb x y e)
+
+distinct-new : (x y : ℕ) (ys : List ℕ) → (x ≡ y → ⊥) → distinct (x ∷ y ∷ ys) ≡ x ∷ distinct (y ∷ ys)
+unfolding distinct
+distinct-new x y ys ne = rw (ne-eqb x y ne)
+
+pub distinct-in : (xs : List ℕ) → Sub (distinct xs) xs
+unfolding distinct
+distinct-in [] d h = h
+distinct-in (x ∷ []) d h = h
+distinct-in (x ∷ y ∷ ys) d h =
+    elim (eq? x y) [
+      | inl e ↦ there (distinct-in (y ∷ ys) d (rw (distinct-double x y ys e) at h))
+      | inr ne ↦ elim (rw (distinct-new x y ys ne) at h) [ here q ↦ here q | there i ↦ there (distinct-in (y ∷ ys) d i) ]
+    ]
+
+pub in-distinct : (xs : List ℕ) → Sub xs (distinct xs)
+unfolding distinct
+in-distinct [] d h = h
+in-distinct (x ∷ []) d h = h
+in-distinct (x ∷ y ∷ ys) d h =
+    elim (eq? x y) [
+      | inl e ↦ rw (distinct-double x y ys e) (in-distinct (y ∷ ys) d (elim h [ here q ↦ here (q ∙ e) | there i ↦ i ]))
+      | inr ne ↦ rw (distinct-new x y ys ne) (elim h [ here q ↦ here q | there i ↦ there (in-distinct (y ∷ ys) d i) ])
+    ]
+
+pub distinct-length : (xs : List ℕ) → length (distinct xs) ≤ length xs
+unfolding distinct
+distinct-length [] = le-refl _
+distinct-length (x ∷ []) = le-refl _
+distinct-length (x ∷ y ∷ ys) =
+    elim (eq? x y) [
+      | inl e ↦ rw (distinct-double x y ys e) (omega (arith, distinct-length (y ∷ ys)))
+      | inr ne ↦ rw (distinct-new x y ys ne) (omega (arith, distinct-length (y ∷ ys)))
+    ]
+
+pub distinct-asc : {xs : List ℕ} → Sorted xs → Asc (distinct xs)
+unfolding distinct
+distinct-asc Sorted.none = Asc.none
+distinct-asc (Sorted.some {c = x} {R = []} h k) = Asc.some {c = x} {R = []} (λ d i. elim i [ ]) Asc.none
+distinct-asc (Sorted.some {c = x} {R = y ∷ ys} h (Sorted.some g k)) =
+    let r = distinct-asc (Sorted.some g k) in
+    elim (eq? x y) [
+      | inl e ↦ rw (distinct-double x y ys e) r
+      | inr ne ↦ rw (distinct-new x y ys ne) (Asc.some {c = x} {R = distinct (y ∷ ys)} (λ d i.
+          let l : x < y = omega (arith, h y (here refl)) in
+          elim (distinct-in (y ∷ ys) d i) [ here q ↦ omega arith | there j ↦ omega (arith, g d j) ]) r)
+    ]
+
+-- of any keys, the set of them
+pub distinct-sorted-asc : (xs : List ℕ) → Asc (distinct (sorted xs))
+distinct-sorted-asc xs = distinct-asc (sorted-sorted xs)
+
+pub distinct-sorted-in : (xs : List ℕ) → Sub (distinct (sorted xs)) xs
+distinct-sorted-in xs d h = sorted-in xs d (distinct-in (sorted xs) d h)
+
+pub in-distinct-sorted : (xs : List ℕ) → Sub xs (distinct (sorted xs))
+in-distinct-sorted xs d h = in-distinct (sorted xs) d (in-sorted xs d h)
+
+pub distinct-sorted-only : (xs S : List ℕ) → Asc S → Sub S xs → Sub xs S → distinct (sorted xs) ≡ S
+distinct-sorted-only xs S h s t =
+    asc-ext (distinct (sorted xs)) S (distinct-sorted-asc xs) h
+    (λ d i. t d (distinct-sorted-in xs d i))
+    (λ d i. in-distinct-sorted xs d (s d i))
+
+pub distinct-none : (xs : List ℕ) → length xs ≡ 0 → distinct xs ≡ []
+unfolding distinct
+distinct-none [] e = refl
+distinct-none (x ∷ xs) e = absurd (omega arith)
+
+-- the loop of `drop_doubles`: the keys that it has kept, and what is kept of the rest
+unfoldable pub keeping : List ℕ → ℕ → ℕ → List ℕ
+keeping s n i = take n s ++ distinct (drop i s)
+
+module _ (s : List ℕ) (n i : ℕ) where
+  pub keeping-double : i + 1 < length s → getD s i 0 ≡ getD s (i + 1) 0 → keeping s n i ≡ keeping s n (i + 1)
+  unfolding keeping
+  keeping-double h e =
+      let a : i < length s = omega arith in
+      let b : suc i < length s = omega arith in
+      let e′ = rw (add-one i) at e in
+      simp (add-one, drop-cons s i 0 a, drop-cons s (suc i) 0 b, distinct-double (getD s i 0) (getD s (suc i) 0) (drop (suc (suc i)) s) e′)
+
+  pub keeping-new :
+      n ≤ i → i + 1 < length s → (getD s i 0 ≡ getD s (i + 1) 0 → ⊥)
+      → keeping s n i ≡ keeping (set s n (getD s i 0)) (n + 1) (i + 1)
+  unfolding keeping
+  keeping-new l h ne =
+      let a : i < length s = omega arith in
+      let b : suc i < length s = omega arith in
+      let d : n < length s = omega arith in
+      let e : n < suc i = omega arith in
+      let ne′ : getD s i 0 ≡ getD s (suc i) 0 → ⊥ = rw (add-one i) at ne in
+      simp (
+        add-one,
+        take-suc-set,
+        drop-set-lt,
+        drop-cons s i 0 a,
+        drop-cons s (suc i) 0 b,
+        append-assoc,
+        distinct-new (getD s i 0) (getD s (suc i) 0) (drop (suc (suc i)) s) ne′,
+      )
+
+  pub keeping-last : n ≤ i → i + 1 ≡ length s → keeping s n i ≡ take (n + 1) (set s n (getD s i 0))
+  unfolding keeping distinct
+  keeping-last l h =
+      let a : i < length s = omega arith in
+      let b : length s ≤ suc i = omega arith in
+      let d : n < length s = omega arith in
+      simp (add-one, take-suc-set, drop-cons s i 0 a, drop-of-length-le s b)
