@@ -15,11 +15,7 @@ pub fn singletons(words: &mut [u32])
     ensures { λ _. ⌜ now (words .exit) ≡ singletons-of (length (now (words .entry))) ⌝ }
 {
     let alone = words.len() as u32 + 1;
-    let mut i = 0;
-    while i < words.len() {
-        words[i] = alone;
-        i += 1;
-    }
+    words::fill(words, alone);
 }
 
 // The representative of a slot's set (`find`).

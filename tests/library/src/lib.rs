@@ -28,3 +28,47 @@ pub fn hashes(tabulation: &[u16], r: u32, key: u32, old: [u32; 2]) -> (u32, [u32
     };
     (answer, [table0, table1])
 }
+
+extern "C" {
+    fn pinorange_lookup(
+        tabulation: *const u16,
+        tabulation_length: usize,
+        words: *const u32,
+        words_length: usize,
+        key: u32,
+        present: *mut u32,
+    ) -> u32;
+
+    fn pinorange_stash(
+        words: *const u32,
+        words_length: usize,
+        offset: *mut u32,
+        length: *mut u32,
+    ) -> u32;
+}
+
+/// What `pinorange_lookup` answers, and what its out-parameter holds after it when it held `old` before.
+pub fn lookup(tabulation: &[u16], words: &[u32], key: u32, old: u32) -> (u32, u32) {
+    let mut present = old;
+    // Safe: both slices are valid for their lengths, and the call is proved to read nothing else and to write only `present`.
+    let answer = unsafe {
+        pinorange_lookup(
+            tabulation.as_ptr(),
+            tabulation.len(),
+            words.as_ptr(),
+            words.len(),
+            key,
+            &mut present,
+        )
+    };
+    (answer, present)
+}
+
+/// What `pinorange_stash` answers, and the stretch of the words that it names.
+pub fn stash(words: &[u32]) -> (u32, &[u32]) {
+    let (mut offset, mut length) = (u32::MAX, u32::MAX);
+    // Safe: the slice is valid for its length, and the call is proved to read nothing else and to write only the two numbers.
+    let answer =
+        unsafe { pinorange_stash(words.as_ptr(), words.len(), &mut offset, &mut length) };
+    (answer, &words[offset as usize..][..length as usize])
+}

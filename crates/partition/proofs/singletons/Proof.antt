@@ -1,73 +1,24 @@
--- `partition::singletons` meets its contract: after i turns the first i words are n + 1.
-use Prim.Native.Nat.{_≤_, _-_, _+_}
-use mathlib.Core.Path.{_≡_, _∙_}
-use mathlib.Core.List.{_++_, append-nil}
-use native.Mathlib.Omega.{arith}
-use borrow.Author.Needs.{needs}
-use borrow.Author.Fill.{fill-more}
-use lib.ListN.{length, replicate, drop}
-use lib.Seq.{drop-length}
+-- `partition::singletons` meets its contract: it fills the words with n + 1.
 use Rattle.partition.specs.Words.{singletons-of}
+use borrow.Author.Needs.{needs}
 use Rattle.partition.proofs.singletons.Statement.{statement}
 use Rattle.partition.proofs.singletons.Tie as tie
 
-abbrev Inv-loop : tie.InvT-loop
-Inv-loop words₀ alone i₀ words i = (i ≤ length words₀) × (length words ≡ length words₀) × (words ≡ replicate i alone ++ drop i words₀)
-
-abbrev μ-loop : tie.MeasureT-loop
-μ-loop words₀ alone i₀ words i = length words₀ - i
-
-cast-alone : tie.Need-cast-alone Inv-loop μ-loop
+cast-alone : tie.Need-cast-alone
 cast-alone c = search needs
 
-add-alone : tie.Need-add-alone Inv-loop μ-loop
+add-alone : tie.Need-add-alone
 add-alone c = search needs
 
-loop-holds : tie.Need-loop-holds Inv-loop μ-loop
-loop-holds c = search needs
+fill-requires : tie.Need-fill-requires
+fill-requires c κs = search needs
 
-mul-words : tie.Need-mul-words Inv-loop μ-loop
-mul-words c = search needs
-
-slice-write-words : tie.Need-slice-write-words Inv-loop μ-loop
-slice-write-words c = search needs
-
-add-i : tie.Need-add-i Inv-loop μ-loop
-add-i c = search needs
-
-loop-less : tie.Need-loop-less Inv-loop μ-loop
-loop-less c = search needs
-
-loop-again : tie.Need-loop-again Inv-loop μ-loop
-loop-again c =
-    let l = c .before .loop in
-    let words₀ = c .before .before .args .words .now in
-    (search needs, search needs, rw (l .inv .2) (fill-more (l .i) (length words₀ + 1) words₀ (omega arith)))
-
-same-length : tie.Need-same-length Inv-loop μ-loop
+same-length : tie.Need-same-length
 same-length c = search needs
 
-returns : tie.Need-returns Inv-loop μ-loop
+returns : tie.Need-returns
 unfolding singletons-of
-returns c =
-    let l = c .before .loop in
-    let words₀ = c .before .before .args .words .now in
-    let e : l .i ≡ length words₀ = omega arith in
-    l .inv .2 ∙ simp (e, drop-length, append-nil)
+returns c = c .before .before .fill .ensures
 
 pub singletons-spec : {M : Type 1} → statement M
-singletons-spec =
-    tie.close
-    (tie.spec
-    Inv-loop
-    μ-loop
-    cast-alone
-    add-alone
-    loop-holds
-    mul-words
-    slice-write-words
-    add-i
-    loop-less
-    loop-again
-    same-length
-    returns)
+singletons-spec = tie.close (tie.spec cast-alone add-alone fill-requires same-length returns)

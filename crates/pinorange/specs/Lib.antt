@@ -1,0 +1,2 @@
+-- What the exported calls write to their out-parameters.
+pub mod Out

@@ -1,0 +1,49 @@
+// What other languages link: every call of the dictionary under a plain C name. A slice crosses as a pointer and a length; an enum or a part of a slice
+// cannot cross, so a call gives document 01's number and writes the rest to out-parameters. What these hold after a refusal is part of each promise.
+ghost use mathlib.Core.Path.{_≡_};
+ghost use Rattle.layout.specs.Answers.{lookup-refusal, view-refusal};
+ghost use Rattle.pinorange.specs.Out.{present-out, offset-out, length-out};
+use layout::Found;
+
+// Whether the key is in the dictionary. Done, `present` is 1 or 0; refused, it stays as it was.
+#[no_mangle]
+pub extern "C" fn pinorange_lookup(
+    tabulation: &[u16],
+    words: &[u32],
+    key: u32,
+    present: &mut u32,
+) -> u32
+    ensures numbered { λ n. ⌜ n ≡ lookup-refusal (now (tabulation .entry)) (now (words .entry)) key ⌝ }
+    ensures valued { λ n. ⌜ now (present .exit) ≡ present-out (now (tabulation .entry)) (now (words .entry)) key (now (present .entry)) ⌝ }
+{
+    let found = layout::lookup(tabulation, words, key);
+    match found {
+        Found::Present => {
+            *present = 1;
+            0
+        }
+        Found::Absent => {
+            *present = 0;
+            0
+        }
+        Found::Refused(n) => n,
+    }
+}
+
+// The stash view, as the offset and the length of the filled stretch of the stash in the lent words. Refused, both are 0: an empty stretch.
+#[no_mangle]
+pub extern "C" fn pinorange_stash(words: &[u32], offset: &mut u32, length: &mut u32) -> u32
+    ensures numbered { λ n. ⌜ n ≡ view-refusal (now (words .entry)) ⌝ }
+    ensures placed { λ n. ⌜ now (offset .exit) ≡ offset-out (now (words .entry)) ⌝ }
+    ensures measured { λ n. ⌜ now (length .exit) ≡ length-out (now (words .entry)) ⌝ }
+{
+    let n = layout::stash_refusal(words);
+    if n != 0 {
+        *offset = 0;
+        *length = 0;
+        return n;
+    }
+    *offset = 4 + 4 * words[0];
+    *length = words[3];
+    0
+}
