@@ -1,8 +1,13 @@
 // What other languages link: every call of the dictionary under a plain C name. A slice crosses as a pointer and a length; an enum or a part of a slice
 // cannot cross, so a call gives document 01's number and writes the rest to out-parameters. What these hold after a refusal is part of each promise.
 ghost use mathlib.Core.Path.{_≡_};
-ghost use Rattle.layout.specs.Answers.{lookup-refusal, view-refusal};
+ghost use lib.ListN.{length};
+ghost use Rattle.layout.specs.Answers.{lookup-refusal, view-refusal, fresh-refusal, fresh-words};
+ghost use Rattle.dictionary.specs.Outcome.{change-outcome};
+ghost use Rattle.dictionary.specs.Counters.{counted};
 ghost use Rattle.pinorange.specs.Out.{present-out, offset-out, length-out};
+use dictionary::Change;
+use dictionary::Counters;
 use layout::Found;
 
 // Whether the key is in the dictionary. Done, `present` is 1 or 0; refused, it stays as it was.
@@ -46,4 +51,57 @@ pub extern "C" fn pinorange_stash(words: &[u32], offset: &mut u32, length: &mut 
     *offset = 4 + 4 * words[0];
     *length = words[3];
     0
+}
+
+// Lays fresh words, and moves the counters on. They are lent by reference and moved on in place; the covered call takes them by value and gives them back.
+#[no_mangle]
+pub extern "C" fn pinorange_init(words: &mut [u32], r: u32, s: u32, counters: &mut Counters) -> u32
+    ensures answered { λ n. ⌜ n ≡ fresh-refusal (length (now (words .entry))) r s ⌝ }
+    ensures laid { λ n. ⌜ now (words .exit) ≡ fresh-words (now (words .entry)) r s ⌝ }
+    ensures moved { λ n. ⌜ now (counters .exit) ≡ counted (now (counters .entry)) (fresh-refusal (length (now (words .entry))) r s) ⌝ }
+{
+    let old = *counters;
+    let new = dictionary::init_counted(words, r, s, old);
+    *counters = new.counters;
+    new.answer
+}
+
+// Inserts a key, and moves the counters on.
+#[no_mangle]
+pub extern "C" fn pinorange_insert(
+    tabulation: &[u16],
+    words: &mut [u32],
+    scratch: &mut [u32],
+    counters: &mut Counters,
+    key: u32,
+) -> u32
+    ensures answered { λ n. ⌜ n ≡ change-outcome Change.Insert (now (tabulation .entry)) (now (words .entry)) (now (scratch .entry)) key .answer ⌝ }
+    ensures changed { λ n. ⌜ now (words .exit) ≡ change-outcome Change.Insert (now (tabulation .entry)) (now (words .entry)) (now (scratch .entry)) key .words ⌝ }
+    ensures cleared { λ n. ⌜ now (scratch .exit) ≡ change-outcome Change.Insert (now (tabulation .entry)) (now (words .entry)) (now (scratch .entry)) key .scratch ⌝ }
+    ensures moved { λ n. ⌜ now (counters .exit) ≡ counted (now (counters .entry)) (change-outcome Change.Insert (now (tabulation .entry)) (now (words .entry)) (now (scratch .entry)) key .answer) ⌝ }
+{
+    let old = *counters;
+    let new = dictionary::update_counted(Change::Insert, tabulation, words, scratch, key, old);
+    *counters = new.counters;
+    new.answer
+}
+
+// Removes a key, and moves the counters on.
+#[no_mangle]
+pub extern "C" fn pinorange_remove(
+    tabulation: &[u16],
+    words: &mut [u32],
+    scratch: &mut [u32],
+    counters: &mut Counters,
+    key: u32,
+) -> u32
+    ensures answered { λ n. ⌜ n ≡ change-outcome Change.Remove (now (tabulation .entry)) (now (words .entry)) (now (scratch .entry)) key .answer ⌝ }
+    ensures changed { λ n. ⌜ now (words .exit) ≡ change-outcome Change.Remove (now (tabulation .entry)) (now (words .entry)) (now (scratch .entry)) key .words ⌝ }
+    ensures cleared { λ n. ⌜ now (scratch .exit) ≡ change-outcome Change.Remove (now (tabulation .entry)) (now (words .entry)) (now (scratch .entry)) key .scratch ⌝ }
+    ensures moved { λ n. ⌜ now (counters .exit) ≡ counted (now (counters .entry)) (change-outcome Change.Remove (now (tabulation .entry)) (now (words .entry)) (now (scratch .entry)) key .answer) ⌝ }
+{
+    let old = *counters;
+    let new = dictionary::update_counted(Change::Remove, tabulation, words, scratch, key, old);
+    *counters = new.counters;
+    new.answer
 }

@@ -1,0 +1,47 @@
+-- `key::is_held` meets its contract, which is that of the one call on the held words.
+use Rattle.build.specs.Changed.{lent-held}
+use borrow.Author.Needs.{needs}
+use Rattle.build.proofs.key.is_held.Statement.{statement}
+use Rattle.build.proofs.key.is_held.Tie as tie
+
+held-start-requires : tie.Need-held-start-requires
+held-start-requires c κs = search needs
+
+next-start-requires : tie.Need-next-start-requires
+next-start-requires c κs = search needs
+
+mul-holds : tie.Need-mul-holds
+mul-holds c = search needs
+
+sub-holds : tie.Need-sub-holds
+sub-holds c = search needs
+
+part-holds-start : tie.Need-part-holds-start
+part-holds-start c = search needs
+
+part-holds-end : tie.Need-part-holds-end
+part-holds-end c = search needs
+
+holds-requires : tie.Need-holds-requires
+holds-requires c κs = search needs
+
+returns : tie.Need-returns
+returns c =
+    let d3 = c .before .before .before in
+    let d6 = d3 .before .before .before in
+    let a = d6 .args in
+    rw (← lent-held (a .r) (a .s) (a .scratch .now) (d3 .held-start .result) (c .before .before .next-start .result) (d3 .held-start .ensures) (c .before .before .next-start .ensures))
+    (c .holds .ensures)
+
+pub is-held-spec : {M : Type 1} → statement M
+is-held-spec =
+    tie.close
+    (tie.spec
+    held-start-requires
+    next-start-requires
+    mul-holds
+    sub-holds
+    part-holds-start
+    part-holds-end
+    holds-requires
+    returns)

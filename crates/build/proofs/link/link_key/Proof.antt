@@ -1,0 +1,71 @@
+-- `build::link::link_key` meets its contract: what `ends_of` found of the key is the record `Found`, whose laws say the rest.
+use mathlib.Core.Path.{_∙_}
+use native.Mathlib.Omega.{arith}
+use borrow.Author.Needs.{needs}
+use Rattle.build.specs.LinkCode.{end-fits, one-marked, two-marked, ends-merge, within-sets, turned-sets, between-sets}
+use Rattle.build.proofs.link.link_key.Statement.{statement}
+use Rattle.build.proofs.link.link_key.Tie as tie
+
+ends-of-requires : tie.Need-ends-of-requires
+ends-of-requires c κs = search needs
+
+same-length : tie.Need-same-length
+same-length c = search needs
+
+returns : tie.Need-returns
+returns c =
+    let d = c .before .before in
+    let a = d .before .before .before .before .args in
+    let E = d .ends-of .ensures in
+    within-sets (a .s) (a .scratch .now) (omega arith) E (c .if1 .taken)
+
+smaller-end-requires : tie.Need-smaller-end-requires
+smaller-end-requires c κs =
+    let d = c .before .before .before in
+    let a = d .before .before .before .before .args in
+    let E = d .ends-of .ensures in
+    let K = d .before .before .before .before .pre .5 in
+    (search needs, search needs, search needs, one-marked E (omega arith) K, two-marked E (omega arith) K)
+
+reroot-held-requires : tie.Need-reroot-held-requires
+reroot-held-requires c κs =
+    let d = c .before .before .before .before .before in
+    let a = d .before .before .before .before .args in
+    let E = d .ends-of .ensures in
+    (search needs, search needs, search needs, search needs, search needs, end-fits E _ (c .before .smaller-end .ensures) (omega arith))
+
+unite-sets-requires : tie.Need-unite-sets-requires
+unite-sets-requires c κs =
+    let d = c .before .before .before .before .before .before .before .before .before in
+    let a = d .before .before .before .before .args in
+    let E = d .ends-of .ensures in
+    let K = d .before .before .before .before .pre .5 in
+    let same = turned-sets (a .s) (a .scratch .now) (omega arith) E _ _ (c .before .before .before .reroot-held .ensures) in
+    (search needs, search needs, search needs, rw same (ends-merge E (omega arith) K (c .before .before .before .before .before .before .before .if1 .left)))
+
+same-length-2 : tie.Need-same-length-2
+same-length-2 c = search needs
+
+returns-2 : tie.Need-returns-2
+returns-2 c =
+    let d = c .before .before .before .before .before .before .before .before .before .before .before .before in
+    let a = d .before .before .before .before .args in
+    let E = d .ends-of .ensures in
+    let turned = c .before .before .before .before .before .before .reroot-held .ensures in
+    let smaller = c .before .before .before .before .before .before .before .before .smaller-end .ensures in
+    let apart = c .before .before .before .before .before .before .before .before .before .before .if1 .left in
+    c .before .before .unite-sets .ensures
+    ∙ between-sets (a .s) (a .scratch .now) (omega arith) E _ _ turned apart smaller
+
+pub link-key-spec : {M : Type 1} → statement M
+link-key-spec =
+    tie.close
+    (tie.spec
+    ends-of-requires
+    same-length
+    returns
+    smaller-end-requires
+    reroot-held-requires
+    unite-sets-requires
+    same-length-2
+    returns-2)

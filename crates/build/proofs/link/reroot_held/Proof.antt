@@ -1,0 +1,54 @@
+-- `build::link::reroot_held` meets its contract: the held words are lent whole, and come back re-rooted.
+use mathlib.Core.Path.{_∙_}
+use native.Mathlib.Omega.{arith}
+use borrow.Author.Needs.{needs}
+use Rattle.build.specs.Lent.{held-lent, held-back}
+use Rattle.build.proofs.link.reroot_held.Statement.{statement}
+use Rattle.build.proofs.link.reroot_held.Tie as tie
+
+held-start-requires : tie.Need-held-start-requires
+held-start-requires c κs = search needs
+
+next-start-requires : tie.Need-next-start-requires
+next-start-requires c κs = search needs
+
+mul-reroot : tie.Need-mul-reroot
+mul-reroot c = search needs
+
+sub-reroot : tie.Need-sub-reroot
+sub-reroot c = search needs
+
+part-reroot-start : tie.Need-part-reroot-start
+part-reroot-start c = search needs
+
+part-reroot-end : tie.Need-part-reroot-end
+part-reroot-end c = search needs
+
+reroot-requires : tie.Need-reroot-requires
+reroot-requires c κs = search needs
+
+same-length : tie.Need-same-length
+same-length c = search needs
+
+returns : tie.Need-returns
+returns c =
+    let d = c .before .before .before .before in
+    let a = d .before .before .before .before .args in
+    let p = d .before .held-start .ensures in
+    let q = d .next-start .ensures in
+    let lent = held-lent (a .r) (a .s) (a .scratch .now) (omega arith) p q in
+    held-back (a .r) (a .s) (a .scratch .now) (omega arith) p q (c .before .before .reroot .last .0) ∙ rw (c .before .before .reroot .ensures, lent)
+
+pub reroot-held-spec : {M : Type 1} → statement M
+reroot-held-spec =
+    tie.close
+    (tie.spec
+    held-start-requires
+    next-start-requires
+    mul-reroot
+    sub-reroot
+    part-reroot-start
+    part-reroot-end
+    reroot-requires
+    same-length
+    returns)

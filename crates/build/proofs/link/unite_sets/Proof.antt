@@ -1,0 +1,58 @@
+-- `build::link::unite_sets` meets its contract: the sets are lent whole, and come back united.
+use mathlib.Core.Path.{_∙_}
+use native.Mathlib.Omega.{arith}
+use borrow.Author.Needs.{needs}
+use Rattle.build.specs.Lent.{sets-lent, sets-back}
+use Rattle.build.proofs.link.unite_sets.Statement.{statement}
+use Rattle.build.proofs.link.unite_sets.Tie as tie
+
+sets-start-requires : tie.Need-sets-start-requires
+sets-start-requires c κs = search needs
+
+stash-start-requires : tie.Need-stash-start-requires
+stash-start-requires c κs = search needs
+
+mul-unite : tie.Need-mul-unite
+mul-unite c = search needs
+
+sub-unite : tie.Need-sub-unite
+sub-unite c = search needs
+
+part-unite-start : tie.Need-part-unite-start
+part-unite-start c = search needs
+
+part-unite-end : tie.Need-part-unite-end
+part-unite-end c = search needs
+
+unite-requires : tie.Need-unite-requires
+unite-requires c κs =
+    let d = c .before in
+    let a = d .before .before .before .args in
+    let lent = sets-lent (a .r) (a .s) (a .scratch .now) (omega arith) (d .before .sets-start .ensures) (d .stash-start .ensures) in
+    (search needs, rw lent (d .before .before .before .pre .3))
+
+same-length : tie.Need-same-length
+same-length c = search needs
+
+returns : tie.Need-returns
+returns c =
+    let d = c .before .before .before .before in
+    let a = d .before .before .before .args in
+    let p = d .before .sets-start .ensures in
+    let q = d .stash-start .ensures in
+    let lent = sets-lent (a .r) (a .s) (a .scratch .now) (omega arith) p q in
+    sets-back (a .r) (a .s) (a .scratch .now) (omega arith) p q (c .before .before .unite .last .0) ∙ rw (c .before .before .unite .ensures, lent)
+
+pub unite-sets-spec : {M : Type 1} → statement M
+unite-sets-spec =
+    tie.close
+    (tie.spec
+    sets-start-requires
+    stash-start-requires
+    mul-unite
+    sub-unite
+    part-unite-start
+    part-unite-end
+    unite-requires
+    same-length
+    returns)

@@ -1,0 +1,204 @@
+-- The loops of step 5, one turn at a time, on the parts of scratch. The keys are passed from the last to the first, so a model has the keys from i on
+-- behind it. Assumes nothing.
+use Prim.Native.Nat.{ℕ, zero, suc, _+_, _-_, _≤_, _<_}
+use mathlib.Core.Path.{_≡_, refl, sym, _∙_, ap}
+use mathlib.Core.Bool.{true, false, cond}
+use mathlib.Core.List.{List, [], _∷_, List·Memᴰ as In, List·Memᴰ·head as here, List·Memᴰ·tail as there}
+use native.Mathlib.Omega.{arith}
+use lib.ListN.{length, getD, set, take, drop}
+use Rattle.tabulation.specs.Hash.{Family}
+use Rattle.tabulation.specs.Slots.{slot-0, slot-1}
+use Rattle.cuckoo.specs.Sets.{Asc, none, some}
+use Rattle.forest.specs.Oriented.{standing}
+use Rattle.forest.specs.Held.{holding, slot-count, slots-fit}
+use Rattle.build.specs.Held.{seat}
+use Rattle.build.specs.Slots.{each-slot, each-slot-none}
+use Rattle.build.specs.Labels.{Labels, label-of, label-fit}
+use Rattle.build.specs.Next.{Passing, last-seen, put-at, put-next, chained, blank, blanked, label-read}
+use Rattle.build.specs.Steps.{last-seen-none, chained-none, blank-empty, blank-filled}
+use Rattle.build.specs.Scratch.{Parts, with-sets, with-next}
+use Rattle.build.specs.Passes.{with-passing, blanked-parts}
+use Rattle.build.specs.NotesCode.{next-key, no-key}
+
+module _ (a b : ℕ → ℕ) (held : List ℕ) where
+  -- one key of the first pass
+  unfoldable pub see-key : List ℕ → ℕ → List ℕ → List ℕ
+  see-key labels c last = cond (standing a b held c) (set last (label-of a labels c) c) last
+
+  -- and of the second
+  unfoldable pub chain-key : ℕ → Passing → Passing
+  chain-key c Q =
+      let l = getD (Q .next) (seat a b held c) 0 in
+      cond (standing a b held c) (record { last = set (Q .last) l c; next = put-next a b held (Q .next) c (getD (Q .last) l 0) }) Q
+
+  last-seen-on : (labels : List ℕ) (c : ℕ) (R last : List ℕ) → last-seen a b held labels (c ∷ R) last ≡ see-key labels c (last-seen a b held labels R last)
+  unfolding last-seen see-key
+  last-seen-on labels c R last = refl
+
+  chained-on : (c : ℕ) (R : List ℕ) (P : Passing) → chained a b held (c ∷ R) P ≡ chain-key c (chained a b held R P)
+  unfolding chained chain-key
+  chained-on c R P = refl
+
+-- the passing whose words are in the parts
+abbrev pub passing-in : Parts → Passing
+passing-in P = record { last = P .sets; next = P .next }
+
+-- the parts with the next number x at the slot v, if the key c stands there
+abbrev pub slot-put : Parts → ℕ → ℕ → ℕ → Parts
+slot-put P c v x = with-next P (put-at (P .held) (P .next) c v x)
+
+-- what the second pass asks: the first n keys ascend, and the labels tell their components
+pub record Chainable (F : Family) (n : ℕ) (P : Parts) : Type 0 where
+  pub asc : Asc (take n (P .keys))
+  pub labels : Labels (slot-0 F) (slot-1 F) (take n (P .keys)) (slot-count F) (P .next)
+
+module _ (F : Family) (P : Parts) (c : ℕ) where
+  -- the words last seen, and the passing, after one key more
+  abbrev pub last-after : List ℕ
+  last-after = see-key (slot-0 F) (slot-1 F) (P .held) (P .next) c (P .sets)
+
+  abbrev pub passing-after : Passing
+  passing-after = chain-key (slot-0 F) (slot-1 F) (P .held) c (passing-in P)
+
+  -- the parts then
+  abbrev pub key-seen : Parts
+  key-seen = with-sets P last-after
+
+  abbrev pub key-chained : Parts
+  key-chained = with-passing P passing-after
+
+  -- the parts with the next number x at each slot where the key stands
+  abbrev pub key-put : ℕ → Parts
+  key-put x = with-next P (put-next (slot-0 F) (slot-1 F) (P .held) (P .next) c x)
+
+  -- a slot where the key stands, and the word there
+  abbrev pub seat-in : ℕ
+  seat-in = seat (slot-0 F) (slot-1 F) (P .held) c
+
+  abbrev pub label-at : ℕ
+  label-at = getD (P .next) seat-in 0
+
+  -- that word is still a label
+
+  pub record Readable : Type 0 where
+    pub fit : holding F (P .held) c ≡ true → label-at < slot-count F
+
+  -- the cases of a key
+  pub see-passed : holding F (P .held) c ≡ false → last-after ≡ P .sets
+  unfolding see-key
+  see-passed t = rw t
+
+  pub see-held : holding F (P .held) c ≡ true → last-after ≡ set (P .sets) (label-of (slot-0 F) (P .next) c) c
+  unfolding see-key
+  see-held t = rw t
+
+  pub chain-passed : holding F (P .held) c ≡ false → passing-after ≡ passing-in P
+  unfolding chain-key
+  chain-passed t = rw t
+
+  pub chain-held : holding F (P .held) c ≡ true
+      → passing-after
+      ≡ record { last = set (P .sets) label-at c; next = put-next (slot-0 F) (slot-1 F) (P .held) (P .next) c (getD (P .sets) label-at 0) }
+  unfolding chain-key
+  chain-held t = rw t
+
+-- a key of an ascending list is not among those after it
+in-drop : (i : ℕ) (S : List ℕ) {x : ℕ} → In x (drop i S) → In x S
+in-drop zero S m = m
+in-drop (suc i) [] m = m
+in-drop (suc i) (c ∷ S) m = there (in-drop i S m)
+
+asc-drop : (i : ℕ) {S : List ℕ} → Asc S → Asc (drop i S)
+asc-drop zero A = A
+asc-drop (suc i) none = none
+asc-drop (suc i) (some up A) = asc-drop i A
+
+asc-after : {c : ℕ} {R : List ℕ} → Asc (c ∷ R) → In c R → ⊥
+asc-after {c} (some up A) m = omega (arith, up c m)
+
+module _ (F : Family) (n : ℕ) (P₀ : Parts) where
+  abbrev S : List ℕ
+  S = take n (P₀ .keys)
+
+  -- what the first and the second pass have made when the keys from i on are behind them
+  abbrev pub seen-from : ℕ → Parts
+  seen-from i = with-sets P₀ (last-seen (slot-0 F) (slot-1 F) (P₀ .held) (P₀ .next) (drop i S) (P₀ .sets))
+
+  abbrev pub chained-from : ℕ → Parts
+  chained-from i = with-passing P₀ (chained (slot-0 F) (slot-1 F) (P₀ .held) (drop i S) (passing-in P₀))
+
+  pub seen-start : P₀ ≡ seen-from n
+  seen-start = rw (no-key n (P₀ .keys) n (omega arith), last-seen-none (slot-0 F) (slot-1 F) (P₀ .held) (P₀ .next) (P₀ .sets))
+
+  pub chained-start : P₀ ≡ chained-from n
+  chained-start = rw (no-key n (P₀ .keys) n (omega arith), chained-none (slot-0 F) (slot-1 F) (P₀ .held) (passing-in P₀))
+
+  module _ (long : n ≤ length (P₀ .keys)) (i : ℕ) (more : i < n) (c : ℕ) where
+    this : c ≡ getD (P₀ .keys) i 0 → drop i S ≡ c ∷ drop (i + 1) S
+    this e = rw e (next-key n (P₀ .keys) i long more)
+
+    pub seen-turn : {P Q : Parts} → P ≡ seen-from (i + 1) → c ≡ getD (P .keys) i 0 → Q ≡ key-seen F P c → Q ≡ seen-from i
+    seen-turn {P} e is turn =
+        let d = this (is ∙ ap (λ (Z : Parts). getD (Z .keys) i 0) e) in
+        turn ∙ ap (λ (Z : Parts). with-sets Z (last-after F Z c)) e
+        ∙ ap (with-sets P₀) (sym (last-seen-on (slot-0 F) (slot-1 F) (P₀ .held) (P₀ .next) c (drop (i + 1) S) (P₀ .sets)))
+        ∙ rw (← d)
+
+    pub chained-turn : {P Q : Parts} → P ≡ chained-from (i + 1) → c ≡ getD (P .keys) i 0 → Q ≡ key-chained F P c → Q ≡ chained-from i
+    chained-turn {P} e is turn =
+        let d = this (is ∙ ap (λ (Z : Parts). getD (Z .keys) i 0) e) in
+        turn ∙ ap (λ (Z : Parts). with-passing Z (passing-after F Z c)) e
+        ∙ ap (with-passing P₀) (sym (chained-on (slot-0 F) (slot-1 F) (P₀ .held) c (drop (i + 1) S) (passing-in P₀)))
+        ∙ rw (← d)
+
+    -- the second pass reads a label
+    pub chained-readable : 0 < F .slots → Chainable F n P₀ → {P : Parts} → P ≡ chained-from (i + 1)
+        → c ≡ getD (P .keys) i 0 → Readable F P c
+    chained-readable pos C {P} e is =
+        let d = this (is ∙ ap (λ (Z : Parts). getD (Z .keys) i 0) e) in
+        let inside : In c S = in-drop i S (rw d (here refl)) in
+        let after : In c (drop (i + 1) S) → ⊥ = asc-after (rw d at (asc-drop i (C .asc))) in
+        rw e (record {
+          fit = λ t. rw (label-read (slot-0 F) (slot-1 F) (P₀ .held) (C .labels) (slots-fit F pos) (drop (i + 1) S) (P₀ .sets) c inside after t)
+              (label-fit (C .labels) (slots-fit F pos) c);
+        })
+
+-- the slots below v are blanked where they hold no key
+module _ (m : ℕ) (P₀ : Parts) where
+  abbrev blank-ahead : ℕ → List ℕ → List ℕ
+  blank-ahead v words = each-slot (blank (P₀ .held)) (m - v) v words
+
+  pub record BlankedTo (P : Parts) (v : ℕ) : Type 0 where
+    pub kept : P ≡ with-next P₀ (P .next)
+    pub same : blank-ahead 0 (P₀ .next) ≡ blank-ahead v (P .next)
+
+  pub blank-start : BlankedTo P₀ 0
+  blank-start = record { kept = refl; same = refl }
+
+  module _ {P : Parts} {v : ℕ} (K : BlankedTo P v) where
+    pub blank-done : m ≤ v → P ≡ blanked-parts m P₀
+    unfolding blanked
+    blank-done l =
+        let z : m - v ≡ 0 = omega arith in
+        let all : m - 0 ≡ m = omega arith in
+        K .kept ∙ ap (with-next P₀) (sym (rw (all, z) at (K .same) ∙ each-slot-none (blank (P₀ .held)) v (P .next)))
+
+    step : v < m → {Q : Parts} (words : List ℕ) → Q ≡ with-next P words
+        → each-slot (blank (P₀ .held)) (suc (m - (v + 1))) v (P .next) ≡ each-slot (blank (P₀ .held)) (m - (v + 1)) (suc v) words → BlankedTo Q (v + 1)
+    step l {Q} words turn on =
+        let e : m - v ≡ suc (m - (v + 1)) = omega arith in
+        let one : suc v ≡ v + 1 = omega arith in
+        let new : Q .next ≡ words = ap (λ (Z : Parts). Z .next) turn in
+        record {
+          kept = turn ∙ ap (λ (Z : Parts). with-next Z words) (K .kept) ∙ ap (with-next P₀) (sym new);
+          same = K .same ∙ ap (λ (n : ℕ). each-slot (blank (P₀ .held)) n v (P .next)) e ∙ on ∙ rw (one, new);
+        }
+
+    still : getD (P .held) v 0 ≡ getD (P₀ .held) v 0
+    still = ap (λ (Z : Parts). getD (Z .held) v 0) (K .kept)
+
+    pub blank-turn : v < m → getD (P .held) v 0 ≡ 0 → {Q : Parts} → Q ≡ with-next P (set (P .next) v 0) → BlankedTo Q (v + 1)
+    blank-turn l z turn = step l (set (P .next) v 0) turn (blank-empty (λ c. c) (λ c. c) (P₀ .held) (m - (v + 1)) v (P .next) (sym still ∙ z))
+
+    pub blank-pass : v < m → (getD (P .held) v 0 ≡ 0 → ⊥) → BlankedTo P (v + 1)
+    blank-pass l nz = step l (P .next) refl (blank-filled (λ c. c) (λ c. c) (P₀ .held) (m - (v + 1)) v (P .next) (λ z. nz (still ∙ z)))

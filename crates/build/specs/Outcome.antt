@@ -1,0 +1,44 @@
+-- What `build` leaves in scratch, as its callers read it.
+use Prim.Native.Nat.{ℕ, _+_, _-_, _*_, _≤_, _<_}
+use mathlib.Core.Path.{_≡_}
+use mathlib.Core.List.{List, _++_, List·Memᴰ as In}
+use lib.ListN.{length, take, replicate}
+use Rattle.tabulation.specs.Hash.{Family, tabulation-length, max-slots}
+use Rattle.tabulation.specs.Slots.{slot-0, slot-1}
+use Rattle.cuckoo.specs.Graph.{seated, stash, occupant}
+use Rattle.build.specs.Slots.{listed}
+use Rattle.build.specs.Built.{next-at}
+use Rattle.cuckoo.specs.Sets.{Asc}
+use Rattle.build.specs.Scratch.{parts, used}
+use Rattle.build.specs.declared.notes.StashCount.{StashCount}
+use Rattle.build.specs.declared.notes.StashCount.the-variants.{Keys, Overflow}
+
+-- the stash of a set of keys, by a tabulation
+abbrev pub stash-keys : Family → List ℕ → List ℕ
+stash-keys F S = stash (slot-0 F) (slot-1 F) S
+
+-- The image of the set S stands in scratch: in each slot its occupant and that key's next number, and the stash, filled up with zeros.
+pub record Standing (F : Family) (s : ℕ) (S scratch : List ℕ) : Type 0 where
+  pub held : parts (F .slots) s scratch .held ≡ listed (occupant (slot-0 F) (slot-1 F) (seated (slot-0 F) (slot-1 F) S)) (2 * F .slots) 0
+  pub next : parts (F .slots) s scratch .next ≡ listed (next-at (slot-0 F) (slot-1 F) S) (2 * F .slots) 0
+  pub stashed : parts (F .slots) s scratch .stash ≡ stash-keys F S ++ replicate (s - length (stash-keys F S)) 0
+
+-- The build of the set S: there is no room for its stash, or its image stands in scratch. The words of the keys stay.
+pub data Build (F : Family) (s : ℕ) (S after : List ℕ) (count : StashCount) : Type 0 where
+  full : s < length (stash-keys F S) → count ≡ Overflow → Build F s S after count
+  made : length (stash-keys F S) ≤ s → count ≡ Keys (length (stash-keys F S)) → Standing F s S after → Build F s S after count
+
+pub record Built (F : Family) (s : ℕ) (S before after : List ℕ) (count : StashCount) : Type 0 where
+  pub kept : take (2 * F .slots + s) after ≡ take (2 * F .slots + s) before
+  pub built : Build F s S after count
+
+-- What the build needs: a tabulation, sizes in their ranges, and scratch with room for the parts and n ascending keys, none of them 0, at its front.
+pub record Buildable (r s n : ℕ) (tabulation scratch : List ℕ) : Type 0 where
+  pub full-tabulation : length tabulation ≡ tabulation-length
+  pub some : 0 < r
+  pub most : r ≤ max-slots
+  pub few : s ≤ 64
+  pub room : used r s ≤ length scratch
+  pub keys : n ≤ 2 * r + s
+  pub asc : Asc (take n scratch)
+  pub solid : (c : ℕ) → In c (take n scratch) → c ≡ 0 → ⊥

@@ -1,0 +1,88 @@
+-- `dictionary::image::write_image` meets its contract: heading, slots and stash come back in their places, and that is the image.
+use mathlib.Core.Path.{_∙_}
+use Rattle.dictionary.specs.Weave.{all-put}
+use borrow.Author.Needs.{needs}
+use Rattle.dictionary.proofs.image.write_image.Statement.{statement}
+use Rattle.dictionary.proofs.image.write_image.Tie as tie
+
+stash-start-requires : tie.Need-stash-start-requires
+stash-start-requires c κs = search needs
+
+held-part-requires : tie.Need-held-part-requires
+held-part-requires c κs = search needs
+
+next-part-requires : tie.Need-next-part-requires
+next-part-requires c κs = search needs
+
+cast-write-heading : tie.Need-cast-write-heading
+cast-write-heading c = search needs
+
+write-heading-requires : tie.Need-write-heading-requires
+write-heading-requires c κs = search needs
+
+sub-write-slots : tie.Need-sub-write-slots
+sub-write-slots c = search needs
+
+part-write-slots-start : tie.Need-part-write-slots-start
+part-write-slots-start c = search needs
+
+part-write-slots-end : tie.Need-part-write-slots-end
+part-write-slots-end c = search needs
+
+write-slots-requires : tie.Need-write-slots-requires
+write-slots-requires c κs = search needs
+
+mul-copy : tie.Need-mul-copy
+mul-copy c = search needs
+
+sub-copy : tie.Need-sub-copy
+sub-copy c = search needs
+
+part-copy-start : tie.Need-part-copy-start
+part-copy-start c = search needs
+
+part-copy-end : tie.Need-part-copy-end
+part-copy-end c = search needs
+
+stash-part-requires : tie.Need-stash-part-requires
+stash-part-requires c κs = search needs
+
+copy-requires : tie.Need-copy-requires
+copy-requires c κs = search needs
+
+same-length : tie.Need-same-length
+same-length c = search needs
+
+returns : tie.Need-returns
+returns c =
+    let k = c .before .before in
+    let m = k .before .before .before .before .before in
+    let h = m .before .before .before .before in
+    let n = h .before .before in
+    let f = n .before .before in
+    let d = f .before .before .before in
+    let q = rw (n .before .held-part .ensures .0, n .next-part .ensures .0) at (m .write-slots .ensures) in
+    let z = k .copy .ensures ∙ k .before .stash-part .ensures .0 in
+    rw (q, z, h .write-heading .ensures, f .stash-start .ensures) (all-put (d .pre .0) (d .args .keys) (d .args .stashed))
+
+pub write-image-spec : {M : Type 1} → statement M
+write-image-spec =
+    tie.close
+    (tie.spec
+    stash-start-requires
+    held-part-requires
+    next-part-requires
+    cast-write-heading
+    write-heading-requires
+    sub-write-slots
+    part-write-slots-start
+    part-write-slots-end
+    write-slots-requires
+    mul-copy
+    sub-copy
+    part-copy-start
+    part-copy-end
+    stash-part-requires
+    copy-requires
+    same-length
+    returns)

@@ -1,0 +1,24 @@
+-- `dictionary::init_counted` meets its contract: `fresh` says the answer and the words, `with_counts` the counters.
+use mathlib.Core.Path.{_∙_, ap}
+use borrow.Author.Needs.{needs}
+use Rattle.dictionary.specs.Counters.{counted}
+use Rattle.dictionary.proofs.init_counted.Statement.{statement}
+use Rattle.dictionary.proofs.init_counted.Tie as tie
+
+fresh-requires : tie.Need-fresh-requires
+fresh-requires c κs = search needs
+
+with-counts-requires : tie.Need-with-counts-requires
+with-counts-requires c κs = search needs
+
+same-length : tie.Need-same-length
+same-length c = search needs
+
+returns : tie.Need-returns
+returns c =
+    let e = c .before .before .before .fresh .ensures in
+    let d = c .with-counts .ensures in
+    (d .0 ∙ e .0, (e .1, d .1 ∙ ap (counted _) (e .0)))
+
+pub init-counted-spec : {M : Type 1} → statement M
+init-counted-spec = tie.close (tie.spec fresh-requires with-counts-requires same-length returns)

@@ -1,0 +1,252 @@
+-- What the outcome definitions say of all inputs: which numbers a call can answer, row by row when it answers them (document 01's table), what a
+-- refusal leaves, and that the scratch matters by its length alone. Assumes nothing.
+use Prim.Native.Nat.{ℕ, _≤_, _<_}
+use mathlib.Core.Path.{_≡_, refl, sym, _∙_}
+use mathlib.Core.Bool.{Bool, true, false, not, cond}
+use mathlib.Core.Logic.{_⊎_, inl, inr, _↔_}
+use mathlib.Core.List.{List, [], _∷_, _++_, map, List·Memᴰ as In, List·Memᴰ·head as here, List·Memᴰ·tail as there}
+use native.Mathlib.Omega.{arith}
+use borrow.Author.Tests.{eqb-true, eq-eqb, ne-eqb, ltb-false, lt-ltb, le-ltb, not-false}
+use lib.Dec.{eqb, ltb}
+use lib.ListN.{length, replicate}
+use Rattle.cuckoo.specs.Sets.{test}
+use Rattle.tabulation.specs.Refusal.{done, wrong-tabulation, wrong-shape, short-scratch, not-canonical, blank-key, first-refusal}
+use Rattle.tabulation.specs.Hash.{tabulation-length, blank}
+use Rattle.layout.specs.Layout.{Params, params-of, slots-of, places-of, scratch-length, shaped, image, keys-in}
+use Rattle.layout.specs.Canonical.{canonical, ImageOf, canonical-iff, not-canonical-iff}
+use Rattle.dictionary.specs.declared.Change.{Change}
+use Rattle.dictionary.specs.declared.Change.the-variants.{Insert, Remove}
+use Rattle.dictionary.specs.Outcome.{changed, set-refusals, first-refusals, change-refusal, change-outcome, check-outcome}
+
+-- the numbers
+
+-- "Add can give 1 to 6 and 8; withdraw 1 to 5 and 7; check 1 to 4."
+abbrev pub change-answers : Change → List ℕ
+change-answers Insert = 0 ∷ 1 ∷ 2 ∷ 3 ∷ 4 ∷ 5 ∷ 6 ∷ 8 ∷ []
+change-answers Remove = 0 ∷ 1 ∷ 2 ∷ 3 ∷ 4 ∷ 5 ∷ 7 ∷ []
+
+abbrev pub check-answers : List ℕ
+check-answers = 0 ∷ 1 ∷ 2 ∷ 3 ∷ 4 ∷ []
+
+-- the refusals of insert and remove after 4
+abbrev pub later-refusals : Change → List ℕ → List ℕ → ℕ → List (ℕ × Bool)
+later-refusals kind tabulation ws key = (blank-key, blank key) ∷ set-refusals kind (params-of tabulation ws) key (keys-in ws)
+
+first-refusal-in : (rs : List (ℕ × Bool)) → In (first-refusal rs) (done ∷ map (λ (r : ℕ × Bool). r .0) rs)
+first-refusal-in [] = here refl
+first-refusal-in (r ∷ rs) = go (r .1) (first-refusal-in rs)
+  where
+    go : (t : Bool) → In (first-refusal rs) (done ∷ map (λ (r : ℕ × Bool). r .0) rs)
+        → In (cond t (r .0) (first-refusal rs)) (done ∷ r .0 ∷ map (λ (r : ℕ × Bool). r .0) rs)
+    go true i = there (here refl)
+    go false (here q) = here q
+    go false (there i) = there (there i)
+
+-- a test that was passed over did not hold
+pub passed-over : {k m n : ℕ} (t : Bool) → cond t k m ≡ n → (n ≡ k → ⊥) → (t ≡ false) × (m ≡ n)
+passed-over true e ne = absurd (ne (sym e))
+passed-over false e ne = (refl, e)
+
+pub change-answer-in : (kind : Change) (tabulation ws scratch : List ℕ) (key : ℕ)
+    → In (change-outcome kind tabulation ws scratch key .answer) (change-answers kind)
+unfolding change-outcome change-refusal
+change-answer-in Insert tabulation ws scratch key =
+    first-refusal-in (first-refusals tabulation ws scratch ++ later-refusals Insert tabulation ws key)
+change-answer-in Remove tabulation ws scratch key =
+    first-refusal-in (first-refusals tabulation ws scratch ++ later-refusals Remove tabulation ws key)
+
+pub check-answer-in : (tabulation ws scratch : List ℕ) → In (check-outcome tabulation ws scratch .answer) check-answers
+unfolding check-outcome
+check-answer-in tabulation ws scratch = first-refusal-in (first-refusals tabulation ws scratch)
+
+-- words and scratch
+
+module _ (tabulation ws scratch : List ℕ) where
+  module _ (kind : Change) (key : ℕ) where
+    pub change-answer : change-outcome kind tabulation ws scratch key .answer ≡ change-refusal kind tabulation ws scratch key
+    unfolding change-outcome
+    change-answer = refl
+
+    -- Accepted, the words are the image of the new set;
+    pub change-done : change-outcome kind tabulation ws scratch key .answer ≡ done
+        → change-outcome kind tabulation ws scratch key .words ≡ image (params-of tabulation ws) (changed kind key (keys-in ws))
+    unfolding change-outcome
+    change-done e = rw (eq-eqb (change-refusal kind tabulation ws scratch key) done e)
+
+    -- "Every refusal leaves list and book unchanged".
+    pub change-refused : (change-outcome kind tabulation ws scratch key .answer ≡ done → ⊥) → change-outcome kind tabulation ws scratch key .words ≡ ws
+    unfolding change-outcome
+    change-refused n = rw (ne-eqb (change-refusal kind tabulation ws scratch key) done n)
+
+    -- "it is zero over its full length after every call that borrows it"
+    pub change-scratch : change-outcome kind tabulation ws scratch key .scratch ≡ replicate (length scratch) 0
+    unfolding change-outcome
+    change-scratch = refl
+
+  -- "check .. never change them"
+  pub check-words : check-outcome tabulation ws scratch .words ≡ ws
+  unfolding check-outcome
+  check-words = refl
+
+  pub check-scratch : check-outcome tabulation ws scratch .scratch ≡ replicate (length scratch) 0
+  unfolding check-outcome
+  check-scratch = refl
+
+-- "Its old content has no effect": only the length of the scratch matters, to the whole outcome.
+module _ (tabulation ws scratch scratch′ : List ℕ) (same : length scratch ≡ length scratch′) where
+  pub change-any-scratch : (kind : Change) (key : ℕ) → change-outcome kind tabulation ws scratch key ≡ change-outcome kind tabulation ws scratch′ key
+  unfolding change-outcome change-refusal
+  change-any-scratch kind key = rw same
+
+  pub check-any-scratch : check-outcome tabulation ws scratch ≡ check-outcome tabulation ws scratch′
+  unfolding check-outcome
+  check-any-scratch = rw same
+
+-- The table, row by row: "They are tried in this order, and none is given otherwise."
+
+-- an answer other than 1 to 4
+abbrev pub Late : ℕ → Type 0
+Late n = (n ≡ done) ⊎ (not-canonical < n)
+
+not-late : (n : ℕ) → Late n → (0 < n) × (n ≤ not-canonical) → ⊥
+not-late n (inl e) h = omega arith
+not-late n (inr l) h = omega arith
+
+module _ (tabulation ws scratch : List ℕ) where
+  -- none of 1 to 3 applies
+  pub record Ready : Type 0 where
+    pub full : length tabulation ≡ tabulation-length
+    pub shape : shaped ws ≡ true
+    pub room : scratch-length (slots-of ws) (places-of ws) ≤ length scratch
+
+  module _ (rest : List (ℕ × Bool)) where
+    abbrev head : ℕ
+    head = first-refusal (first-refusals tabulation ws scratch ++ rest)
+
+    head-tabulation : (length tabulation ≡ tabulation-length → ⊥) → head ≡ wrong-tabulation
+    head-tabulation n = rw (ne-eqb (length tabulation) tabulation-length n)
+
+    head-shape : length tabulation ≡ tabulation-length → shaped ws ≡ false → head ≡ wrong-shape
+    head-shape e f = rw (eq-eqb (length tabulation) tabulation-length e, f)
+
+    head-scratch : length tabulation ≡ tabulation-length → shaped ws ≡ true → length scratch < scratch-length (slots-of ws) (places-of ws)
+        → head ≡ short-scratch
+    head-scratch e f l =
+        rw (eq-eqb (length tabulation) tabulation-length e, f, lt-ltb (length scratch) (scratch-length (slots-of ws) (places-of ws)) l)
+
+    head-ready : Ready → head ≡ cond (not (canonical tabulation ws)) not-canonical (first-refusal rest)
+    head-ready h =
+        rw (
+          eq-eqb (length tabulation) tabulation-length (h .full),
+          h .shape,
+          le-ltb (length scratch) (scratch-length (slots-of ws) (places-of ws)) (h .room),
+        )
+
+    -- where none of 1 to 4 is given, none of them applies
+    head-passed : Late head → Ready × (canonical tabulation ws ≡ true)
+    head-passed late =
+        let l = length scratch in
+        let L = scratch-length (slots-of ws) (places-of ws) in
+        let e : head ≡ head = refl in
+        let a = passed-over (not (eqb (length tabulation) tabulation-length)) e (λ q. not-late head late (omega arith)) in
+        let b = passed-over (not (shaped ws)) (a .1) (λ q. not-late head late (omega arith)) in
+        let c = passed-over (ltb l L) (b .1) (λ q. not-late head late (omega arith)) in
+        let d = passed-over (not (canonical tabulation ws)) (c .1) (λ q. not-late head late (omega arith)) in (
+          record { full = eqb-true (length tabulation) tabulation-length (not-false _ (a .0)); shape = not-false _ (b .0); room = ltb-false l L (c .0) },
+          not-false _ (d .0),
+        )
+
+-- none of 1 to 4 is among the refusals of a change that come after them
+late-first : (rs : List (ℕ × Bool)) → ((n : ℕ) → In n (map (λ (r : ℕ × Bool). r .0) rs) → not-canonical < n) → Late (first-refusal rs)
+late-first rs f = elim (first-refusal-in rs) [ here q ↦ inl q | there i ↦ inr (f (first-refusal rs) i) ]
+
+rest-late : (kind : Change) (P : Params) (key : ℕ) (S : List ℕ) → Late (first-refusal ((blank-key, blank key) ∷ set-refusals kind P key S))
+rest-late Insert P key S = late-first ((blank-key, blank key) ∷ set-refusals Insert P key S) (λ n i. elim i [
+  | here q ↦ omega arith
+  | there j ↦ elim j [ here q ↦ omega arith | there k ↦ elim k [ here q ↦ omega arith | there l ↦ elim l [ ] ] ]
+])
+rest-late Remove P key S = late-first ((blank-key, blank key) ∷ set-refusals Remove P key S) (λ n i. elim i [
+  | here q ↦ omega arith
+  | there j ↦ elim j [ here q ↦ omega arith | there k ↦ elim k [ ] ]
+])
+
+module _ (tabulation ws scratch : List ℕ) where
+  -- "the list is the canonical image of no set"
+  abbrev pub Tampered : Type 0
+  Tampered = (P : Params) (S : List ℕ) → P .tabulation ≡ tabulation → ImageOf P S ws → ⊥
+
+  -- rows 1 to 4 of insert and remove
+  module _ (kind : Change) (key : ℕ) where
+    abbrev rest : List (ℕ × Bool)
+    rest = later-refusals kind tabulation ws key
+
+    pub change-tabulation : (length tabulation ≡ tabulation-length → ⊥) → change-outcome kind tabulation ws scratch key .answer ≡ wrong-tabulation
+    unfolding change-outcome change-refusal
+    change-tabulation = head-tabulation tabulation ws scratch rest
+
+    pub change-shape : length tabulation ≡ tabulation-length → shaped ws ≡ false → change-outcome kind tabulation ws scratch key .answer ≡ wrong-shape
+    unfolding change-outcome change-refusal
+    change-shape = head-shape tabulation ws scratch rest
+
+    pub change-short : length tabulation ≡ tabulation-length → shaped ws ≡ true → length scratch < scratch-length (slots-of ws) (places-of ws)
+        → change-outcome kind tabulation ws scratch key .answer ≡ short-scratch
+    unfolding change-outcome change-refusal
+    change-short = head-scratch tabulation ws scratch rest
+
+    -- the other rows look at the set
+    pub change-set : Ready tabulation ws scratch → canonical tabulation ws ≡ true
+        → change-refusal kind tabulation ws scratch key ≡ first-refusal (later-refusals kind tabulation ws key)
+    unfolding change-refusal
+    change-set h c = head-ready tabulation ws scratch rest h ∙ (rw c)
+
+    -- and then the words have passed
+    pub change-passed : Late (change-outcome kind tabulation ws scratch key .answer) → Ready tabulation ws scratch × (canonical tabulation ws ≡ true)
+    unfolding change-outcome change-refusal
+    change-passed = head-passed tabulation ws scratch rest
+
+    pub change-tampered : Ready tabulation ws scratch → (change-outcome kind tabulation ws scratch key .answer ≡ not-canonical) ↔ Tampered
+    unfolding change-outcome change-refusal
+    change-tampered h = (
+      λ e. not-canonical-iff tabulation ws (h .shape) .0 (elim (test (canonical tabulation ws)) [
+        | inl c ↦
+            let late = rw (← change-set h c, change-answer tabulation ws scratch kind key, e) at (rest-late kind (params-of tabulation ws) key (keys-in ws)) in
+            absurd (not-late not-canonical late (omega arith))
+        | inr c ↦ c
+      ]),
+      λ n. let c = not-canonical-iff tabulation ws (h .shape) .1 n in head-ready tabulation ws scratch rest h ∙ (rw c),
+    )
+
+  -- rows 1 to 4 of check, and its 0
+  pub check-tabulation : (length tabulation ≡ tabulation-length → ⊥) → check-outcome tabulation ws scratch .answer ≡ wrong-tabulation
+  unfolding check-outcome
+  check-tabulation = head-tabulation tabulation ws scratch []
+
+  pub check-shape : length tabulation ≡ tabulation-length → shaped ws ≡ false → check-outcome tabulation ws scratch .answer ≡ wrong-shape
+  unfolding check-outcome
+  check-shape = head-shape tabulation ws scratch []
+
+  pub check-short : length tabulation ≡ tabulation-length → shaped ws ≡ true → length scratch < scratch-length (slots-of ws) (places-of ws)
+      → check-outcome tabulation ws scratch .answer ≡ short-scratch
+  unfolding check-outcome
+  check-short = head-scratch tabulation ws scratch []
+
+  check-canonical : Ready tabulation ws scratch → check-outcome tabulation ws scratch .answer ≡ cond (not (canonical tabulation ws)) not-canonical done
+  unfolding check-outcome
+  check-canonical = head-ready tabulation ws scratch []
+
+  pub check-tampered : Ready tabulation ws scratch → (check-outcome tabulation ws scratch .answer ≡ not-canonical) ↔ Tampered
+  check-tampered h = (
+    λ e. not-canonical-iff tabulation ws (h .shape) .0 (elim (test (canonical tabulation ws)) [
+      | inl c ↦ absurd (let z = rw c at (sym (check-canonical h) ∙ e) in omega arith)
+      | inr c ↦ c
+    ]),
+    λ n. let c = not-canonical-iff tabulation ws (h .shape) .1 n in check-canonical h ∙ (rw c),
+  )
+
+  pub check-done : (check-outcome tabulation ws scratch .answer ≡ done)
+      ↔ (Ready tabulation ws scratch × ((S : List ℕ) × ImageOf (params-of tabulation ws) S ws))
+  unfolding check-outcome
+  check-done = (
+    λ e. let p = head-passed tabulation ws scratch [] (inl e) in (p .0, canonical-iff tabulation ws (p .0 .shape) .0 (p .1)),
+    λ h. let c = canonical-iff tabulation ws (h .0 .shape) .1 (h .1) in head-ready tabulation ws scratch [] (h .0) ∙ (rw c),
+  )

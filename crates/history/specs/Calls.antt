@@ -1,0 +1,92 @@
+-- Sequences of calls on the words of one dictionary, as document 01 tells them ("The plain register"): which calls may stand there, and what they
+-- answer and leave, by the very definitions that the contracts cite. This file and Model.antt are what a reader must believe.
+use Prim.Native.Nat.{ℕ}
+use mathlib.Core.Path.{_≡_}
+use mathlib.Core.List.{List, [], _∷_}
+use lib.ListN.{length}
+use Rattle.tabulation.specs.Refusal.{done}
+use Rattle.tabulation.specs.Hash.{tabulation-length}
+use Rattle.layout.specs.Layout.{Params}
+use Rattle.layout.specs.Answers.{lookup-refusal, lookup-values, view-refusal, view-of, fresh-refusal, fresh-words}
+use Rattle.dictionary.specs.declared.Change.{Change}
+use Rattle.dictionary.specs.declared.Counters.{Counters}
+use Rattle.dictionary.specs.Outcome.{change-outcome, check-outcome}
+
+-- "One book of the right length goes through it; a call may lend one of a wrong length instead."
+pub data Lent : Type 0 where
+  own : Lent
+  wrong : (tabulation : List ℕ) → (length tabulation ≡ tabulation-length → ⊥) → Lent
+
+-- the tabulation that a call lends, where t is that of the sequence
+abbrev pub lent-of : List ℕ → Lent → List ℕ
+lent-of t own = t
+lent-of t (wrong tabulation n) = tabulation
+
+-- A call of another kind on the words: its real outcome, a number and the words, for all words. "Every refusal leaves list and book unchanged."
+pub record Other : Type 0 where
+  pub answer : List ℕ → ℕ
+  pub words : List ℕ → List ℕ
+  pub leaves : (ws : List ℕ) → (answer ws ≡ done → ⊥) → words ws ≡ ws
+
+-- A call with its arguments, the words aside. "Sheets have any length and content, the meter any counts."
+pub data Call : Type 0 where
+  change : (kind : Change) (tabulation : Lent) (scratch : List ℕ) (counters : Counters) (key : ℕ) → Call
+  lookup : (tabulation : Lent) (key : ℕ) → Call
+  check : (tabulation : Lent) (scratch : List ℕ) → Call
+  view : Call
+  other : Other → Call
+
+-- an answer: document 01's number, and values (a lookup's 1 or 0, the words of a view, otherwise none)
+pub record Answer : Type 0 where
+  pub number : ℕ
+  pub values : List ℕ
+
+-- what a call answers and leaves
+pub record Step : Type 0 where
+  pub answer : Answer
+  pub words : List ℕ
+
+-- One call on words ws. The counters are not looked at: "nothing else depends on it".
+unfoldable pub step : List ℕ → List ℕ → Call → Step
+step t ws (change kind l scratch counters key) =
+    let o = change-outcome kind (lent-of t l) ws scratch key in
+    record { answer = record { number = o .answer; values = [] }; words = o .words }
+step t ws (lookup l key) =
+    record { answer = record { number = lookup-refusal (lent-of t l) ws key; values = lookup-values (lent-of t l) ws key }; words = ws }
+step t ws (check l scratch) =
+    let o = check-outcome (lent-of t l) ws scratch in
+    record { answer = record { number = o .answer; values = [] }; words = o .words }
+step t ws view = record { answer = record { number = view-refusal ws; values = view-of ws }; words = ws }
+step t ws (other x) = record { answer = record { number = x .answer ws; values = [] }; words = x .words ws }
+
+-- "Each call gets all the words that the last one left": the answer of each call, and the words after it
+unfoldable pub run : List ℕ → List ℕ → List Call → List Step
+run t ws [] = []
+run t ws (c ∷ cs) = let o = step t ws c in o ∷ run t (o .words) cs
+
+-- the words after the whole sequence
+unfoldable pub words-after : List ℕ → List ℕ → List Call → List ℕ
+words-after t ws [] = ws
+words-after t ws (c ∷ cs) = words-after t (step t ws c .words) cs
+
+-- "any other call on it may stand there if it is refused"
+abbrev pub MayStand : List ℕ → Call → Type 0
+MayStand ws (change kind l scratch counters key) = Unit {0}
+MayStand ws (lookup l key) = Unit {0}
+MayStand ws (check l scratch) = Unit {0}
+MayStand ws view = Unit {0}
+MayStand ws (other x) = x .answer ws ≡ done → ⊥
+
+-- whether it is refused is asked where it stands
+pub data Allowed (t : List ℕ) : List ℕ → List Call → Type 0 where
+  none : {ws : List ℕ} → Allowed t ws []
+  more : {ws : List ℕ} {c : Call} {cs : List Call} → MayStand ws c → Allowed t (step t ws c .words) cs → Allowed t ws (c ∷ cs)
+
+-- A sequence of demand 3, with the tabulation, r and s of P, that starts with words ws. "It starts with the words of an accepted lay, whatever they
+-- were before."
+pub record Sequence (P : Params) (ws : List ℕ) (cs : List Call) : Type 0 where
+  pub full : length (P .tabulation) ≡ tabulation-length
+  pub before : List ℕ
+  pub accepted : fresh-refusal (length before) (P .slots) (P .places) ≡ done
+  pub laid : ws ≡ fresh-words before (P .slots) (P .places)
+  pub allowed : Allowed (P .tabulation) ws cs

@@ -1,0 +1,1 @@
+// Definitions and theorems alone (specs/): what whole sequences of calls answer and leave, against a reference model.

@@ -1,0 +1,433 @@
+// The console's lines: the grammar of the lines that it reads, its numbers, and the bytes of the lines that it prints. Everything is bytes in lent
+// slices; nothing is read, written or allocated here. Every promise is equality with a definition of specs/, or `Written` with one.
+ghost use Prim.Native.Nat.{ℕ, _+_, _≤_, _<_, min};
+ghost use mathlib.Core.Path.{_≡_};
+ghost use mathlib.Core.List.{List, [], _∷_, _++_};
+ghost use lib.Dec.{eqb};
+ghost use lib.ListN.{length};
+ghost use Rattle.lines.specs.Decimal.{digit as Digit, decimal};
+ghost use Rattle.lines.specs.Number.{no-leading-zero, number-of};
+ghost use Rattle.lines.specs.Parted.{comma, place-of};
+ghost use Rattle.lines.specs.Command.{sizes, sizes-of, by-letter, command, command-of};
+ghost use Rattle.lines.specs.Held.{Holds};
+ghost use Rattle.lines.specs.Row.{answer-row, insert-row, remove-row, lookup-row, error-row, slot-row, stash-row, book-row, row-room};
+ghost use Rattle.lines.specs.Written.{Written};
+
+// What ends a line, and what parts two fields.
+pub const NEWLINE: u8 = b'\n';
+
+pub const COMMA: u8 = b',';
+
+// The bytes of the longest line of a known form, "4294967295,4294967295", and a count that says that there were more.
+pub const LONGEST: usize = 21;
+
+const TOO_LONG: usize = 22;
+
+// Every row that is printed fits into so many bytes.
+pub const ROW_ROOM: usize = 46;
+
+// A text read as a number.
+pub enum Number {
+    Value(u32),
+    Other,
+}
+
+// Line 1, read: r,s or another form.
+pub enum Sizes {
+    Given(u32, u32),
+    Other,
+}
+
+// Any other line, read: A,key  W,key  L,key or another form.
+pub enum Command {
+    Insert(u32),
+    Remove(u32),
+    Lookup(u32),
+    Other,
+}
+
+// What a lookup answers: yes, no, or the number of its refusal.
+pub enum Looked {
+    Present,
+    Absent,
+    Refused(u32),
+}
+
+// The bytes of the current line so far, up to the longest line of a known form, and how many there are, up to one more than that.
+pub struct Line {
+    pub bytes: [u8; LONGEST],
+    pub count: usize,
+}
+
+// Where a byte first stands, or the length where it does not: the end of a field, with COMMA, and of a line, with NEWLINE.
+pub fn find(bytes: &[u8], byte: u8) -> usize
+    ensures { λ i. ⌜ i ≡ place-of byte (now (bytes .entry)) ⌝ }
+{
+    let mut i = 0;
+    while i < bytes.len() {
+        if bytes[i] == byte {
+            return i;
+        }
+        i += 1;
+    }
+    i
+}
+
+// Whether a text is not empty, and begins with 0 only if that is all of it.
+fn starts_well(text: &[u8]) -> bool
+    ensures { λ b. ⌜ b ≡ no-leading-zero (now (text .entry)) ⌝ }
+{
+    if text.len() == 0 {
+        return false;
+    }
+    if text.len() == 1 {
+        return true;
+    }
+    text[0] != b'0'
+}
+
+fn wide(byte: u8) -> u64
+    ensures { λ n. ⌜ n ≡ byte ⌝ }
+{
+    byte as u64
+}
+
+// The number that a text writes in decimal, without a leading zero and below 2^32.
+pub fn number_in(text: &[u8]) -> Number
+    ensures { λ n. ⌜ n ≡ number-of (now (text .entry)) ⌝ }
+{
+    if !starts_well(text) {
+        return Number::Other;
+    }
+    let mut n: u64 = 0;
+    let mut i = 0;
+    while i < text.len() {
+        let b = wide(text[i]);
+        if b < 48 {
+            return Number::Other;
+        }
+        if 57 < b {
+            return Number::Other;
+        }
+        n = 10 * n + (b - 48);
+        if 4294967295 < n {
+            return Number::Other;
+        }
+        i += 1;
+    }
+    Number::Value(n as u32)
+}
+
+// Two numbers are sizes.
+fn both_sizes(first: Number, second: Number) -> Sizes
+    ensures { λ r. ⌜ r ≡ sizes first second ⌝ }
+{
+    let Number::Value(r) = first else {
+        return Sizes::Other;
+    };
+    let Number::Value(s) = second else {
+        return Sizes::Other;
+    };
+    Sizes::Given(r, s)
+}
+
+// Line 1.
+pub fn sizes_of(line: &[u8]) -> Sizes
+    ensures { λ r. ⌜ r ≡ sizes-of (now (line .entry)) ⌝ }
+{
+    let end = find(line, COMMA);
+    if line.len() <= end {
+        return Sizes::Other;
+    }
+    let start = end + 1;
+    let first = number_in(&line[..end]);
+    let second = number_in(&line[start..]);
+    both_sizes(first, second)
+}
+
+// A command with its letter.
+fn by_letter(letter: u8, key: u32) -> Command
+    ensures { λ r. ⌜ r ≡ by-letter letter key ⌝ }
+{
+    if letter == b'A' {
+        return Command::Insert(key);
+    }
+    if letter == b'W' {
+        return Command::Remove(key);
+    }
+    if letter == b'L' {
+        return Command::Lookup(key);
+    }
+    Command::Other
+}
+
+fn with_letter(letter: u8, number: Number) -> Command
+    ensures { λ r. ⌜ r ≡ command (letter ∷ []) number ⌝ }
+{
+    let Number::Value(key) = number else {
+        return Command::Other;
+    };
+    by_letter(letter, key)
+}
+
+// Any other line.
+pub fn command_of(line: &[u8]) -> Command
+    ensures { λ r. ⌜ r ≡ command-of (now (line .entry)) ⌝ }
+{
+    if line.len() < 2 {
+        return Command::Other;
+    }
+    if line[1] != COMMA {
+        return Command::Other;
+    }
+    let letter = line[0];
+    let second = number_in(&line[2..]);
+    with_letter(letter, second)
+}
+
+// A line of which nothing was read yet.
+pub fn empty_line() -> Line
+    ensures { λ r. ⌜ Holds r [] ⌝ }
+{
+    Line {
+        bytes: [0; LONGEST],
+        count: 0,
+    }
+}
+
+// One byte more of the line: any byte but a newline, which ends it.
+pub fn feed(line: Line, byte: u8) -> Line
+    ensures { λ r. ⌜ ((l : List ℕ) → Holds line l → Holds r (l ++ (byte ∷ []))) ⌝ }
+{
+    let mut next = line;
+    let count = line.count;
+    if count < LONGEST {
+        next.bytes[count] = byte;
+        next.count = count + 1;
+        return next;
+    }
+    next.count = TOO_LONG;
+    next
+}
+
+// Any number of bytes more.
+pub fn feed_all(line: Line, bytes: &[u8]) -> Line
+    ensures { λ r. ⌜ ((l : List ℕ) → Holds line l → Holds r (l ++ now (bytes .entry))) ⌝ }
+{
+    let mut next = line;
+    let mut i = 0;
+    while i < bytes.len() {
+        next = feed(next, bytes[i]);
+        i += 1;
+    }
+    next
+}
+
+// Whether nothing of the line was read yet: at the end of the input, that there is no line.
+pub fn is_empty(line: Line) -> bool
+    ensures { λ r. ⌜ ((l : List ℕ) → Holds line l → r ≡ eqb (length l) 0) ⌝ }
+{
+    line.count == 0
+}
+
+// What the line says, however long it was.
+pub fn sizes_in(line: Line) -> Sizes
+    ensures { λ r. ⌜ ((l : List ℕ) → Holds line l → r ≡ sizes-of l) ⌝ }
+{
+    let count = line.count;
+    if LONGEST < count {
+        return Sizes::Other;
+    }
+    let bytes = line.bytes;
+    sizes_of(&bytes[..count])
+}
+
+pub fn command_in(line: Line) -> Command
+    ensures { λ r. ⌜ ((l : List ℕ) → Holds line l → r ≡ command-of l) ⌝ }
+{
+    let count = line.count;
+    if LONGEST < count {
+        return Command::Other;
+    }
+    let bytes = line.bytes;
+    command_of(&bytes[..count])
+}
+
+// The number of the next line; the last one that there is room for stays.
+pub fn next_number(line: u64) -> u64
+    ensures { λ n. ⌜ n ≡ min (line + 1) 18446744073709551615 ⌝ }
+{
+    if line < 18446744073709551615 {
+        line + 1
+    } else {
+        line
+    }
+}
+
+// One byte of output.
+fn put_byte(out: &mut [u8], at: usize, byte: u8) -> usize
+    requires { ⌜ at < length (now out) ⌝ }
+    ensures { λ next. ⌜ Written (byte ∷ []) (now (out .entry)) at (now (out .exit)) next ⌝ }
+{
+    out[at] = byte;
+    at + 1
+}
+
+// How many digits a number has.
+fn places(n: u64) -> usize
+    ensures { λ k. ⌜ k ≡ length (decimal n) ⌝ }
+{
+    let mut k = 1;
+    let mut rest = n;
+    while 9 < rest {
+        rest = rest / 10;
+        k += 1;
+    }
+    k
+}
+
+fn digit(d: u64) -> u8
+    requires { ⌜ d < 10 ⌝ }
+    ensures { λ b. ⌜ b ≡ Digit d ⌝ }
+{
+    48 + d as u8
+}
+
+// A number in decimal, from its last digit to its first.
+pub fn put_number(out: &mut [u8], at: usize, n: u64) -> usize
+    requires { ⌜ at + length (decimal n) ≤ length (now out) ⌝ }
+    ensures { λ next. ⌜ Written (decimal n) (now (out .entry)) at (now (out .exit)) next ⌝ }
+{
+    let end = at + places(n);
+    let mut i = end;
+    let mut rest = n;
+    while 9 < rest {
+        i -= 1;
+        out[i] = digit(rest % 10);
+        rest = rest / 10;
+    }
+    out[i - 1] = digit(rest);
+    end
+}
+
+// A number of 32 bits.
+fn put_word(out: &mut [u8], at: usize, n: u32) -> usize
+    requires { ⌜ at + 10 ≤ length (now out) ⌝ }
+    ensures written { λ next. ⌜ Written (decimal n) (now (out .entry)) at (now (out .exit)) next ⌝ }
+    ensures short { λ next. ⌜ next ≤ at + 10 ⌝ }
+{
+    put_number(out, at, n as u64)
+}
+
+// A number of 64 bits.
+fn put_long(out: &mut [u8], at: usize, n: u64) -> usize
+    requires { ⌜ at + 20 ≤ length (now out) ⌝ }
+    ensures written { λ next. ⌜ Written (decimal n) (now (out .entry)) at (now (out .exit)) next ⌝ }
+    ensures short { λ next. ⌜ next ≤ at + 20 ⌝ }
+{
+    put_number(out, at, n)
+}
+
+// A comma and a number of 32 bits.
+fn put_field(out: &mut [u8], at: usize, n: u32) -> usize
+    requires { ⌜ at + 11 ≤ length (now out) ⌝ }
+    ensures written { λ next. ⌜ Written (comma ∷ decimal n) (now (out .entry)) at (now (out .exit)) next ⌝ }
+    ensures short { λ next. ⌜ next ≤ at + 11 ⌝ }
+{
+    let start = put_byte(&mut *out, at, COMMA);
+    put_word(&mut *out, start, n)
+}
+
+fn put_answer(out: &mut [u8], at: usize, letter: u8, key: u32, answer: u32) -> usize
+    requires { ⌜ at + row-room ≤ length (now out) ⌝ }
+    ensures { λ next. ⌜ Written (answer-row letter key answer) (now (out .entry)) at (now (out .exit)) next ⌝ }
+{
+    let second = put_byte(&mut *out, at, letter);
+    let third = put_field(&mut *out, second, key);
+    let end = put_field(&mut *out, third, answer);
+    put_byte(&mut *out, end, NEWLINE)
+}
+
+// A,key,answer
+pub fn put_insert(out: &mut [u8], at: usize, key: u32, answer: u32) -> usize
+    requires { ⌜ at + row-room ≤ length (now out) ⌝ }
+    ensures { λ next. ⌜ Written (insert-row key answer) (now (out .entry)) at (now (out .exit)) next ⌝ }
+{
+    put_answer(out, at, b'A', key, answer)
+}
+
+// W,key,answer
+pub fn put_remove(out: &mut [u8], at: usize, key: u32, answer: u32) -> usize
+    requires { ⌜ at + row-room ≤ length (now out) ⌝ }
+    ensures { λ next. ⌜ Written (remove-row key answer) (now (out .entry)) at (now (out .exit)) next ⌝ }
+{
+    put_answer(out, at, b'W', key, answer)
+}
+
+// L,key,R and the number of the refusal
+fn put_refused(out: &mut [u8], at: usize, key: u32, refusal: u32) -> usize
+    requires { ⌜ at + row-room ≤ length (now out) ⌝ }
+    ensures { λ next. ⌜ Written (lookup-row key (Looked.Refused refusal)) (now (out .entry)) at (now (out .exit)) next ⌝ }
+{
+    let second = put_byte(&mut *out, at, b'L');
+    let third = put_field(&mut *out, second, key);
+    let letter = put_byte(&mut *out, third, COMMA);
+    let number = put_byte(&mut *out, letter, b'R');
+    let end = put_word(&mut *out, number, refusal);
+    put_byte(&mut *out, end, NEWLINE)
+}
+
+// L,key,1  L,key,0  or a refusal
+pub fn put_lookup(out: &mut [u8], at: usize, key: u32, looked: Looked) -> usize
+    requires { ⌜ at + row-room ≤ length (now out) ⌝ }
+    ensures { λ next. ⌜ Written (lookup-row key looked) (now (out .entry)) at (now (out .exit)) next ⌝ }
+{
+    match looked {
+        Looked::Present => put_answer(out, at, b'L', key, 1),
+        Looked::Absent => put_answer(out, at, b'L', key, 0),
+        Looked::Refused(refusal) => put_refused(out, at, key, refusal),
+    }
+}
+
+// E,line number
+pub fn put_error(out: &mut [u8], at: usize, line: u64) -> usize
+    requires { ⌜ at + row-room ≤ length (now out) ⌝ }
+    ensures { λ next. ⌜ Written (error-row line) (now (out .entry)) at (now (out .exit)) next ⌝ }
+{
+    let second = put_byte(&mut *out, at, b'E');
+    let number = put_byte(&mut *out, second, COMMA);
+    let end = put_long(&mut *out, number, line);
+    put_byte(&mut *out, end, NEWLINE)
+}
+
+// P,table,slot,key,next
+pub fn put_slot(out: &mut [u8], at: usize, table: u32, slot: u32, key: u32, next: u32) -> usize
+    requires { ⌜ at + row-room ≤ length (now out) ⌝ }
+    ensures { λ end. ⌜ Written (slot-row table slot key next) (now (out .entry)) at (now (out .exit)) end ⌝ }
+{
+    let second = put_byte(&mut *out, at, b'P');
+    let third = put_field(&mut *out, second, table);
+    let fourth = put_field(&mut *out, third, slot);
+    let fifth = put_field(&mut *out, fourth, key);
+    let end = put_field(&mut *out, fifth, next);
+    put_byte(&mut *out, end, NEWLINE)
+}
+
+// D,key
+pub fn put_stashed(out: &mut [u8], at: usize, key: u32) -> usize
+    requires { ⌜ at + row-room ≤ length (now out) ⌝ }
+    ensures { λ next. ⌜ Written (stash-row key) (now (out .entry)) at (now (out .exit)) next ⌝ }
+{
+    let second = put_byte(&mut *out, at, b'D');
+    let end = put_field(&mut *out, second, key);
+    put_byte(&mut *out, end, NEWLINE)
+}
+
+// B, for a book that is missing or of another length
+pub fn put_no_book(out: &mut [u8], at: usize) -> usize
+    requires { ⌜ at + row-room ≤ length (now out) ⌝ }
+    ensures { λ next. ⌜ Written book-row (now (out .entry)) at (now (out .exit)) next ⌝ }
+{
+    let end = put_byte(&mut *out, at, b'B');
+    put_byte(&mut *out, end, NEWLINE)
+}

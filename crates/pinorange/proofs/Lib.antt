@@ -1,0 +1,3 @@
+-- What the proofs of several exported calls share.
+mod Counting
+mod Updating
