@@ -1,7 +1,8 @@
 /* The card list of a pump head: a dictionary in lent words whose content is a function of the set of keys alone (libpinorange.a).
  *
  * Every call below is proved: it reads and writes nothing outside the memory that it is lent, for every content and length, and returns. What each
- * call promises is stated in crates/pinorange/src/lib.rt; docs/01-scope.md has the table of numbers. */
+ * call promises is stated in crates/pinorange/src/lib.rt; docs/01-scope.md has the table of numbers. No pointer may be null, and no two lent pieces
+ * of memory may overlap. */
 #ifndef PINORANGE_H
 #define PINORANGE_H
 
@@ -11,13 +12,44 @@
 extern "C" {
 #endif
 
-/* The other numbers that a call answers; tried in the order of the numbers. */
+/* The other numbers that a call answers. They are tried in the order of the numbers. */
+#define PINORANGE_SHORT_SCRATCH 3u /* the scratch is shorter than PINORANGE_SCRATCH(r, s) */
 #define PINORANGE_NOT_CANONICAL 4u /* the words are the canonical image of no set */
+#define PINORANGE_KEY_PRESENT 6u   /* insert of a key that is in the set */
+#define PINORANGE_KEY_ABSENT 7u    /* remove of a key that is not in the set */
+#define PINORANGE_STASH_FULL 8u    /* the new set cannot be placed: its stash would have more than s keys */
 
 #define PINORANGE_MAX_PLACES 64u /* the most places of a stash, s */
 
-/* The number of 32-bit words of a dictionary with r slots in each table and s stash places. */
+/* Sizes in 32-bit words, for r slots in each table and s stash places: the dictionary, and the scratch that insert, remove and check borrow. */
 #define PINORANGE_WORDS(r, s) (4u + 4u * (r) + (s))
+#define PINORANGE_SCRATCH(r, s) (8u * (r) + 4u * (s))
+
+/* Counts of calls. A count at 4,294,967,295 stays there. */
+struct pinorange_counters {
+    uint32_t done;    /* accepted */
+    uint32_t refused; /* refused */
+};
+
+/* Lays an empty dictionary: the words become r, s and zeros, whatever they were.
+ * Refused (2): r is not 1 to 1,024, s is above 64, or the length is not PINORANGE_WORDS(r, s); the words stay.
+ * The counters move on by one, done or refused. */
+uint32_t pinorange_init(uint32_t *words, size_t words_length, uint32_t r, uint32_t s, struct pinorange_counters *counters);
+
+/* Puts a key into the set. Done (0): the words are the canonical image of the set with the key, in every word.
+ * Refused (1 to 6 or 8, tried in that order): the words stay. 8 exactly when no placement of the new set exists.
+ * The scratch is zero over its full length afterwards, refused or not; its old content has no effect. The counters move on by one. */
+uint32_t pinorange_insert(const uint16_t *tabulation, size_t tabulation_length, uint32_t *words, size_t words_length,
+                          uint32_t *scratch, size_t scratch_length, struct pinorange_counters *counters, uint32_t key);
+
+/* Takes a key out of the set. Done (0): the words are the canonical image of the set without the key, in every word.
+ * Refused (1 to 5 or 7, tried in that order): the words stay. Scratch and counters as for insert. */
+uint32_t pinorange_remove(const uint16_t *tabulation, size_t tabulation_length, uint32_t *words, size_t words_length,
+                          uint32_t *scratch, size_t scratch_length, struct pinorange_counters *counters, uint32_t key);
+
+/* Whether the words are the canonical image of a set: 0, or 1 to 4, tried in that order. The words are only read. Scratch as for insert. */
+uint32_t pinorange_check(const uint16_t *tabulation, size_t tabulation_length, const uint32_t *words, size_t words_length,
+                         uint32_t *scratch, size_t scratch_length);
 
 /* Whether a key is in the dictionary.
  *
@@ -33,6 +65,9 @@ uint32_t pinorange_lookup(const uint16_t *tabulation, size_t tabulation_length, 
  * Done (0): offset and length of the stretch, inside the words.
  * Refused (2, or 4 when word 3 counts more stashed keys than there are places): `*offset` and `*length` are 0. */
 uint32_t pinorange_stash(const uint32_t *words, size_t words_length, uint32_t *offset, uint32_t *length);
+
+/* Writes the house tabulation into a lent one of PINORANGE_TABULATION_LENGTH entries. Refused (1): another length, and it stays. */
+uint32_t pinorange_house(uint16_t *tabulation, size_t tabulation_length);
 
 #ifdef __cplusplus
 }

@@ -1,2 +1,3 @@
 -- What the exported calls write to their out-parameters.
 pub mod Out
+pub mod House

@@ -3,12 +3,15 @@
 ghost use mathlib.Core.Path.{_≡_};
 ghost use lib.ListN.{length};
 ghost use Rattle.layout.specs.Answers.{lookup-refusal, view-refusal, fresh-refusal, fresh-words};
-ghost use Rattle.dictionary.specs.Outcome.{change-outcome};
+ghost use Rattle.dictionary.specs.Outcome.{change-outcome, check-outcome};
 ghost use Rattle.dictionary.specs.Counters.{counted};
+ghost use Rattle.pinorange.specs.House.{house-answer, Housed};
 ghost use Rattle.pinorange.specs.Out.{present-out, offset-out, length-out};
 use dictionary::Change;
 use dictionary::Counters;
 use layout::Found;
+use tabulation::TABULATION_LENGTH;
+use tabulation::WRONG_TABULATION;
 
 // Whether the key is in the dictionary. Done, `present` is 1 or 0; refused, it stays as it was.
 #[no_mangle]
@@ -104,4 +107,31 @@ pub extern "C" fn pinorange_remove(
     let new = dictionary::update_counted(Change::Remove, tabulation, words, scratch, key, old);
     *counters = new.counters;
     new.answer
+}
+
+// Whether the words are the canonical image of a set: 1 to 4, or 0. The words are only read; the scratch is zero over its full length afterwards.
+#[no_mangle]
+pub extern "C" fn pinorange_check(tabulation: &[u16], words: &[u32], scratch: &mut [u32]) -> u32
+    ensures answered { λ n. ⌜ n ≡ check-outcome (now (tabulation .entry)) (now (words .entry)) (now (scratch .entry)) .answer ⌝ }
+    ensures cleared { λ n. ⌜ now (scratch .exit) ≡ check-outcome (now (tabulation .entry)) (now (words .entry)) (now (scratch .entry)) .scratch ⌝ }
+{
+    dictionary::core::check(tabulation, words, scratch)
+}
+
+// The house tabulation, written into a lent one; 1 if that is not of the right length, and it stays.
+#[no_mangle]
+pub extern "C" fn pinorange_house(tabulation: &mut [u16]) -> u32
+    ensures answered { λ n. ⌜ n ≡ house-answer (length (now (tabulation .entry))) ⌝ }
+    ensures filled { λ n. ⌜ Housed (now (tabulation .entry)) (now (tabulation .exit)) ⌝ }
+{
+    if tabulation.len() != TABULATION_LENGTH {
+        return WRONG_TABULATION;
+    }
+    let table = house::house_tabulation();
+    let mut i = 0;
+    while i < 2048 {
+        tabulation[i] = table[i];
+        i += 1;
+    }
+    0
 }

@@ -72,3 +72,127 @@ pub fn stash(words: &[u32]) -> (u32, &[u32]) {
         unsafe { pinorange_stash(words.as_ptr(), words.len(), &mut offset, &mut length) };
     (answer, &words[offset as usize..][..length as usize])
 }
+
+/// The counters, as they cross: the paper's "meter".
+#[repr(C)]
+#[derive(Clone, Copy, Debug, Default, PartialEq, Eq)]
+pub struct Counters {
+    pub done: u32,
+    pub refused: u32,
+}
+
+extern "C" {
+    fn pinorange_init(
+        words: *mut u32,
+        words_length: usize,
+        r: u32,
+        s: u32,
+        counters: *mut Counters,
+    ) -> u32;
+
+    fn pinorange_insert(
+        tabulation: *const u16,
+        tabulation_length: usize,
+        words: *mut u32,
+        words_length: usize,
+        scratch: *mut u32,
+        scratch_length: usize,
+        counters: *mut Counters,
+        key: u32,
+    ) -> u32;
+
+    fn pinorange_remove(
+        tabulation: *const u16,
+        tabulation_length: usize,
+        words: *mut u32,
+        words_length: usize,
+        scratch: *mut u32,
+        scratch_length: usize,
+        counters: *mut Counters,
+        key: u32,
+    ) -> u32;
+
+    fn pinorange_check(
+        tabulation: *const u16,
+        tabulation_length: usize,
+        words: *const u32,
+        words_length: usize,
+        scratch: *mut u32,
+        scratch_length: usize,
+    ) -> u32;
+
+    fn pinorange_house(tabulation: *mut u16, tabulation_length: usize) -> u32;
+}
+
+/// Lays fresh words.
+pub fn init(words: &mut [u32], r: u32, s: u32, counters: &mut Counters) -> u32 {
+    // Safe: the slice is valid for its length, and the call is proved to touch nothing else but the counters.
+    unsafe { pinorange_init(words.as_mut_ptr(), words.len(), r, s, counters) }
+}
+
+/// Puts a key in.
+pub fn insert(
+    tabulation: &[u16],
+    words: &mut [u32],
+    scratch: &mut [u32],
+    counters: &mut Counters,
+    key: u32,
+) -> u32 {
+    // Safe: the slices are valid for their lengths and apart, and the call is proved to touch nothing else but the counters.
+    unsafe {
+        pinorange_insert(
+            tabulation.as_ptr(),
+            tabulation.len(),
+            words.as_mut_ptr(),
+            words.len(),
+            scratch.as_mut_ptr(),
+            scratch.len(),
+            counters,
+            key,
+        )
+    }
+}
+
+/// Takes a key out.
+pub fn remove(
+    tabulation: &[u16],
+    words: &mut [u32],
+    scratch: &mut [u32],
+    counters: &mut Counters,
+    key: u32,
+) -> u32 {
+    // Safe: as for `insert`.
+    unsafe {
+        pinorange_remove(
+            tabulation.as_ptr(),
+            tabulation.len(),
+            words.as_mut_ptr(),
+            words.len(),
+            scratch.as_mut_ptr(),
+            scratch.len(),
+            counters,
+            key,
+        )
+    }
+}
+
+/// Says whether the words are a canonical image.
+pub fn check(tabulation: &[u16], words: &[u32], scratch: &mut [u32]) -> u32 {
+    // Safe: as for `insert`; the words are only read.
+    unsafe {
+        pinorange_check(
+            tabulation.as_ptr(),
+            tabulation.len(),
+            words.as_ptr(),
+            words.len(),
+            scratch.as_mut_ptr(),
+            scratch.len(),
+        )
+    }
+}
+
+/// Fills a tabulation with the house tabulation.
+pub fn house(tabulation: &mut [u16]) -> u32 {
+    // Safe: the slice is valid for its length, and the call is proved to touch nothing else.
+    unsafe { pinorange_house(tabulation.as_mut_ptr(), tabulation.len()) }
+}
