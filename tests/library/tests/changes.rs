@@ -267,3 +267,57 @@ fn damaged_words() {
     eprintln!("{tampered} damages found, {another} that are another image");
     assert!(tampered > 1_000);
 }
+
+/// A set of `count` keys of any size, ascending.
+fn any_keys(rng: &mut Rng, count: usize) -> Vec<u32> {
+    let mut keys: Vec<u32> = (0..count).map(|_| rng.next_u32().max(1)).collect();
+    keys.sort_unstable();
+    keys.dedup();
+    keys
+}
+
+/// The build of random sets, r from 1 to 1,024, from empty to over-full, with random, constant and house tabulations: `check` builds the set and
+/// compares every word with the reference's image, and an insert builds one key more.
+#[test]
+fn every_size_and_load() {
+    let mut rng = Rng::new(25);
+    let (mut built, mut full, mut stashed) = (0, 0, 0);
+    for round in 0..400 {
+        let r = match round % 4 {
+            0 => 1 + rng.below(16),
+            1 => 1 + rng.below(128),
+            _ => 1 + rng.below(1_024),
+        } as u32;
+        let s = rng.below(65) as u32;
+        let tabulation = match rng.below(4) {
+            0 => vec![rng.next_u32() as u16; 2_048],
+            1 => reference::house::HOUSE.to_vec(),
+            2 => random_tabulation(&mut rng, 1 + 4 * r as usize),
+            _ => random_tabulation(&mut rng, 65_536),
+        };
+        let most = 2 * r as usize + s as usize;
+        let count = match rng.below(4) {
+            0 => rng.below(1 + s as usize),
+            1 => rng.below(1 + r as usize),
+            _ => rng.below(1 + most),
+        };
+        let keys = any_keys(&mut rng, count);
+        let scratch = vec![3; sheet_for(r, s)];
+        let Some(mut words) = reference::fast::image(&tabulation, r, s, &keys) else {
+            full += 1;
+            continue;
+        };
+        stashed += words[3];
+        built += 1;
+        assert_eq!(compare(Kind::Check, &tabulation, &mut words, &scratch, Counters::default(), 0), 0);
+        for _ in 0..3 {
+            let key = rng.next_u32().max(1);
+            compare(Kind::Insert, &tabulation, &mut words, &scratch, Counters::default(), key);
+        }
+        if let Some(key) = keys.first() {
+            compare(Kind::Remove, &tabulation, &mut words, &scratch, Counters::default(), *key);
+        }
+    }
+    eprintln!("{built} sets built, {full} that do not fit, {stashed} keys stashed");
+    assert!(built > 150 && full > 50 && stashed > 1_000);
+}
