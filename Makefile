@@ -1,6 +1,11 @@
 # The commands of this repository. See README.md.
 
-.PHONY: test quick clean
+.PHONY: run test quick clean
+
+# Builds the console and the house book, and shows two heads with different pasts and one list.
+run:
+	@rt check console house_book >/dev/null
+	@sample/run
 
 # Everything, from nothing: the layout, every proof, every must-fail edit, the programs, the Rust tests and the C tests. The last
 # line is 'N passed, M failed'; the exit status is 0 only when M is 0.

@@ -1,0 +1,57 @@
+-- Every row that is printed fits into `row-room` bytes: its numbers have at most 10 digits, a line's number at most 20. Assumes nothing.
+use Prim.Native.Nat.{ℕ, _≤_, _<_, _^_}
+use native.Mathlib.Omega.{arith}
+use lib.ListN.{length, length-append}
+use Rattle.lines.specs.Decimal.{digits-32, digits-64}
+use Rattle.lines.specs.Row.{answer-row, insert-row, remove-row, lookup-row, error-row, slot-row, stash-row, book-row, row-room}
+use Rattle.lines.specs.declared.Looked.{Looked}
+use Rattle.lines.specs.declared.Looked.the-variants.{Present, Absent, Refused}
+
+-- the bytes of the buffer that rows are gathered in
+abbrev pub room : ℕ
+room = 4096
+
+-- the largest number of 32 bits
+abbrev pub largest : ℕ
+largest = 4294967295
+
+answer-short : (letter key answer : ℕ) → key ≤ largest → answer ≤ largest → length (answer-row letter key answer) ≤ row-room
+answer-short letter key answer h l = simp length-append (omega (arith, digits-32 key h, digits-32 answer l))
+
+pub insert-short : (key answer : ℕ) → key ≤ largest → answer ≤ largest → length (insert-row key answer) ≤ row-room
+unfolding insert-row
+insert-short key answer h l = answer-short 65 key answer h l
+
+pub remove-short : (key answer : ℕ) → key ≤ largest → answer ≤ largest → length (remove-row key answer) ≤ row-room
+unfolding remove-row
+remove-short key answer h l = answer-short 87 key answer h l
+
+pub present-short : (key : ℕ) → key ≤ largest → length (lookup-row key Present) ≤ row-room
+unfolding lookup-row
+present-short key h = answer-short 76 key 1 h (omega arith)
+
+pub absent-short : (key : ℕ) → key ≤ largest → length (lookup-row key Absent) ≤ row-room
+unfolding lookup-row
+absent-short key h = answer-short 76 key 0 h (omega arith)
+
+pub refused-short : (key number : ℕ) → key ≤ largest → number ≤ largest → length (lookup-row key (Refused number)) ≤ row-room
+unfolding lookup-row
+refused-short key number h l = simp length-append (omega (arith, digits-32 key h, digits-32 number l))
+
+pub error-short : (line : ℕ) → line < 2 ^ 64 → length (error-row line) ≤ row-room
+unfolding error-row
+error-short line h = simp length-append (omega (arith, digits-64 line h))
+
+pub slot-short : (table slot key next : ℕ) → table ≤ largest → slot ≤ largest → key ≤ largest → next ≤ largest
+    → length (slot-row table slot key next) ≤ row-room
+unfolding slot-row
+slot-short table slot key next h i j k =
+    simp length-append (omega (arith, digits-32 table h, digits-32 slot i, digits-32 key j, digits-32 next k))
+
+pub stash-short : (key : ℕ) → key ≤ largest → length (stash-row key) ≤ row-room
+unfolding stash-row
+stash-short key h = simp length-append (omega (arith, digits-32 key h))
+
+pub book-short : length book-row ≤ row-room
+unfolding book-row
+book-short = omega arith

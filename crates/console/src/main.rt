@@ -1,0 +1,132 @@
+// The console: book.bin and the lines of standard input in, rows on standard output. The grammar and the rows are those of `lines`, the calls those of
+// `dictionary` and `layout`; here is only the reading and writing.
+mod listing;
+mod rows;
+mod session;
+
+ghost use Prim.Native.Nat.{_≤_};
+ghost use lib.ListN.{length};
+ghost use mathlib.Core.Path.{_≡_};
+ghost use Rattle.book.specs.Bytes.{entries-of};
+ghost use Rattle.layout.specs.Layout.{words-length};
+ghost use Rattle.layout.specs.Shape.{Sized};
+use dictionary::Counters;
+use libc::STDIN_FILENO;
+use lines::LONGEST;
+use lines::Line;
+use lines::NEWLINE;
+use lines::Sizes;
+use tabulation::TABULATION_LENGTH;
+
+// The bytes of a book.
+const BOOK_BYTES: usize = 4096;
+
+// What the largest sizes need: 4 + 4 * 1024 + 64 words, and scratch of 8 * 1024 + 4 * 64.
+const MAX_WORDS: usize = 4164;
+
+const MAX_SCRATCH: usize = 8448;
+
+// A byte of standard input.
+enum Byte {
+    Read(u8),
+    End,
+}
+
+// Reads book.bin, and says whether it could be read and has as many bytes as a book: one byte more would be a longer file.
+fn read_book(bytes: &mut [u8; BOOK_BYTES]) -> bool {
+    let file = os::open_read(b"book.bin");
+    if file < 0 {
+        return false;
+    }
+    let mut more = [0u8; 1];
+    let n = io::read_full(file, bytes);
+    let rest = io::read_full(file, &mut more);
+    libc::close(file);
+    n == BOOK_BYTES && rest == 0
+}
+
+fn decode(bytes: &[u8; BOOK_BYTES], tabulation: &mut [u16; TABULATION_LENGTH])
+    ensures { λ _. ⌜ now (tabulation .exit) ≡ entries-of (now (bytes .entry)) ⌝ }
+{
+    book::decode(bytes, tabulation);
+}
+
+fn read_byte() -> Byte {
+    let mut byte = [0u8; 1];
+    let n = io::read_full(STDIN_FILENO, &mut byte);
+    if n == 0 {
+        return Byte::End;
+    }
+    Byte::Read(byte[0])
+}
+
+// Line 1. It is read byte by byte, so that nothing behind it is taken, and no further than to see that it is too long for a known form.
+fn first_line() -> Line {
+    let mut line = lines::empty_line();
+    let mut i = 0;
+    while i <= LONGEST {
+        let read = read_byte();
+        let Byte::Read(byte) = read else {
+            return line;
+        };
+        if byte == NEWLINE {
+            return line;
+        }
+        line = lines::feed(line, byte);
+        i += 1;
+    }
+    line
+}
+
+// The run on words of the right length: they are laid fresh, the lines are answered, and the listing follows.
+fn run(tabulation: &[u16], words: &mut [u32], scratch: &mut [u32], r: u32, s: u32) {
+    let none = Counters {
+        done: 0,
+        refused: 0,
+    };
+    let laid = dictionary::init_counted(&mut *words, r, s, none);
+    if laid.answer != 0 {
+        rows::print_no_sizes();
+        return;
+    }
+    let counters = laid.counters;
+    let mut out = [0u8; rows::ROOM];
+    let at = session::serve(tabulation, &mut *words, &mut *scratch, &mut out, counters);
+    let end = listing::list(&*words, &mut out, at);
+    rows::flush(&out, end);
+}
+
+// The run on as many of the words as these sizes need.
+fn run_part(tabulation: &[u16], words: &mut [u32], scratch: &mut [u32], r: u32, s: u32)
+    requires { ⌜ Sized r s × (words-length r s ≤ length (now words)) ⌝ }
+{
+    let end = layout::length_for(r, s);
+    run(tabulation, &mut words[..end], scratch, r, s);
+}
+
+// Words and scratch for the largest sizes.
+fn run_sized(tabulation: &[u16; TABULATION_LENGTH], r: u32, s: u32) {
+    if !layout::are_sizes(r, s) {
+        rows::print_no_sizes();
+        return;
+    }
+    let mut words = [0u32; MAX_WORDS];
+    let mut scratch = [0u32; MAX_SCRATCH];
+    run_part(tabulation, &mut words, &mut scratch, r, s);
+}
+
+fn main() {
+    let mut bytes = [0u8; BOOK_BYTES];
+    if !read_book(&mut bytes) {
+        rows::print_no_book();
+        return;
+    }
+    let mut tabulation = [0u16; TABULATION_LENGTH];
+    decode(&bytes, &mut tabulation);
+    let sizes = lines::sizes_in(first_line());
+    let Sizes::Given(r, s) = sizes else {
+        rows::print_no_sizes();
+        return;
+    };
+    run_sized(&tabulation, r, s);
+}

@@ -1,0 +1,272 @@
+// The lines after the first: each is answered by a row when its newline, or the end of the input, is read.
+ghost use Prim.Native.Nat.{_≤_};
+ghost use Rattle.console.specs.Short.{room};
+use crate::rows;
+use crate::rows::ROOM;
+use dictionary::Change;
+use dictionary::Counters;
+use libc::STDIN_FILENO;
+use lines::Command;
+use lines::Line;
+use lines::NEWLINE;
+
+// What the lines so far left behind: the counters, and where the next row goes in the buffer.
+pub struct Done {
+    pub counters: Counters,
+    pub at: usize,
+}
+
+// The line that is being read and its number, and what the lines before it left.
+pub struct Session {
+    pub line: Line,
+    pub number: u64,
+    pub done: Done,
+}
+
+// What a read of the input gave.
+struct Took {
+    more: bool,
+    session: Session,
+}
+
+fn insert(
+    tabulation: &[u16],
+    words: &mut [u32],
+    scratch: &mut [u32],
+    out: &mut [u8; ROOM],
+    key: u32,
+    done: Done,
+) -> Done
+    requires { ⌜ done .at ≤ room ⌝ }
+    ensures { λ r. ⌜ r .at ≤ room ⌝ }
+{
+    let before = done.counters;
+    let counted = dictionary::update_counted(
+        Change::Insert,
+        tabulation,
+        words,
+        scratch,
+        key,
+        before,
+    );
+    let counters = counted.counters;
+    let at = rows::add_insert(out, done.at, key, counted.answer);
+    Done {
+        counters: counters,
+        at: at,
+    }
+}
+
+fn remove(
+    tabulation: &[u16],
+    words: &mut [u32],
+    scratch: &mut [u32],
+    out: &mut [u8; ROOM],
+    key: u32,
+    done: Done,
+) -> Done
+    requires { ⌜ done .at ≤ room ⌝ }
+    ensures { λ r. ⌜ r .at ≤ room ⌝ }
+{
+    let before = done.counters;
+    let counted = dictionary::update_counted(
+        Change::Remove,
+        tabulation,
+        words,
+        scratch,
+        key,
+        before,
+    );
+    let counters = counted.counters;
+    let at = rows::add_remove(out, done.at, key, counted.answer);
+    Done {
+        counters: counters,
+        at: at,
+    }
+}
+
+fn lookup(tabulation: &[u16], words: &[u32], out: &mut [u8; ROOM], key: u32, done: Done) -> Done
+    requires { ⌜ done .at ≤ room ⌝ }
+    ensures { λ r. ⌜ r .at ≤ room ⌝ }
+{
+    let found = layout::lookup(tabulation, words, key);
+    let at = rows::add_lookup(out, done.at, key, found);
+    let counters = done.counters;
+    Done {
+        counters: counters,
+        at: at,
+    }
+}
+
+fn error(out: &mut [u8; ROOM], number: u64, done: Done) -> Done
+    requires { ⌜ done .at ≤ room ⌝ }
+    ensures { λ r. ⌜ r .at ≤ room ⌝ }
+{
+    let at = rows::add_error(out, done.at, number);
+    let counters = done.counters;
+    Done {
+        counters: counters,
+        at: at,
+    }
+}
+
+// A whole line.
+fn answer(
+    tabulation: &[u16],
+    words: &mut [u32],
+    scratch: &mut [u32],
+    out: &mut [u8; ROOM],
+    session: Session,
+) -> Done
+    requires { ⌜ session .done .at ≤ room ⌝ }
+    ensures { λ r. ⌜ r .at ≤ room ⌝ }
+{
+    let line = session.line;
+    let done = session.done;
+    let command = lines::command_in(line);
+    match command {
+        Command::Insert(key) => insert(tabulation, words, scratch, out, key, done),
+        Command::Remove(key) => remove(tabulation, words, scratch, out, key, done),
+        Command::Lookup(key) => lookup(tabulation, &*words, out, key, done),
+        Command::Other => error(out, session.number, done),
+    }
+}
+
+// One byte of the input.
+fn take_byte(
+    tabulation: &[u16],
+    words: &mut [u32],
+    scratch: &mut [u32],
+    out: &mut [u8; ROOM],
+    session: Session,
+    byte: u8,
+) -> Session
+    requires { ⌜ session .done .at ≤ room ⌝ }
+    ensures { λ r. ⌜ r .done .at ≤ room ⌝ }
+{
+    if byte != NEWLINE {
+        let line = lines::feed(session.line, byte);
+        let done = session.done;
+        return Session {
+            line: line,
+            number: session.number,
+            done: done,
+        };
+    }
+    let done = answer(tabulation, words, scratch, out, session);
+    let line = lines::empty_line();
+    Session {
+        line: line,
+        number: lines::next_number(session.number),
+        done: done,
+    }
+}
+
+// A stretch of the input.
+fn take_bytes(
+    tabulation: &[u16],
+    words: &mut [u32],
+    scratch: &mut [u32],
+    out: &mut [u8; ROOM],
+    start: Session,
+    bytes: &[u8],
+) -> Session
+    requires { ⌜ start .done .at ≤ room ⌝ }
+    ensures { λ r. ⌜ r .done .at ≤ room ⌝ }
+{
+    let mut session = start;
+    let mut i = 0;
+    while i < bytes.len() {
+        session = take_byte(
+            tabulation,
+            &mut *words,
+            &mut *scratch,
+            &mut *out,
+            session,
+            bytes[i],
+        );
+        i += 1;
+    }
+    session
+}
+
+// One read of the input. A read that fails ends it.
+fn turn(
+    tabulation: &[u16],
+    words: &mut [u32],
+    scratch: &mut [u32],
+    out: &mut [u8; ROOM],
+    session: Session,
+) -> Took
+    requires { ⌜ session .done .at ≤ room ⌝ }
+    ensures { λ r. ⌜ r .session .done .at ≤ room ⌝ }
+{
+    let mut bytes = io::large_buffer();
+    let got = libc::read(STDIN_FILENO, &mut bytes);
+    if got <= 0 {
+        return Took {
+            more: false,
+            session: session,
+        };
+    }
+    let n = io::count(got, &bytes);
+    let next = take_bytes(tabulation, words, scratch, out, session, &bytes[..n]);
+    Took {
+        more: true,
+        session: next,
+    }
+}
+
+// The input to its end. Nothing says that an input ends, so the turns are counted down from a number that no run uses up.
+fn take_input(
+    tabulation: &[u16],
+    words: &mut [u32],
+    scratch: &mut [u32],
+    out: &mut [u8; ROOM],
+    start: Session,
+) -> Session
+    requires { ⌜ start .done .at ≤ room ⌝ }
+    ensures { λ r. ⌜ r .done .at ≤ room ⌝ }
+{
+    let mut session = start;
+    let mut turns = u64::MAX;
+    while turns > 0 {
+        let took = turn(tabulation, &mut *words, &mut *scratch, &mut *out, session);
+        session = took.session;
+        if !took.more {
+            return session;
+        }
+        turns -= 1;
+    }
+    session
+}
+
+// The lines from line 2 on, the last one with or without its newline. The answer is where the next row goes.
+pub fn serve(
+    tabulation: &[u16],
+    words: &mut [u32],
+    scratch: &mut [u32],
+    out: &mut [u8; ROOM],
+    counters: Counters,
+) -> usize
+    ensures { λ r. ⌜ r ≤ room ⌝ }
+{
+    let done = Done {
+        counters: counters,
+        at: 0,
+    };
+    let line = lines::empty_line();
+    let start = Session {
+        line: line,
+        number: 2,
+        done: done,
+    };
+    let session = take_input(tabulation, &mut *words, &mut *scratch, &mut *out, start);
+    let rest = session.line;
+    let before = session.done;
+    if lines::is_empty(rest) {
+        return before.at;
+    }
+    let last = answer(tabulation, &mut *words, &mut *scratch, &mut *out, session);
+    last.at
+}

@@ -1,0 +1,29 @@
+// Writes the house tabulation to the file book.bin, which the console reads.
+ghost use mathlib.Core.Path.{_≡_};
+ghost use Rattle.book.specs.Bytes.{bytes-of};
+
+fn encode(tabulation: &[u16; 2048], bytes: &mut [u8; 4096])
+    ensures { λ _. ⌜ now (bytes .exit) ≡ bytes-of (now (tabulation .entry)) ⌝ }
+{
+    book::encode(tabulation, bytes);
+}
+
+fn save(bytes: &[u8; 4096]) {
+    let path = b"book.bin";
+    let file = os::open_overwrite(path);
+    if file < 0 {
+        os::fail(path);
+        return;
+    }
+    if !io::write_all(file, bytes) {
+        os::fail(path);
+    }
+    libc::close(file);
+}
+
+fn main() {
+    let tabulation = house::house_tabulation();
+    let mut bytes = [0u8; 4096];
+    encode(&tabulation, &mut bytes);
+    save(&bytes);
+}
