@@ -3,7 +3,7 @@
 fn main() {
     let root = concat!(env!("CARGO_MANIFEST_DIR"), "/../..");
     println!("cargo:rustc-link-search=native={root}/target/staticlib");
-    for library in ["tabulation", "pinorange"] {
+    for library in ["pinorange"] {
         println!("cargo:rustc-link-lib=static={library}");
         println!("cargo:rerun-if-changed={root}/target/staticlib/lib{library}.a");
     }

@@ -2,6 +2,7 @@
 // cannot cross, so a call gives document 01's number and writes the rest to out-parameters. What these hold after a refusal is part of each promise.
 ghost use mathlib.Core.Path.{_≡_};
 ghost use lib.ListN.{length};
+ghost use Rattle.tabulation.specs.Answer.{hashes-refusal, written};
 ghost use Rattle.layout.specs.Answers.{lookup-refusal, view-refusal, fresh-refusal, fresh-words};
 ghost use Rattle.dictionary.specs.Outcome.{change-outcome, check-outcome};
 ghost use Rattle.dictionary.specs.Counters.{counted};
@@ -134,4 +135,20 @@ pub extern "C" fn pinorange_house(tabulation: &mut [u16]) -> u32
         i += 1;
     }
     0
+}
+
+// Both hashes of a key, as the crate `tabulation` exports them for whoever links the hashing alone.
+#[no_mangle]
+pub extern "C" fn pinorange_hashes(
+    tabulation: &[u16],
+    r: u32,
+    key: u32,
+    first: &mut u32,
+    second: &mut u32,
+) -> u32
+    ensures numbered { λ n. ⌜ n ≡ hashes-refusal (record { tabulation = now (tabulation .entry); slots = r }) key ⌝ }
+    ensures first_hash { λ n. ⌜ now (first .exit) ≡ written (record { tabulation = now (tabulation .entry); slots = r }) key 0 (now (first .entry)) ⌝ }
+    ensures second_hash { λ n. ⌜ now (second .exit) ≡ written (record { tabulation = now (tabulation .entry); slots = r }) key 1 (now (second .entry)) ⌝ }
+{
+    tabulation::pinorange_hashes(tabulation, r, key, first, second)
 }

@@ -78,6 +78,20 @@ fn the_worked_listing() {
     );
 }
 
+/// K1 to K12 of the specification, each set from its largest card down, with a withdrawal for K7 and K10.
+#[test]
+fn the_test_board() {
+    let folder = Folder::new("board");
+    let book = book_of(&test_tabulation());
+    for session in [
+        "4,1", "4,1 A,17", "4,1 A,17 A,1", "4,1 A,65 A,1", "4,1 A,129 A,65 A,1", "4,1 A,129 A,65 A,1 A,193", "4,2 A,193 A,129 A,65 A,1",
+        "4,1 A,129 A,65 A,1 W,65", "4,1 A,129 A,65 A,17", "4,1 A,98 A,65 A,34 A,33 A,1", "4,1 A,98 A,65 A,34 A,33 A,1 W,33",
+        "4,1 A,225 A,98 A,65 A,34 A,1", "1,0 A,9 A,7 A,8",
+    ] {
+        compare(&folder, Some(&book), session.replace(' ', "\n").as_bytes());
+    }
+}
+
 #[test]
 fn the_grammar() {
     let folder = Folder::new("grammar");

@@ -1,6 +1,6 @@
 //! The hashes of a key, from the built library, against the program by another hand.
 
-use library::hashes;
+use hashing::hashes;
 use reference::hash::TABULATION_LEN;
 use reference::rng::Rng;
 
