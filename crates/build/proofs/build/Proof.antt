@@ -3,45 +3,33 @@ use Rattle.build.specs.Whole.{room-of, room-kept, built-full, built-made
 use borrow.Author.Needs.{needs}
 use Rattle.build.proofs.build.Statement.{statement}
 use Rattle.build.proofs.build.Tie as tie
-use Rattle.build.proofs.build.Reads as reads
-use Rattle.build.proofs.build.Lts as lts
-use Rattle.build.proofs.prepare.Reads as prepare-reads
-use Rattle.build.proofs.seat.Reads as seat-reads
 
--- src/lib.rt:48:9
 prepare-requires : tie.Need-prepare-requires
 prepare-requires c κs = search needs
 
--- src/lib.rt:49:26
 enum-known-count : tie.Need-enum-known-count
 enum-known-count c = search needs
 
--- src/lib.rt:50:9
 enum-told : tie.Need-enum-told
 enum-told c = search needs
 
--- src/lib.rt:50:9
 same-length : tie.Need-same-length
 same-length c = search needs
 
--- src/lib.rt:50:9
 returns : tie.Need-returns
 returns c =
     let p = c .before .before .before .before in
     built-full (c .before .before .before .before .before .before .before .before .pre) (p .prepare .ensures .1) (c .enum-told .given .1) (p .prepare .ensures .0)
 
--- src/lib.rt:52:5
 seat-requires : tie.Need-seat-requires
 seat-requires c κs =
     let p = c .before .before .before .before .before .before in
     let B = c .before .before .before .before .before .before .before .before .before .before .pre in
     (room-kept (room-of B) (p .prepare .kept .0), B .keys, chainable-noted B (p .prepare .ensures .0))
 
--- src/lib.rt:44:1
 same-length-2 : tie.Need-same-length-2
 same-length-2 c = search needs
 
--- src/lib.rt:44:1
 returns-2 : tie.Need-returns-2
 returns-2 c =
     let q = c .before .before .before .before .before in

@@ -4,21 +4,13 @@ use Rattle.build.specs.Whole.{solid-of, room-of, room-kept, labels-found
 use borrow.Author.Needs.{needs}
 use Rattle.build.proofs.prepare.Statement.{statement}
 use Rattle.build.proofs.prepare.Tie as tie
-use Rattle.build.proofs.prepare.Reads as reads
-use Rattle.build.proofs.prepare.Lts as lts
-use Rattle.build.proofs.link.label_slots.Reads as label-slots-reads
-use Rattle.build.proofs.link.link_keys.Reads as link-keys-reads
-use Rattle.build.proofs.notes.note_keys.Reads as note-keys-reads
 
--- src/lib.rt:26:5
 link-keys-requires : tie.Need-link-keys-requires
 link-keys-requires c κs = let B = c .before .before .before .pre in (B .room, B .full-tabulation, B .some, B .most, B .few, B .keys, solid-of B)
 
--- src/lib.rt:27:5
 label-slots-requires : tie.Need-label-slots-requires
 label-slots-requires c κs = search needs
 
--- src/lib.rt:28:5
 note-keys-requires : tie.Need-note-keys-requires
 note-keys-requires c κs =
     let l = c .before .before .before in
@@ -26,11 +18,9 @@ note-keys-requires c κs =
     let B = c .before .before .before .before .before .before .before .before .before .before .before .pre in
     (room-kept (room-of B) (l .label-slots .kept .0 ∙ k .link-keys .kept .0), labels-found B (k .link-keys .ensures) (l .label-slots .ensures), B .keys)
 
--- src/lib.rt:21:1
 same-length : tie.Need-same-length
 same-length c = search needs
 
--- src/lib.rt:21:1
 returns : tie.Need-returns
 returns c =
     let m = c .before .before in

@@ -4,35 +4,25 @@ use Rattle.dictionary.specs.Core.{early-none, check-early, check-ready, 
 use borrow.Author.Needs.{needs}
 use Rattle.dictionary.proofs.core.check_words.Statement.{statement}
 use Rattle.dictionary.proofs.core.check_words.Tie as tie
-use Rattle.dictionary.proofs.core.check_words.Reads as reads
-use Rattle.dictionary.proofs.core.check_words.Lts as lts
-use Rattle.dictionary.proofs.core.early.Reads as early-reads
-use Rattle.dictionary.proofs.core.load.Reads as load-reads
 
--- src/core.rt:155:9
 early-requires : tie.Need-early-requires
 early-requires c κs = search needs
 
--- src/core.rt:157:9
 returns : tie.Need-returns
 returns c = let a = c .before .early .ensures in a ∙ check-early _ _ _ (λ q. c .if1 .taken (a ∙ q))
 
--- src/core.rt:159:9
 load-requires : tie.Need-load-requires
 load-requires c κs = early-none _ _ _ (sym (c .before .before .early .ensures) ∙ c .before .if1 .left)
 
 enum-told : tie.Need-enum-told
 enum-told c = search needs
 
--- src/core.rt:161:9
 enum-told-2 : tie.Need-enum-told-2
 enum-told-2 c = search needs
 
--- src/core.rt:161:9
 same-length : tie.Need-same-length
 same-length c = search needs
 
--- src/core.rt:161:9
 returns-2 : tie.Need-returns-2
 returns-2 c =
     let l = c .before .before .before .before in
@@ -41,11 +31,9 @@ returns-2 c =
     let t = told-tampered _ _ (sym (c .enum-told2 .given .1) ∙ l .load .ensures .0) in
     rw t at (check-ready (d .args .tabulation .now) (d .args .words .now) (d .args .scratch .now) (early-none _ _ _ (sym (e .before .early .ensures) ∙ e .if1 .left)))
 
--- src/core.rt:152:1
 same-length-2 : tie.Need-same-length-2
 same-length-2 c = search needs
 
--- src/core.rt:152:1
 returns-3 : tie.Need-returns-3
 returns-3 c =
     let l = c .before .before .before .before in

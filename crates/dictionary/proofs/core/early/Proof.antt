@@ -7,45 +7,33 @@ use Rattle.dictionary.specs.Core.{early-refusal}
 use borrow.Author.Needs.{needs}
 use Rattle.dictionary.proofs.core.early.Statement.{statement}
 use Rattle.dictionary.proofs.core.early.Tie as tie
-use Rattle.dictionary.proofs.core.early.Reads as reads
-use Rattle.dictionary.proofs.core.early.Lts as lts
-use Rattle.dictionary.proofs.core.scratch_for.Reads as scratch-for-reads
-use Rattle.layout.proofs.is_shaped.Reads as is-shaped-reads
 
--- src/core.rt:36:9
 returns : tie.Need-returns
 unfolding early-refusal
 returns c = rw (ne-eqb _ _ (c .if1 .taken))
 
--- src/core.rt:38:9
 is-shaped-requires : tie.Need-is-shaped-requires
 is-shaped-requires c κs = search needs
 
--- src/core.rt:39:9
 returns-2 : tie.Need-returns-2
 unfolding early-refusal
 returns-2 c = rw (eq-eqb _ _ (c .before .before .if1 .left), sym (c .before .is-shaped .ensures) ∙ not-true _ (c .if2 .taken))
 
--- src/core.rt:41:27
 shared-slice-read-scratch-for : tie.Need-shared-slice-read-scratch-for
 shared-slice-read-scratch-for c = omega (arith, shape _ (sym (c .before .before .is-shaped .ensures) ∙ not-false _ (c .before .if2 .left)))
 
--- src/core.rt:41:37
 shared-slice-read-scratch-for-2 : tie.Need-shared-slice-read-scratch-for-2
 shared-slice-read-scratch-for-2 c = omega (arith, shape _ (sym (c .before .before .before .is-shaped .ensures) ∙ not-false _ (c .before .before .if2 .left)))
 
--- src/core.rt:41:15
 scratch-for-requires : tie.Need-scratch-for-requires
 scratch-for-requires c κs = shape _ (sym (c .before .before .before .is-shaped .ensures) ∙ not-false _ (c .before .before .if2 .left)) .sizes
 
--- src/core.rt:42:9
 returns-3 : tie.Need-returns-3
 unfolding early-refusal
 returns-3 c =
     let d = c .before .before .before .before in
     rw (eq-eqb _ _ (d .before .before .if1 .left), sym (d .before .is-shaped .ensures) ∙ not-false _ (d .if2 .left), lt-ltb _ _ (rw (c .before .scratch-for .ensures) at (c .if3 .taken)))
 
--- src/core.rt:32:1
 returns-4 : tie.Need-returns-4
 unfolding early-refusal
 returns-4 c =

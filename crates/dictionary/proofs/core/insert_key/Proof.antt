@@ -1,31 +1,22 @@
 -- `dictionary::core::insert_key` meets its contract: the key is there, there is no room for a further key, or the set with it is built.
-use Prim.Native.Nat.{_+_, _≤_, _<_}
-use mathlib.Core.Path.{_≡_, sym, _∙_}
+use Prim.Native.Nat.{_+_, _≤_}
+use mathlib.Core.Path.{sym, _∙_}
 use native.Mathlib.Omega.{arith}
-use borrow.Author.Tests.{not-true, not-false}
 use lib.ListN.{length}
 use lib.Seq.{length-take-le}
 use Rattle.layout.specs.Shape.{shape}
-use Rattle.dictionary.specs.declared.Change.the-variants.{Insert, Remove}
-use Rattle.dictionary.specs.Core.{key-count, front-asc, insert-present, insert-crowded, insert-renewed, remove-absent, remove-renewed, changed-front, changed-buildable}
+use Rattle.dictionary.specs.declared.Change.the-variants.{Insert}
+use Rattle.dictionary.specs.Core.{key-count, front-asc, insert-present, insert-crowded, insert-renewed, changed-front, changed-buildable}
 use borrow.Author.Needs.{needs}
 use Rattle.dictionary.proofs.core.insert_key.Statement.{statement}
 use Rattle.dictionary.proofs.core.insert_key.Tie as tie
-use Rattle.dictionary.proofs.core.insert_key.Reads as reads
-use Rattle.dictionary.proofs.core.insert_key.Lts as lts
-use Rattle.dictionary.proofs.core.renew.Reads as renew-reads
-use Rattle.ordered.proofs.has.Reads as has-reads
-use Rattle.ordered.proofs.insert.Reads as insert-reads
-use Rattle.words.proofs.wide.Reads as wide-reads
 
--- src/core.rt:95:21
 slice-reshare-prefix-has : tie.Need-slice-reshare-prefix-has
 slice-reshare-prefix-has c =
     let d = c .before .before .before in
     let k = key-count (d .pre) in
     omega (arith, d .pre .ready .room)
 
--- src/core.rt:95:21
 slice-aggregate-has : tie.Need-slice-aggregate-has
 slice-aggregate-has c =
     let d = c .before .before .before .before in
@@ -33,49 +24,38 @@ slice-aggregate-has c =
     let fit : d .args .n ≤ length (d .args .scratch .now) = omega (arith, d .pre .ready .room) in
     sym (length-take-le _ _ fit)
 
--- src/core.rt:95:8
 has-requires : tie.Need-has-requires
 has-requires c κs = front-asc (c .before .before .before .before .pre)
 
--- src/core.rt:96:9
 same-length : tie.Need-same-length
 same-length c = search needs
 
--- src/core.rt:96:9
 returns : tie.Need-returns
 returns c = insert-present (c .before .before .before .before .before .before .pre) (sym (c .before .has .ensures) ∙ c .if1 .taken)
 
--- src/core.rt:98:17
 slice-read-wide : tie.Need-slice-read-wide
 slice-read-wide c = omega (arith, shape _ (c .before .before .before .before .before .before .before .pre .ready .shape))
 
--- src/core.rt:98:13
 mul-wide : tie.Need-mul-wide
 mul-wide c = omega (arith, shape _ (c .before .before .before .before .before .before .before .pre .ready .shape))
 
--- src/core.rt:98:28
 slice-read-wide-2 : tie.Need-slice-read-wide-2
 slice-read-wide-2 c = omega (arith, shape _ (c .before .before .before .before .before .before .before .before .pre .ready .shape))
 
--- src/core.rt:98:13
 add-wide : tie.Need-add-wide
 add-wide c = omega (arith, shape _ (c .before .before .before .before .before .before .before .before .pre .ready .shape))
 
--- src/core.rt:98:8
 wide-requires : tie.Need-wide-requires
 wide-requires c κs = search needs
 
--- src/core.rt:99:9
 same-length-2 : tie.Need-same-length-2
 same-length-2 c = search needs
 
--- src/core.rt:99:9
 returns-2 : tie.Need-returns-2
 returns-2 c =
     let e = c .before .before .before .before in
     insert-crowded (c .before .before .before .before .before .before .before .before .before .before .pre) (sym (e .before .has .ensures) ∙ e .if1 .left) (rw (c .before .wide .ensures) at (c .if2 .taken))
 
--- src/core.rt:101:5
 insert-requires : tie.Need-insert-requires
 insert-requires c κs =
     let e = c .before .before .before .before .before in
@@ -85,11 +65,9 @@ insert-requires c κs =
     let l = c .before .if2 .left in
     (omega (arith, d .pre .ready .room), front-asc (d .pre), sym (e .before .has .ensures) ∙ e .if1 .left)
 
--- src/core.rt:102:51
 add-renew : tie.Need-add-renew
 add-renew c = search needs
 
--- src/core.rt:102:5
 renew-requires : tie.Need-renew-requires
 renew-requires c κs =
     let i = c .before .before .before .before in
@@ -98,15 +76,12 @@ renew-requires c κs =
     let l = i .before .before .if2 .left in
     changed-buildable (d .pre) (i .insert .last .0) (d .args .n + 1) Insert (i .insert .kept .0) (omega arith) (i .insert .ensures .0)
 
--- src/core.rt:90:1
 same-length-3 : tie.Need-same-length-3
 same-length-3 c = search needs
 
--- src/core.rt:90:1
 same-length-4 : tie.Need-same-length-4
 same-length-4 c = search needs
 
--- src/core.rt:90:1
 returns-3 : tie.Need-returns-3
 returns-3 c =
     let q = c .before .before .before .before in

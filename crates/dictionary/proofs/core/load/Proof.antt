@@ -1,30 +1,21 @@
 -- `dictionary::core::load` meets its contract: the keys that stand in the words are built, and the words compared with their image.
-use mathlib.Core.Path.{_≡_, refl, sym, _∙_}
+use mathlib.Core.Path.{refl, sym, _∙_}
 use native.Mathlib.Omega.{arith}
 use Rattle.layout.specs.Shape.{shape}
-use Rattle.dictionary.specs.Core.{read-shape, read-buildable, read-front, read-full, read-made}
+use Rattle.dictionary.specs.Core.{read-buildable, read-front, read-full, read-made}
 use borrow.Author.Needs.{needs}
 use Rattle.dictionary.proofs.core.load.Statement.{statement}
 use Rattle.dictionary.proofs.core.load.Tie as tie
-use Rattle.dictionary.proofs.core.load.Reads as reads
-use Rattle.dictionary.proofs.core.load.Lts as lts
-use Rattle.build.proofs.build.Reads as build-reads
-use Rattle.dictionary.proofs.collect.collect_keys.Reads as collect-keys-reads
-use Rattle.dictionary.proofs.image.matches.Reads as matches-reads
 
--- src/core.rt:53:13
 shared-slice-read-r : tie.Need-shared-slice-read-r
 shared-slice-read-r c = omega (arith, shape _ (c .before .before .before .before .pre .shape))
 
--- src/core.rt:54:13
 shared-slice-read-s : tie.Need-shared-slice-read-s
 shared-slice-read-s c = omega (arith, shape _ (c .before .before .before .before .before .pre .shape))
 
--- src/core.rt:55:9
 collect-keys-requires : tie.Need-collect-keys-requires
 collect-keys-requires c κs = let h = shape _ (c .before .before .before .before .before .before .pre .shape) in (h, omega (arith, c .before .before .before .before .before .before .pre .room))
 
--- src/core.rt:56:9
 build-requires : tie.Need-build-requires
 build-requires c κs =
     let k = c .before .before .before in
@@ -34,19 +25,15 @@ build-requires c κs =
     let l = k .collect-keys .kept .1 .0 in
     rw n (read-buildable _ _ _ _ (d .pre) l f)
 
--- src/core.rt:57:26
 enum-known-count : tie.Need-enum-known-count
 enum-known-count c = search needs
 
--- src/core.rt:58:9
 enum-told : tie.Need-enum-told
 enum-told c = search needs
 
--- src/core.rt:58:9
 same-length : tie.Need-same-length
 same-length c = search needs
 
--- src/core.rt:58:9
 returns : tie.Need-returns
 returns c =
     let b = c .before .before .before .before in
@@ -58,7 +45,6 @@ returns c =
     let B = rw (n, f) at (b .build .ensures) in
     (read-full _ _ _ _ (d .pre) l f B (c .enum-told .given .1), read-front _ _ _ _ (d .pre) l f B)
 
--- src/core.rt:60:8
 matches-requires : tie.Need-matches-requires
 matches-requires c κs =
     let b = c .before .before .before .before .before .before in
@@ -71,11 +57,9 @@ matches-requires c κs =
     let m = b .build .kept .0 in
     record { shape = h; slots = refl; places = refl; room = omega (arith, d .pre .room) }
 
--- src/core.rt:61:9
 same-length-2 : tie.Need-same-length-2
 same-length-2 c = search needs
 
--- src/core.rt:61:9
 returns-2 : tie.Need-returns-2
 returns-2 c =
     let q = c .before .before .before .before in
@@ -90,11 +74,9 @@ returns-2 c =
     let t = e ∙ sym (rw n at (c .before .matches .ensures)) ∙ c .if1 .taken in
     (rw (n, t), read-front _ _ _ _ (d .pre) l f B)
 
--- src/core.rt:48:1
 same-length-3 : tie.Need-same-length-3
 same-length-3 c = search needs
 
--- src/core.rt:48:1
 returns-3 : tie.Need-returns-3
 returns-3 c =
     let q = c .before .before .before .before in

@@ -1,30 +1,22 @@
 -- `dictionary::core::remove_key` meets its contract: the key is not there, or the set without it is built.
-use Prim.Native.Nat.{_-_, _≤_, _<_}
-use mathlib.Core.Path.{_≡_, sym, _∙_}
+use Prim.Native.Nat.{_-_, _≤_}
+use mathlib.Core.Path.{sym, _∙_}
 use native.Mathlib.Omega.{arith}
 use borrow.Author.Tests.{not-true, not-false}
 use lib.ListN.{length}
 use lib.Seq.{length-take-le}
-use Rattle.layout.specs.Shape.{shape}
-use Rattle.dictionary.specs.declared.Change.the-variants.{Insert, Remove}
-use Rattle.dictionary.specs.Core.{key-count, front-asc, insert-present, insert-crowded, insert-renewed, remove-absent, remove-some, remove-renewed, changed-front, changed-buildable}
+use Rattle.dictionary.specs.declared.Change.the-variants.{Remove}
+use Rattle.dictionary.specs.Core.{key-count, front-asc, remove-absent, remove-some, remove-renewed, changed-front, changed-buildable}
 use borrow.Author.Needs.{needs}
 use Rattle.dictionary.proofs.core.remove_key.Statement.{statement}
 use Rattle.dictionary.proofs.core.remove_key.Tie as tie
-use Rattle.dictionary.proofs.core.remove_key.Reads as reads
-use Rattle.dictionary.proofs.core.remove_key.Lts as lts
-use Rattle.dictionary.proofs.core.renew.Reads as renew-reads
-use Rattle.ordered.proofs.delete.Reads as delete-reads
-use Rattle.ordered.proofs.has.Reads as has-reads
 
--- src/core.rt:111:22
 slice-reshare-prefix-has : tie.Need-slice-reshare-prefix-has
 slice-reshare-prefix-has c =
     let d = c .before .before .before in
     let k = key-count (d .pre) in
     omega (arith, d .pre .ready .room)
 
--- src/core.rt:111:22
 slice-aggregate-has : tie.Need-slice-aggregate-has
 slice-aggregate-has c =
     let d = c .before .before .before .before in
@@ -32,19 +24,15 @@ slice-aggregate-has c =
     let fit : d .args .n ≤ length (d .args .scratch .now) = omega (arith, d .pre .ready .room) in
     sym (length-take-le _ _ fit)
 
--- src/core.rt:111:9
 has-requires : tie.Need-has-requires
 has-requires c κs = front-asc (c .before .before .before .before .pre)
 
--- src/core.rt:112:9
 same-length : tie.Need-same-length
 same-length c = search needs
 
--- src/core.rt:112:9
 returns : tie.Need-returns
 returns c = remove-absent (c .before .before .before .before .before .before .pre) (sym (c .before .has .ensures) ∙ not-true _ (c .if1 .taken))
 
--- src/core.rt:114:5
 delete-requires : tie.Need-delete-requires
 delete-requires c κs =
     let e = c .before in
@@ -52,11 +40,9 @@ delete-requires c κs =
     let k = key-count (d .pre) in
     (omega (arith, d .pre .ready .room), front-asc (d .pre), sym (e .before .has .ensures) ∙ not-false _ (e .if1 .left))
 
--- src/core.rt:115:51
 sub-renew : tie.Need-sub-renew
 sub-renew c = let e = c .before .before .before .before .before .before in remove-some (c .before .before .before .before .before .before .before .before .before .before .before .before .pre) (sym (e .before .has .ensures) ∙ not-false _ (e .if1 .left))
 
--- src/core.rt:115:5
 renew-requires : tie.Need-renew-requires
 renew-requires c κs =
     let i = c .before .before .before .before in
@@ -64,15 +50,12 @@ renew-requires c κs =
     let k = key-count (d .pre) in
     changed-buildable (d .pre) (i .delete .last .0) (d .args .n - 1) Remove (i .delete .kept .0) (omega arith) (i .delete .ensures .0)
 
--- src/core.rt:106:1
 same-length-2 : tie.Need-same-length-2
 same-length-2 c = search needs
 
--- src/core.rt:106:1
 same-length-3 : tie.Need-same-length-3
 same-length-3 c = search needs
 
--- src/core.rt:106:1
 returns-2 : tie.Need-returns-2
 returns-2 c =
     let q = c .before .before .before .before in

@@ -1,5 +1,5 @@
 -- `dictionary::core::renew` meets its contract: the new set has no room, or its image is written.
-use mathlib.Core.Path.{sym, _∙_}
+use mathlib.Core.Path.{_∙_}
 use Prim.Native.Nat.{_≤_}
 use native.Mathlib.Omega.{arith}
 use lib.ListN.{length}
@@ -8,55 +8,40 @@ use Rattle.dictionary.specs.Core.{renew-full, renew-made}
 use borrow.Author.Needs.{needs}
 use Rattle.dictionary.proofs.core.renew.Statement.{statement}
 use Rattle.dictionary.proofs.core.renew.Tie as tie
-use Rattle.dictionary.proofs.core.renew.Reads as reads
-use Rattle.dictionary.proofs.core.renew.Lts as lts
-use Rattle.build.proofs.build.Reads as build-reads
-use Rattle.dictionary.proofs.image.write_image.Reads as write-image-reads
 
--- src/core.rt:72:13
 slice-read-r : tie.Need-slice-read-r
 slice-read-r c = search needs
 
--- src/core.rt:73:13
 slice-read-s : tie.Need-slice-read-s
 slice-read-s c = search needs
 
--- src/core.rt:74:9
 build-requires : tie.Need-build-requires
 build-requires c κs = c .before .before .before .before .before .before .pre .0
 
--- src/core.rt:75:26
 enum-known-count : tie.Need-enum-known-count
 enum-known-count c = search needs
 
--- src/core.rt:76:9
 enum-told : tie.Need-enum-told
 enum-told c = search needs
 
--- src/core.rt:76:9
 same-length : tie.Need-same-length
 same-length c = search needs
 
--- src/core.rt:76:9
 returns : tie.Need-returns
 returns c =
     let b = c .before .before .before .before in
     let d = b .before .before .before .before .before .before .before in
     renew-full (params-of (d .args .tabulation .now) (d .args .words .now)) _ (d .args .scratch .now) (d .args .n) (b .build .ensures) (c .enum-told .given .1)
 
--- src/core.rt:78:5
 write-image-requires : tie.Need-write-image-requires
 write-image-requires c κs = search needs
 
--- src/core.rt:67:1
 same-length-2 : tie.Need-same-length-2
 same-length-2 c = search needs
 
--- src/core.rt:67:1
 same-length-3 : tie.Need-same-length-3
 same-length-3 c = search needs
 
--- src/core.rt:67:1
 returns-2 : tie.Need-returns-2
 returns-2 c =
     let w = c .before .before in

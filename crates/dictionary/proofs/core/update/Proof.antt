@@ -4,28 +4,19 @@ use Rattle.dictionary.specs.Laws.{change-scratch}
 use borrow.Author.Needs.{needs}
 use Rattle.dictionary.proofs.core.update.Statement.{statement}
 use Rattle.dictionary.proofs.core.update.Tie as tie
-use Rattle.dictionary.proofs.core.update.Reads as reads
-use Rattle.dictionary.proofs.core.update.Lts as lts
-use Rattle.dictionary.proofs.core.change_words.Reads as change-words-reads
-use Rattle.words.proofs.fill.Reads as fill-reads
 
--- src/core.rt:146:9
 change-words-requires : tie.Need-change-words-requires
 change-words-requires c κs = search needs
 
--- src/core.rt:147:5
 fill-requires : tie.Need-fill-requires
 fill-requires c κs = search needs
 
--- src/core.rt:141:1
 same-length : tie.Need-same-length
 same-length c = search needs
 
--- src/core.rt:141:1
 same-length-2 : tie.Need-same-length-2
 same-length-2 c = search needs
 
--- src/core.rt:141:1
 returns : tie.Need-returns
 returns c =
     let w = c .before .before .before .before .before .before .before .before in
