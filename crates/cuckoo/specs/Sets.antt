@@ -23,6 +23,10 @@ pub or-true : (t : Bool) → (t || true) ≡ true
 or-true true = refl
 or-true false = refl
 
+pub or-false : (t : Bool) → (t || false) ≡ t
+or-false true = refl
+or-false false = refl
+
 -- what `keep` keeps
 cond-in : (t : Bool) {c d : ℕ} {L : List ℕ} → In c (cond t (d ∷ L) L) → ((t ≡ true) × (c ≡ d)) ⊎ In c L
 cond-in true (here q) = inl (refl, q)

@@ -75,18 +75,19 @@ fn in_slot(words: &[u32], slot: u32, key: u32) -> bool
     words[4 + 2 * wide(slot)] == key
 }
 
-// Whether the key is one of some words.
+// Whether the key is one of some words. Every word is looked at, so that the compiler can compare several at once.
 fn among(words: &[u32], key: u32) -> bool
     ensures { λ b. ⌜ b ≡ member key (now (words .entry)) ⌝ }
 {
+    let mut found = false;
     let mut i = 0;
     while i < words.len() {
         if key == words[i] {
-            return true;
+            found = true;
         }
         i += 1;
     }
-    false
+    found
 }
 
 // Whether the key stands in one of its two slots or in the stash.

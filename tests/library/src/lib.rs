@@ -36,6 +36,14 @@ pub fn lookup(tabulation: &[u16], words: &[u32], key: u32, old: u32) -> (u32, u3
     (answer, present)
 }
 
+/// `pinorange_lookup` as it is, with its out-parameter.
+pub fn lookup_into(tabulation: &[u16], words: &[u32], key: u32, present: &mut u32) -> u32 {
+    // Safe: as for `lookup`.
+    unsafe {
+        pinorange_lookup(tabulation.as_ptr(), tabulation.len(), words.as_ptr(), words.len(), key, present)
+    }
+}
+
 /// What `pinorange_stash` answers, and the stretch of the words that it names.
 pub fn stash(words: &[u32]) -> (u32, &[u32]) {
     let (mut offset, mut length) = (u32::MAX, u32::MAX);

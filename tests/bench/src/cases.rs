@@ -1,0 +1,145 @@
+//! What is measured: books and sets of keys of a wanted size that fit.
+
+use std::collections::BTreeSet;
+
+use reference::hash::hashes;
+use reference::house::HOUSE;
+use reference::rng::Rng;
+
+pub const PLACES: u32 = 64;
+
+/// A dictionary to measure on.
+pub struct Case {
+    pub name: String,
+    pub r: u32,
+    pub tabulation: Vec<u16>,
+    /// The keys that are in it, ascending.
+    pub keys: Vec<u32>,
+    /// A key that is not in it, and for which there is room.
+    pub extra: u32,
+    /// Its words: the canonical image of the keys.
+    pub words: Vec<u32>,
+}
+
+impl Case {
+    fn new(name: String, r: u32, tabulation: Vec<u16>, mut keys: Vec<u32>) -> Case {
+        let extra = keys.pop().expect("a case has keys");
+        keys.sort_unstable();
+        let words = reference::fast::image(&tabulation, r, PLACES, &keys).expect("they fit");
+        Case { name, r, tabulation, keys, extra, words }
+    }
+
+    pub fn scratch(&self) -> Vec<u32> {
+        vec![0; 8 * self.r as usize + 4 * PLACES as usize]
+    }
+}
+
+/// How many keys of each component there are, to know how many have to be stashed: as many as a component has keys more than slots.
+struct Room {
+    parent: Vec<usize>,
+    slots: Vec<usize>,
+    keys: Vec<usize>,
+    stashed: usize,
+}
+
+impl Room {
+    fn new(m: usize) -> Room {
+        Room { parent: (0..m).collect(), slots: vec![1; m], keys: vec![0; m], stashed: 0 }
+    }
+
+    fn find(&self, mut slot: usize) -> usize {
+        while self.parent[slot] != slot {
+            slot = self.parent[slot];
+        }
+        slot
+    }
+
+    /// Adds a key with these two slots, if at most `PLACES` are stashed then.
+    fn add(&mut self, one: usize, two: usize) -> bool {
+        let (one, two) = (self.find(one), self.find(two));
+        let over = |slots: usize, keys: usize| keys.saturating_sub(slots);
+        let before = over(self.slots[one], self.keys[one])
+            + if one == two { 0 } else { over(self.slots[two], self.keys[two]) };
+        let (slots, keys) = if one == two {
+            (self.slots[one], self.keys[one] + 1)
+        } else {
+            (self.slots[one] + self.slots[two], self.keys[one] + self.keys[two] + 1)
+        };
+        let stashed = self.stashed - before + over(slots, keys);
+        if stashed > PLACES as usize {
+            return false;
+        }
+        let (child, parent) =
+            if self.slots[one] < self.slots[two] { (one, two) } else { (two, one) };
+        self.parent[child] = parent;
+        (self.slots[parent], self.keys[parent], self.stashed) = (slots, keys, stashed);
+        true
+    }
+}
+
+/// `count` random keys that fit, in the order in which they were found.
+fn fitting_keys(rng: &mut Rng, tabulation: &[u16], r: u32, count: usize) -> Vec<u32> {
+    let mut room = Room::new(2 * r as usize);
+    let mut seen = BTreeSet::new();
+    let mut keys = Vec::new();
+    while keys.len() < count {
+        let key = rng.next_u32().max(1);
+        if !seen.insert(key) {
+            continue;
+        }
+        let [first, second] = hashes(tabulation, r, key).expect("a sound book and key");
+        if room.add(first as usize, (r + second) as usize) {
+            keys.push(key);
+        }
+    }
+    keys
+}
+
+/// The house book with random keys: `percent` of the slots' number.
+pub fn house(r: u32, percent: usize) -> Case {
+    let count = 2 * r as usize * percent / 100;
+    let keys = fitting_keys(&mut Rng::new(u64::from(r) + percent as u64), &HOUSE, r, count + 1);
+    Case::new(format!("r = {r}, {percent} %"), r, HOUSE.to_vec(), keys)
+}
+
+/// A book under which the keys 1 to 2r - 1 are one path through all slots, and ascending they join stretches of one length, doubling it: every set is
+/// deep, and half of it moves. `r` is a power of two from 128 on.
+pub fn path(r: u32) -> Case {
+    let bits = (2 * r).trailing_zeros();
+    // Key k is edge e of the path, its bits reversed: the highest bit of k says whether e is even.
+    let edge = |k: u32| k.reverse_bits() >> (32 - bits);
+    let mut tabulation = vec![0u16; 2_048];
+    for byte in 0..256u32 {
+        for (i, key) in [(0, byte), (256, byte << 8)] {
+            if key < 2 * r {
+                let e = edge(key);
+                // Rounding up and down adds up over the two bytes: the low byte's share of e is even.
+                tabulation[i + byte as usize] = e.div_ceil(2) as u16;
+                tabulation[1_024 + i + byte as usize] = (e / 2) as u16;
+            }
+        }
+    }
+    let extra = 1 << (bits - 1);
+    let mut keys: Vec<u32> = (1..2 * r).filter(|k| *k != extra).collect();
+    keys.push(extra);
+    Case::new(format!("r = {r}, path"), r, tabulation, keys)
+}
+
+/// A book under which all keys have the same two slots: two sit, 63 are stashed, and one more fits.
+pub fn one_place(r: u32) -> Case {
+    let keys = (1..=PLACES + 2).collect();
+    Case::new(format!("r = {r}, one place"), r, vec![0; 2_048], keys)
+}
+
+pub const SIZES: [u32; 3] = [128, 512, 1_024];
+pub const LOADS: [usize; 4] = [12, 25, 49, 73];
+
+/// All cases, in the order of the tables.
+pub fn all() -> Vec<Case> {
+    let mut cases = Vec::new();
+    for r in SIZES {
+        cases.extend(LOADS.map(|percent| house(r, percent)));
+    }
+    cases.extend([path(1_024), one_place(1_024)]);
+    cases
+}
