@@ -1,6 +1,6 @@
 # The commands of this repository. See README.md.
 
-.PHONY: run test quick clean
+.PHONY: run test quick bench clean
 
 # Builds the console and the house book, and shows two heads with different pasts and one list.
 run:
@@ -15,6 +15,10 @@ test:
 # The same without removing what is proved already, and without the must-fail edits.
 quick:
 	@tests/run --quick
+
+# Instructions and times of the library against a Rust twin: the tables of docs/BENCHMARKS.md. Some minutes; nothing is asserted.
+bench:
+	@tests/bench/run
 
 clean:
 	rm -rf target tests/*/target

@@ -4,6 +4,7 @@ ghost use Prim.Native.Nat.{_+_, _≤_};
 ghost use lib.ListN.{length};
 ghost use Rattle.lines.specs.Row.{row-room};
 ghost use Rattle.console.specs.Short.{room};
+use dictionary::Change;
 use layout::Found;
 use libc::STDOUT_FILENO;
 use lines::Looked;
@@ -38,20 +39,15 @@ fn make_room(out: &[u8; ROOM], at: usize) -> usize
     0
 }
 
-pub fn add_insert(out: &mut [u8; ROOM], at: usize, key: u32, answer: u32) -> usize
+pub fn add_change(out: &mut [u8; ROOM], at: usize, kind: Change, key: u32, answer: u32) -> usize
     requires { ⌜ at ≤ room ⌝ }
     ensures { λ next. ⌜ next ≤ room ⌝ }
 {
     let start = make_room(&*out, at);
-    lines::put_insert(&mut *out, start, key, answer)
-}
-
-pub fn add_remove(out: &mut [u8; ROOM], at: usize, key: u32, answer: u32) -> usize
-    requires { ⌜ at ≤ room ⌝ }
-    ensures { λ next. ⌜ next ≤ room ⌝ }
-{
-    let start = make_room(&*out, at);
-    lines::put_remove(&mut *out, start, key, answer)
+    match kind {
+        Change::Insert => lines::put_insert(&mut *out, start, key, answer),
+        Change::Remove => lines::put_remove(&mut *out, start, key, answer),
+    }
 }
 
 pub fn add_lookup(out: &mut [u8; ROOM], at: usize, key: u32, found: Found) -> usize

@@ -29,7 +29,9 @@ struct Took {
     session: Session,
 }
 
-fn insert(
+// Insert or remove.
+fn change(
+    kind: Change,
     tabulation: &[u16],
     words: &mut [u32],
     scratch: &mut [u32],
@@ -41,44 +43,9 @@ fn insert(
     ensures { λ r. ⌜ r .at ≤ room ⌝ }
 {
     let before = done.counters;
-    let counted = dictionary::update_counted(
-        Change::Insert,
-        tabulation,
-        words,
-        scratch,
-        key,
-        before,
-    );
+    let counted = dictionary::update_counted(kind, tabulation, words, scratch, key, before);
     let counters = counted.counters;
-    let at = rows::add_insert(out, done.at, key, counted.answer);
-    Done {
-        counters: counters,
-        at: at,
-    }
-}
-
-fn remove(
-    tabulation: &[u16],
-    words: &mut [u32],
-    scratch: &mut [u32],
-    out: &mut [u8; ROOM],
-    key: u32,
-    done: Done,
-) -> Done
-    requires { ⌜ done .at ≤ room ⌝ }
-    ensures { λ r. ⌜ r .at ≤ room ⌝ }
-{
-    let before = done.counters;
-    let counted = dictionary::update_counted(
-        Change::Remove,
-        tabulation,
-        words,
-        scratch,
-        key,
-        before,
-    );
-    let counters = counted.counters;
-    let at = rows::add_remove(out, done.at, key, counted.answer);
+    let at = rows::add_change(out, done.at, kind, key, counted.answer);
     Done {
         counters: counters,
         at: at,
@@ -125,8 +92,8 @@ fn answer(
     let done = session.done;
     let command = lines::command_in(line);
     match command {
-        Command::Insert(key) => insert(tabulation, words, scratch, out, key, done),
-        Command::Remove(key) => remove(tabulation, words, scratch, out, key, done),
+        Command::Insert(key) => change(Change::Insert, tabulation, words, scratch, out, key, done),
+        Command::Remove(key) => change(Change::Remove, tabulation, words, scratch, out, key, done),
         Command::Lookup(key) => lookup(tabulation, &*words, out, key, done),
         Command::Other => error(out, session.number, done),
     }
@@ -190,6 +157,25 @@ fn take_bytes(
     session
 }
 
+// Writes the rows out, so that a person at the bench sees the answer to a line before typing the next.
+fn show(out: &[u8; ROOM], session: Session) -> Session
+    requires { ⌜ session .done .at ≤ room ⌝ }
+    ensures { λ r. ⌜ r .done .at ≤ room ⌝ }
+{
+    let done = session.done;
+    rows::flush(out, done.at);
+    let counters = done.counters;
+    let line = session.line;
+    Session {
+        line: line,
+        number: session.number,
+        done: Done {
+            counters: counters,
+            at: 0,
+        },
+    }
+}
+
 // One read of the input. A read that fails ends it.
 fn turn(
     tabulation: &[u16],
@@ -210,10 +196,11 @@ fn turn(
         };
     }
     let n = io::count(got, &bytes);
-    let next = take_bytes(tabulation, words, scratch, out, session, &bytes[..n]);
+    let next = take_bytes(tabulation, words, scratch, &mut *out, session, &bytes[..n]);
+    let shown = show(&*out, next);
     Took {
         more: true,
-        session: next,
+        session: shown,
     }
 }
 

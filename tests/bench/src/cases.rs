@@ -8,11 +8,12 @@ use reference::rng::Rng;
 
 pub const PLACES: u32 = 64;
 
-/// A dictionary to measure on.
-pub struct Case {
-    pub name: String,
-    pub r: u32,
-    pub tabulation: Vec<u16>,
+/// How many sets of keys a case with random keys has. They are taken in turn, so that no processor learns one of them by heart: a head's list is another one
+/// at every call.
+const SETS: u64 = 16;
+
+/// A set of keys in a dictionary.
+pub struct Board {
     /// The keys that are in it, ascending.
     pub keys: Vec<u32>,
     /// A key that is not in it, and for which there is room.
@@ -21,12 +22,30 @@ pub struct Case {
     pub words: Vec<u32>,
 }
 
+/// What is measured in one row of a table: dictionaries of one size and load, under one tabulation.
+pub struct Case {
+    pub name: String,
+    pub r: u32,
+    pub tabulation: Vec<u16>,
+    pub boards: Vec<Board>,
+}
+
 impl Case {
-    fn new(name: String, r: u32, tabulation: Vec<u16>, mut keys: Vec<u32>) -> Case {
-        let extra = keys.pop().expect("a case has keys");
-        keys.sort_unstable();
-        let words = reference::fast::image(&tabulation, r, PLACES, &keys).expect("they fit");
-        Case { name, r, tabulation, keys, extra, words }
+    /// Each set of keys makes a board; its last key is the extra one.
+    fn new(name: String, r: u32, tabulation: Vec<u16>, sets: Vec<Vec<u32>>) -> Case {
+        let board = |mut keys: Vec<u32>| {
+            let extra = keys.pop().expect("a set of a case has keys");
+            keys.sort_unstable();
+            let words = reference::fast::image(&tabulation, r, PLACES, &keys).expect("they fit");
+            Board { keys, extra, words }
+        };
+        let boards = sets.into_iter().map(board).collect();
+        Case { name, r, tabulation, boards }
+    }
+
+    /// How many keys each of its boards has.
+    pub fn load(&self) -> usize {
+        self.boards[0].keys.len()
     }
 
     pub fn scratch(&self) -> Vec<u32> {
@@ -95,16 +114,28 @@ fn fitting_keys(rng: &mut Rng, tabulation: &[u16], r: u32, count: usize) -> Vec<
     keys
 }
 
-/// The house book with random keys: `percent` of the slots' number.
-pub fn house(r: u32, percent: usize) -> Case {
-    let count = 2 * r as usize * percent / 100;
-    let keys = fitting_keys(&mut Rng::new(u64::from(r) + percent as u64), &HOUSE, r, count + 1);
-    Case::new(format!("r = {r}, {percent} %"), r, HOUSE.to_vec(), keys)
+/// The house book with random keys.
+fn house(name: String, r: u32, count: usize) -> Case {
+    let set = |seed: u64| {
+        let mut rng = Rng::new(u64::from(r) << 32 | (count as u64) << 8 | seed);
+        fitting_keys(&mut rng, &HOUSE, r, count + 1)
+    };
+    Case::new(name, r, HOUSE.to_vec(), (0..SETS).map(set).collect())
+}
+
+/// As many keys as `percent` of the slots.
+fn loaded(r: u32, percent: usize) -> Case {
+    house(format!("r = {r}, {percent} %"), r, 2 * r as usize * percent / 100)
+}
+
+/// All the keys that fit but one: every slot is filled, and the stash but for one place.
+fn full(r: u32) -> Case {
+    house(format!("r = {r}, full"), r, 2 * r as usize + PLACES as usize - 1)
 }
 
 /// A book under which the keys 1 to 2r - 1 are one path through all slots, and ascending they join stretches of one length, doubling it: every set is
 /// deep, and half of it moves. `r` is a power of two from 128 on.
-pub fn path(r: u32) -> Case {
+fn path(r: u32) -> Case {
     let bits = (2 * r).trailing_zeros();
     // Key k is edge e of the path, its bits reversed: the highest bit of k says whether e is even.
     let edge = |k: u32| k.reverse_bits() >> (32 - bits);
@@ -122,13 +153,13 @@ pub fn path(r: u32) -> Case {
     let extra = 1 << (bits - 1);
     let mut keys: Vec<u32> = (1..2 * r).filter(|k| *k != extra).collect();
     keys.push(extra);
-    Case::new(format!("r = {r}, path"), r, tabulation, keys)
+    Case::new(format!("r = {r}, path"), r, tabulation, vec![keys])
 }
 
 /// A book under which all keys have the same two slots: two sit, 63 are stashed, and one more fits.
-pub fn one_place(r: u32) -> Case {
+fn one_place(r: u32) -> Case {
     let keys = (1..=PLACES + 2).collect();
-    Case::new(format!("r = {r}, one place"), r, vec![0; 2_048], keys)
+    Case::new(format!("r = {r}, one place"), r, vec![0; 2_048], vec![keys])
 }
 
 pub const SIZES: [u32; 3] = [128, 512, 1_024];
@@ -138,8 +169,8 @@ pub const LOADS: [usize; 4] = [12, 25, 49, 73];
 pub fn all() -> Vec<Case> {
     let mut cases = Vec::new();
     for r in SIZES {
-        cases.extend(LOADS.map(|percent| house(r, percent)));
+        cases.extend(LOADS.map(|percent| loaded(r, percent)));
     }
-    cases.extend([path(1_024), one_place(1_024)]);
+    cases.extend([full(1_024), path(1_024), one_place(1_024)]);
     cases
 }

@@ -1,5 +1,6 @@
-//! The benchmark. Without words it prints tables of times, each partner's calls alternating in one run. `one PARTNER CALL CASE` does one call (a lookup: of
-//! every key), for an instruction counter that looks at that call alone; `cases` prints how many cases there are.
+//! The benchmark. Without words it prints tables of times, each partner's calls alternating in one run. `cases` prints the cases, a line each, and `one PARTNER
+//! CALL NUMBER` does a call on the first board of a case (lookup: of each of its keys and as many others), for a counter of instructions that looks at
+//! that call alone.
 
 mod cases;
 mod twin;
@@ -8,10 +9,8 @@ use std::collections::HashSet;
 use std::hint::black_box;
 use std::time::Instant;
 
-use cases::Case;
-use library::Counters;
-
-type Change = fn(&[u16], &mut [u32], &mut [u32], &mut Counters, u32) -> u32;
+use cases::{Board, Case};
+use library::{Change, Counters};
 
 /// The calls of one partner.
 struct Partner {
@@ -25,101 +24,121 @@ const LIBRARY: Partner = Partner {
     insert: library::insert,
     remove: library::remove,
     check: library::check,
-    lookup: library::lookup_into,
+    lookup: library::lookup,
 };
 const TWIN: Partner =
     Partner { insert: twin::insert, remove: twin::remove, check: twin::check, lookup: twin::lookup };
 
-/// The shortest times, in nanoseconds, of insert, remove and check.
+const ROUNDS: usize = 60;
+
+/// Nanoseconds of insert, remove and check.
 type Times = [f64; 3];
 
-/// Inserts the case's extra key, removes it again, and checks; keeps the shortest time of each.
-fn round(partner: &Partner, case: &Case, words: &mut [u32], scratch: &mut [u32], best: &mut Times) {
-    let mut counters = Counters::default();
+/// Keeps the time of a call if it is the shortest so far. The call must be accepted.
+fn keep_time(best: &mut f64, call: impl FnOnce() -> u32) {
     let start = Instant::now();
-    let inserted = (partner.insert)(&case.tabulation, words, scratch, &mut counters, case.extra);
-    let middle = Instant::now();
-    let removed = (partner.remove)(&case.tabulation, words, scratch, &mut counters, case.extra);
-    let late = Instant::now();
-    let checked = (partner.check)(&case.tabulation, words, scratch);
-    let end = Instant::now();
-    assert_eq!((inserted, removed, checked), (0, 0, 0), "{}", case.name);
-    assert_eq!(words, &case.words[..], "{}", case.name);
-    let times = [middle - start, late - middle, end - late].map(|t| t.as_nanos() as f64);
-    for (best, time) in best.iter_mut().zip(times) {
-        *best = best.min(time);
-    }
+    let answer = call();
+    let time = start.elapsed().as_nanos() as f64;
+    assert_eq!(answer, 0, "a call of a case is refused");
+    *best = best.min(time);
 }
 
-/// The shortest times of both partners, whose rounds alternate.
+/// One round of a partner: the extra key into every board, then out of every board, then a check of every board. The boards are taken in turn for each call,
+/// so that a call does not find what the one before it did with the same set.
+fn round(partner: &Partner, case: &Case, scratch: &mut [u32], best: &mut [Times]) {
+    let book = &case.tabulation;
+    let mut counters = Counters::default();
+    let mut all: Vec<Vec<u32>> = case.boards.iter().map(|board| board.words.clone()).collect();
+    let boards = || case.boards.iter();
+    for ((board, words), best) in boards().zip(&mut all).zip(&mut *best) {
+        let call = || (partner.insert)(book, words, scratch, &mut counters, board.extra);
+        keep_time(&mut best[0], call);
+    }
+    for ((board, words), best) in boards().zip(&mut all).zip(&mut *best) {
+        let call = || (partner.remove)(book, words, scratch, &mut counters, board.extra);
+        keep_time(&mut best[1], call);
+    }
+    for (words, best) in all.iter().zip(best) {
+        keep_time(&mut best[2], || (partner.check)(book, words, scratch));
+    }
+    assert!(boards().zip(&all).all(|(board, words)| board.words == *words), "{}", case.name);
+}
+
+/// The times of both partners, whose rounds alternate: of each board the shortest, and the mean over the boards.
 fn changes(case: &Case) -> [Times; 2] {
-    let mut words = case.words.clone();
     let mut scratch = case.scratch();
-    let mut best = [[f64::MAX; 3]; 2];
-    for _ in 0..300 {
+    let mut best = [vec![[f64::MAX; 3]; case.boards.len()], vec![[f64::MAX; 3]; case.boards.len()]];
+    for _ in 0..ROUNDS {
         for (partner, best) in [&LIBRARY, &TWIN].into_iter().zip(&mut best) {
-            round(partner, case, &mut words, &mut scratch, best);
+            round(partner, case, &mut scratch, best);
         }
     }
-    best
+    best.map(|times| {
+        [0, 1, 2].map(|call| times.iter().map(|t| t[call]).sum::<f64>() / times.len() as f64)
+    })
 }
 
-/// Nanoseconds of a lookup, over given keys, the shortest of many rounds: library, twin, and std's HashSet.
-fn lookups(case: &Case, asked: &[u32]) -> [f64; 3] {
-    let set: HashSet<u32> = case.keys.iter().copied().collect();
+/// As many keys as the board has, none of them in it.
+fn others(board: &Board) -> Vec<u32> {
+    let inside: HashSet<u32> = board.keys.iter().copied().collect();
+    let spread = (1..).map(|i: u32| i.wrapping_mul(2_654_435_761));
+    spread.filter(|key| *key != 0 && !inside.contains(key)).take(inside.len()).collect()
+}
+
+/// Nanoseconds of a lookup of some keys, the shortest of many rounds: library, twin, and std's HashSet.
+fn lookups(case: &Case, board: &Board, asked: &[u32]) -> [f64; 3] {
+    let set: HashSet<u32> = board.keys.iter().copied().collect();
+    let by = |partner: &Partner, key: u32| {
+        let mut present = 0;
+        (partner.lookup)(&case.tabulation, &board.words, key, &mut present);
+        present
+    };
+    let time = |find: &dyn Fn(u32) -> u32| {
+        let start = Instant::now();
+        black_box(asked.iter().map(|key| find(*key)).sum::<u32>());
+        start.elapsed().as_nanos() as f64 / asked.len() as f64
+    };
     let mut best = [f64::MAX; 3];
-    for _ in 0..300 {
-        for (i, best) in best.iter_mut().enumerate() {
-            let start = Instant::now();
-            let mut yes = 0;
-            for key in asked {
-                let mut present = 0;
-                match i {
-                    0 => (LIBRARY.lookup)(&case.tabulation, &case.words, *key, &mut present),
-                    1 => (TWIN.lookup)(&case.tabulation, &case.words, *key, &mut present),
-                    _ => {
-                        present = u32::from(set.contains(key));
-                        0
-                    }
-                };
-                yes += present;
-            }
-            black_box(yes);
-            *best = best.min(start.elapsed().as_nanos() as f64 / asked.len() as f64);
+    for _ in 0..20 * ROUNDS {
+        let times = [
+            time(&|key| by(&LIBRARY, key)),
+            time(&|key| by(&TWIN, key)),
+            time(&|key| u32::from(set.contains(&key))),
+        ];
+        for (best, time) in best.iter_mut().zip(times) {
+            *best = best.min(time);
         }
     }
     best
 }
 
-/// As many keys as the case has, none of them in it.
-fn strangers(case: &Case) -> Vec<u32> {
-    let inside: HashSet<u32> = case.keys.iter().copied().collect();
-    (0..).map(|i: u32| i.wrapping_mul(2_654_435_761)).filter(|k| *k != 0 && !inside.contains(k)).take(case.keys.len()).collect()
-}
-
-fn print_times() {
+fn print_changes(cases: &[Case]) {
     println!("| case | keys | insert µs | ratio | remove µs | ratio | check µs | ratio |");
     println!("|---|---|---|---|---|---|---|---|");
-    let cases = cases::all();
     let all: Vec<[Times; 2]> = cases.iter().map(changes).collect();
     for (case, [ours, theirs]) in cases.iter().zip(&all) {
-        print!("| {} | {} |", case.name, case.keys.len());
+        print!("| {} | {} |", case.name, case.load());
         for (our, their) in ours.iter().zip(theirs) {
             print!(" {:.1} | {:.2} |", our / 1_000.0, our / their);
         }
         println!();
     }
-    println!("\n| growth from r = 128 to r = 1,024 | insert | remove | check |\n|---|---|---|---|");
-    let loads = cases::LOADS.len();
+    println!("\n| r = 1,024 against r = 128 | insert | remove | check |\n|---|---|---|---|");
     for (i, load) in cases::LOADS.iter().enumerate() {
-        let (small, large) = (&all[i][0], &all[(cases::SIZES.len() - 1) * loads + i][0]);
-        let growth: Vec<String> = small.iter().zip(large).map(|(s, l)| format!("{:.1}", l / s)).collect();
+        let (small, large) = (&all[i][0], &all[2 * cases::LOADS.len() + i][0]);
+        let growth: Vec<String> =
+            small.iter().zip(large).map(|(small, large)| format!("{:.1}", large / small)).collect();
         println!("| {load} % | {} |", growth.join(" | "));
     }
-    println!("\n| lookup | keys | library ns | twin ns | ratio | HashSet ns | ratio |\n|---|---|---|---|---|---|---|");
-    for case in &cases {
-        for (what, asked) in [("its keys", case.keys.clone()), ("others", strangers(case))] {
-            let [ours, twin, std] = lookups(case, &asked);
+}
+
+fn print_lookups(cases: &[Case]) {
+    println!("\n| lookup | keys | library ns | twin ns | ratio | HashSet ns | ratio |");
+    println!("|---|---|---|---|---|---|---|");
+    for case in cases {
+        let board = &case.boards[0];
+        for (what, asked) in [("its keys", board.keys.clone()), ("others", others(board))] {
+            let [ours, twin, std] = lookups(case, board, &asked);
             println!(
                 "| {}, {what} | {} | {ours:.1} | {twin:.1} | {:.2} | {std:.1} | {:.2} |",
                 case.name,
@@ -131,20 +150,22 @@ fn print_times() {
     }
 }
 
-/// One call, for a counter of instructions. The key is put in or taken out of words that come from the reference, so that no other call runs.
+/// One call. The words come from the reference, so that no other call of the partner runs.
 fn one(partner: &str, call: &str, case: &Case) {
     let partner = if partner == "library" { LIBRARY } else { TWIN };
-    let mut words = case.words.clone();
+    let board = &case.boards[0];
+    let mut words = board.words.clone();
     let mut scratch = case.scratch();
     let mut counters = Counters::default();
+    let (book, middle) = (&case.tabulation, board.keys[board.keys.len() / 2]);
     let answer = match call {
-        "insert" => (partner.insert)(&case.tabulation, &mut words, &mut scratch, &mut counters, case.extra),
-        "remove" => (partner.remove)(&case.tabulation, &mut words, &mut scratch, &mut counters, case.keys[case.keys.len() / 2]),
-        "check" => (partner.check)(&case.tabulation, &words, &mut scratch),
+        "insert" => (partner.insert)(book, &mut words, &mut scratch, &mut counters, board.extra),
+        "remove" => (partner.remove)(book, &mut words, &mut scratch, &mut counters, middle),
+        "check" => (partner.check)(book, &words, &mut scratch),
         "lookup" => {
             let mut present = 0;
-            let all = case.keys.iter().chain(&strangers(case)).map(|k| (partner.lookup)(&case.tabulation, &words, *k, &mut present)).max();
-            all.unwrap_or(0)
+            let asked = board.keys.iter().copied().chain(others(board));
+            asked.map(|key| (partner.lookup)(book, &words, key, &mut present)).max().unwrap_or(0)
         }
         _ => panic!("no such call: {call}"),
     };
@@ -154,10 +175,16 @@ fn one(partner: &str, call: &str, case: &Case) {
 fn main() {
     let words: Vec<String> = std::env::args().skip(1).collect();
     let words: Vec<&str> = words.iter().map(String::as_str).collect();
+    let cases = cases::all();
     match words[..] {
-        [] => print_times(),
-        ["cases"] => cases::all().iter().for_each(|case| println!("{}|{}", case.name, case.keys.len())),
-        ["one", partner, call, number] => one(partner, call, &cases::all()[number.parse::<usize>().expect("a number")]),
+        [] => {
+            print_changes(&cases);
+            print_lookups(&cases);
+        }
+        ["cases"] => cases.iter().for_each(|case| println!("{}|{}", case.name, case.load())),
+        ["one", partner, call, number] => {
+            one(partner, call, &cases[number.parse::<usize>().expect("a number")])
+        }
         _ => panic!("see the top of main.rs"),
     }
 }

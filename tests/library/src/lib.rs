@@ -1,57 +1,8 @@
-//! Safe wrappers of the exported calls. The declarations repeat the headers under include/; nothing checks them against the
-//! Rattle source, so the boundary is kept to numbers and slices.
+//! The exported calls for Rust, and what their tests share. The declarations repeat the headers under include/; nothing checks them against the Rattle source, so
+//! the boundary is kept to numbers and slices.
 
-extern "C" {
-    fn pinorange_lookup(
-        tabulation: *const u16,
-        tabulation_length: usize,
-        words: *const u32,
-        words_length: usize,
-        key: u32,
-        present: *mut u32,
-    ) -> u32;
-
-    fn pinorange_stash(
-        words: *const u32,
-        words_length: usize,
-        offset: *mut u32,
-        length: *mut u32,
-    ) -> u32;
-}
-
-/// What `pinorange_lookup` answers, and what its out-parameter holds after it when it held `old` before.
-pub fn lookup(tabulation: &[u16], words: &[u32], key: u32, old: u32) -> (u32, u32) {
-    let mut present = old;
-    // Safe: both slices are valid for their lengths, and the call is proved to read nothing else and to write only `present`.
-    let answer = unsafe {
-        pinorange_lookup(
-            tabulation.as_ptr(),
-            tabulation.len(),
-            words.as_ptr(),
-            words.len(),
-            key,
-            &mut present,
-        )
-    };
-    (answer, present)
-}
-
-/// `pinorange_lookup` as it is, with its out-parameter.
-pub fn lookup_into(tabulation: &[u16], words: &[u32], key: u32, present: &mut u32) -> u32 {
-    // Safe: as for `lookup`.
-    unsafe {
-        pinorange_lookup(tabulation.as_ptr(), tabulation.len(), words.as_ptr(), words.len(), key, present)
-    }
-}
-
-/// What `pinorange_stash` answers, and the stretch of the words that it names.
-pub fn stash(words: &[u32]) -> (u32, &[u32]) {
-    let (mut offset, mut length) = (u32::MAX, u32::MAX);
-    // Safe: the slice is valid for its length, and the call is proved to read nothing else and to write only the two numbers.
-    let answer =
-        unsafe { pinorange_stash(words.as_ptr(), words.len(), &mut offset, &mut length) };
-    (answer, &words[offset as usize..][..length as usize])
-}
+pub mod beside;
+pub mod guarded;
 
 /// The counters, as they cross: the paper's "meter".
 #[repr(C)]
@@ -61,54 +12,49 @@ pub struct Counters {
     pub refused: u32,
 }
 
+#[rustfmt::skip]
 extern "C" {
-    fn pinorange_init(
-        words: *mut u32,
-        words_length: usize,
-        r: u32,
-        s: u32,
-        counters: *mut Counters,
-    ) -> u32;
+    fn pinorange_init(words: *mut u32, words_length: usize, r: u32, s: u32, counters: *mut Counters) -> u32;
 
     fn pinorange_insert(
-        tabulation: *const u16,
-        tabulation_length: usize,
-        words: *mut u32,
-        words_length: usize,
-        scratch: *mut u32,
-        scratch_length: usize,
-        counters: *mut Counters,
-        key: u32,
+        tabulation: *const u16, tabulation_length: usize, words: *mut u32, words_length: usize,
+        scratch: *mut u32, scratch_length: usize, counters: *mut Counters, key: u32,
     ) -> u32;
 
     fn pinorange_remove(
-        tabulation: *const u16,
-        tabulation_length: usize,
-        words: *mut u32,
-        words_length: usize,
-        scratch: *mut u32,
-        scratch_length: usize,
-        counters: *mut Counters,
-        key: u32,
+        tabulation: *const u16, tabulation_length: usize, words: *mut u32, words_length: usize,
+        scratch: *mut u32, scratch_length: usize, counters: *mut Counters, key: u32,
     ) -> u32;
 
     fn pinorange_check(
-        tabulation: *const u16,
-        tabulation_length: usize,
-        words: *const u32,
-        words_length: usize,
-        scratch: *mut u32,
-        scratch_length: usize,
+        tabulation: *const u16, tabulation_length: usize, words: *const u32, words_length: usize,
+        scratch: *mut u32, scratch_length: usize,
+    ) -> u32;
+
+    fn pinorange_lookup(
+        tabulation: *const u16, tabulation_length: usize, words: *const u32, words_length: usize,
+        key: u32, present: *mut u32,
+    ) -> u32;
+
+    fn pinorange_stash(words: *const u32, words_length: usize, offset: *mut u32, length: *mut u32) -> u32;
+
+    fn pinorange_hashes(
+        tabulation: *const u16, length: usize, r: u32, key: u32, table0: *mut u32, table1: *mut u32,
     ) -> u32;
 
     fn pinorange_house(tabulation: *mut u16, tabulation_length: usize) -> u32;
 }
 
+// Every call below is safe: the slices are valid for their lengths and apart from each other, and the calls are proved to touch nothing else but what
+// they are given by reference.
+
 /// Lays fresh words.
 pub fn init(words: &mut [u32], r: u32, s: u32, counters: &mut Counters) -> u32 {
-    // Safe: the slice is valid for its length, and the call is proved to touch nothing else but the counters.
     unsafe { pinorange_init(words.as_mut_ptr(), words.len(), r, s, counters) }
 }
+
+/// An insert or a remove, as a function.
+pub type Change = fn(&[u16], &mut [u32], &mut [u32], &mut Counters, u32) -> u32;
 
 /// Puts a key in.
 pub fn insert(
@@ -118,7 +64,6 @@ pub fn insert(
     counters: &mut Counters,
     key: u32,
 ) -> u32 {
-    // Safe: the slices are valid for their lengths and apart, and the call is proved to touch nothing else but the counters.
     unsafe {
         pinorange_insert(
             tabulation.as_ptr(),
@@ -141,7 +86,6 @@ pub fn remove(
     counters: &mut Counters,
     key: u32,
 ) -> u32 {
-    // Safe: as for `insert`.
     unsafe {
         pinorange_remove(
             tabulation.as_ptr(),
@@ -158,7 +102,6 @@ pub fn remove(
 
 /// Says whether the words are a canonical image.
 pub fn check(tabulation: &[u16], words: &[u32], scratch: &mut [u32]) -> u32 {
-    // Safe: as for `insert`; the words are only read.
     unsafe {
         pinorange_check(
             tabulation.as_ptr(),
@@ -171,8 +114,70 @@ pub fn check(tabulation: &[u16], words: &[u32], scratch: &mut [u32]) -> u32 {
     }
 }
 
+/// Says whether a key is in the dictionary.
+pub fn lookup(tabulation: &[u16], words: &[u32], key: u32, present: &mut u32) -> u32 {
+    unsafe {
+        pinorange_lookup(
+            tabulation.as_ptr(),
+            tabulation.len(),
+            words.as_ptr(),
+            words.len(),
+            key,
+            present,
+        )
+    }
+}
+
+/// What the stash view answers, and the stretch of the words that it names.
+pub fn stash(words: &[u32]) -> (u32, &[u32]) {
+    let (mut offset, mut length) = (u32::MAX, u32::MAX);
+    let answer =
+        unsafe { pinorange_stash(words.as_ptr(), words.len(), &mut offset, &mut length) };
+    (answer, &words[offset as usize..][..length as usize])
+}
+
+/// What the hashing answers, and what its two out-parameters hold after it when they held `old` before.
+pub fn hashes(tabulation: &[u16], r: u32, key: u32, old: [u32; 2]) -> (u32, [u32; 2]) {
+    let [mut table0, mut table1] = old;
+    let answer = unsafe {
+        pinorange_hashes(
+            tabulation.as_ptr(),
+            tabulation.len(),
+            r,
+            key,
+            &mut table0,
+            &mut table1,
+        )
+    };
+    (answer, [table0, table1])
+}
+
 /// Fills a tabulation with the house tabulation.
 pub fn house(tabulation: &mut [u16]) -> u32 {
-    // Safe: the slice is valid for its length, and the call is proved to touch nothing else.
     unsafe { pinorange_house(tabulation.as_mut_ptr(), tabulation.len()) }
+}
+
+/// How many words a dictionary has.
+pub fn words_length(r: u32, s: u32) -> usize {
+    4 + 4 * r as usize + s as usize
+}
+
+/// How many words of scratch a change or a check borrows.
+pub fn scratch_length(r: u32, s: u32) -> usize {
+    8 * r as usize + 4 * s as usize
+}
+
+/// Freshly laid words.
+pub fn fresh(r: u32, s: u32) -> Vec<u32> {
+    let mut words = vec![7; words_length(r, s)];
+    let mut counters = Counters::default();
+    assert_eq!(init(&mut words, r, s, &mut counters), 0);
+    assert_eq!((counters.done, counters.refused), (1, 0));
+    words
+}
+
+/// An insert or a remove with a scratch that is just long enough.
+pub fn change(change: Change, tabulation: &[u16], words: &mut [u32], key: u32) -> u32 {
+    let mut scratch = vec![u32::MAX; scratch_length(words[0], words[1])];
+    change(tabulation, words, &mut scratch, &mut Counters::default(), key)
 }

@@ -1,0 +1,205 @@
+//! One call of the library beside the same call of the program by another hand: answer, every word, scratch, tabulation, counters and out-parameters, on
+//! memory with guards around every lent slice. The answers are counted, call by call.
+
+use reference::answer::number;
+use reference::counters::Counters as Meter;
+use reference::fast::Fast;
+
+use crate::guarded::Guarded;
+use crate::Counters;
+
+/// The calls.
+#[derive(Clone, Copy, Debug, PartialEq, Eq)]
+pub enum Kind {
+    Init,
+    Insert,
+    Remove,
+    Check,
+    Lookup,
+    Stash,
+    Hashes,
+    House,
+}
+
+/// The answers that each call can give. Specification, "What a call gives back".
+pub const ANSWERS: [(Kind, &[u32]); 8] = [
+    (Kind::Init, &[0, 2]),
+    (Kind::Insert, &[0, 1, 2, 3, 4, 5, 6, 8]),
+    (Kind::Remove, &[0, 1, 2, 3, 4, 5, 7]),
+    (Kind::Check, &[0, 1, 2, 3, 4]),
+    (Kind::Lookup, &[0, 1, 2, 5]),
+    (Kind::Stash, &[0, 2, 4]),
+    (Kind::Hashes, &[0, 1, 2, 5]),
+    (Kind::House, &[0, 1]),
+];
+
+/// Marks an out-parameter that a refused call must leave.
+const OLD: u32 = 0xDEAD_BEEF;
+const GUARD: u32 = 0xABCD_1234;
+
+/// Calls the library beside the reference and counts the answers.
+#[derive(Default)]
+pub struct Beside {
+    seen: [[u64; 9]; 8],
+}
+
+impl Beside {
+    pub fn new() -> Beside {
+        Beside::default()
+    }
+
+    fn count(&mut self, kind: Kind, answer: u32) -> u32 {
+        self.seen[kind as usize][answer as usize] += 1;
+        answer
+    }
+
+    /// How many calls there were.
+    pub fn calls(&self) -> u64 {
+        self.seen.iter().flatten().sum()
+    }
+
+    /// Prints how often each call gave each answer. Fails where one of these calls never gave an answer that it can give.
+    pub fn report(&self, kinds: &[Kind]) {
+        for (kind, answers) in ANSWERS {
+            let seen = &self.seen[kind as usize];
+            if !kinds.contains(&kind) {
+                continue;
+            }
+            let counts: Vec<String> =
+                answers.iter().map(|a| format!("{a}: {}", seen[*a as usize])).collect();
+            println!("{kind:?}: {}", counts.join(", "));
+            for answer in answers {
+                assert!(seen[*answer as usize] > 0, "{kind:?} never answered {answer}");
+            }
+            let given: u64 = answers.iter().map(|a| seen[*a as usize]).sum();
+            assert_eq!(given, seen.iter().sum::<u64>(), "{kind:?} gave an answer it cannot give");
+        }
+    }
+
+    pub fn init(&mut self, words: &mut [u32], r: u32, s: u32, counters: &mut Counters) -> u32 {
+        let mut expected = words.to_vec();
+        let mut meter = meter_of(counters);
+        let answer = number(reference::calls::init(r, s, &mut expected, &mut meter));
+        let mut lent = Guarded::new(words, GUARD);
+        let got = crate::init(lent.lent(), r, s, counters);
+        assert_eq!(got, answer, "init {r}, {s} of {} words", words.len());
+        assert_eq!(lent.content(), &expected[..]);
+        assert_eq!(meter_of(counters), meter);
+        words.copy_from_slice(&expected);
+        self.count(Kind::Init, got)
+    }
+
+    /// An insert or a remove.
+    pub fn change(
+        &mut self,
+        kind: Kind,
+        tabulation: &[u16],
+        words: &mut [u32],
+        scratch: &[u32],
+        counters: &mut Counters,
+        key: u32,
+    ) -> u32 {
+        let mut expected = words.to_vec();
+        let mut meter = meter_of(counters);
+        let (theirs, ours) = if kind == Kind::Insert {
+            let mut sheet = scratch.to_vec();
+            let answer = reference::calls::insert(
+                &Fast,
+                tabulation,
+                &mut expected,
+                &mut sheet,
+                &mut meter,
+                key,
+            );
+            (answer, crate::insert as crate::Change)
+        } else {
+            let mut sheet = scratch.to_vec();
+            let answer = reference::calls::remove(
+                &Fast,
+                tabulation,
+                &mut expected,
+                &mut sheet,
+                &mut meter,
+                key,
+            );
+            (answer, crate::remove as crate::Change)
+        };
+        let mut book = Guarded::new(tabulation, 0x5A5A);
+        let mut lent = Guarded::new(words, GUARD);
+        let mut sheet = Guarded::new(scratch, GUARD);
+        let got = ours(book.lent(), lent.lent(), sheet.lent(), counters, key);
+        assert_eq!(got, number(theirs), "{kind:?} of {key} on {words:?}");
+        assert_eq!(lent.content(), &expected[..], "{kind:?} of {key} on {words:?}");
+        assert!(sheet.content().iter().all(|w| *w == 0), "the scratch is not zero");
+        assert_eq!(book.content(), tabulation, "the tabulation changed");
+        assert_eq!(meter_of(counters), meter, "{kind:?}");
+        words.copy_from_slice(&expected);
+        self.count(kind, got)
+    }
+
+    pub fn check(&mut self, tabulation: &[u16], words: &[u32], scratch: &[u32]) -> u32 {
+        let mut theirs = scratch.to_vec();
+        let answer = number(reference::calls::check(&Fast, tabulation, words, &mut theirs));
+        let mut book = Guarded::new(tabulation, 0x5A5A);
+        let mut lent = Guarded::new(words, GUARD);
+        let mut sheet = Guarded::new(scratch, GUARD);
+        let got = crate::check(book.lent(), lent.lent(), sheet.lent());
+        assert_eq!(got, answer, "check of {words:?}");
+        assert_eq!(lent.content(), words, "check changed the words");
+        assert!(sheet.content().iter().all(|w| *w == 0), "the scratch is not zero");
+        assert_eq!(book.content(), tabulation, "the tabulation changed");
+        self.count(Kind::Check, got)
+    }
+
+    /// A lookup: its answer, and whether it said yes.
+    pub fn lookup(&mut self, tabulation: &[u16], words: &[u32], key: u32) -> (u32, bool) {
+        let (answer, value) = match reference::calls::lookup(tabulation, words, key) {
+            Ok(present) => (0, u32::from(present)),
+            Err(refusal) => (refusal.number(), OLD),
+        };
+        let mut book = Guarded::new(tabulation, 0x5A5A);
+        let mut lent = Guarded::new(words, GUARD);
+        let mut present = OLD;
+        let got = crate::lookup(book.lent(), lent.lent(), key, &mut present);
+        assert_eq!((got, present), (answer, value), "lookup of {key} in {words:?}");
+        assert_eq!((book.content(), lent.content()), (tabulation, words), "lookup changed memory");
+        (self.count(Kind::Lookup, got), present == 1)
+    }
+
+    /// The stash view: its number. The part is the caller's own memory.
+    pub fn stash(&mut self, words: &[u32]) -> u32 {
+        let answer = number(reference::calls::stash_answer(words));
+        let expected = reference::calls::stash(words);
+        let (got, part) = crate::stash(words);
+        assert_eq!((got, part), (answer, expected), "view of {words:?}");
+        if got == 0 {
+            assert_eq!(part.as_ptr(), expected.as_ptr(), "the view is no part of the lent words");
+        }
+        self.count(Kind::Stash, got)
+    }
+
+    pub fn hashes(&mut self, tabulation: &[u16], r: u32, key: u32) -> u32 {
+        let (answer, both) = match reference::hash::hashes(tabulation, r, key) {
+            Ok(both) => (0, both),
+            Err(refusal) => (refusal.number(), [OLD, !OLD]),
+        };
+        let got = crate::hashes(tabulation, r, key, [OLD, !OLD]);
+        assert_eq!(got, (answer, both), "hashes of {key} with r = {r}");
+        self.count(Kind::Hashes, got.0)
+    }
+
+    pub fn house(&mut self, length: usize) -> u32 {
+        let mut lent = Guarded::new(&vec![3; length], 0x5A5A);
+        let got = crate::house(lent.lent());
+        if length == reference::house::HOUSE.len() {
+            assert_eq!((got, lent.content()), (0, &reference::house::HOUSE[..]));
+        } else {
+            assert_eq!((got, lent.content()), (1, &vec![3; length][..]));
+        }
+        self.count(Kind::House, got)
+    }
+}
+
+fn meter_of(counters: &Counters) -> Meter {
+    Meter { done: counters.done, refused: counters.refused }
+}
