@@ -24,7 +24,8 @@ pub struct Board {
 
 /// What is measured in one row of a table: dictionaries of one size and load, under one tabulation.
 pub struct Case {
-    pub name: String,
+    /// What load or shape it has.
+    pub load: String,
     pub r: u32,
     pub tabulation: Vec<u16>,
     pub boards: Vec<Board>,
@@ -32,7 +33,7 @@ pub struct Case {
 
 impl Case {
     /// Each set of keys makes a board; its last key is the extra one.
-    fn new(name: String, r: u32, tabulation: Vec<u16>, sets: Vec<Vec<u32>>) -> Case {
+    fn new(load: String, r: u32, tabulation: Vec<u16>, sets: Vec<Vec<u32>>) -> Case {
         let board = |mut keys: Vec<u32>| {
             let extra = keys.pop().expect("a set of a case has keys");
             keys.sort_unstable();
@@ -40,11 +41,16 @@ impl Case {
             Board { keys, extra, words }
         };
         let boards = sets.into_iter().map(board).collect();
-        Case { name, r, tabulation, boards }
+        Case { load, r, tabulation, boards }
+    }
+
+    /// Its name in a table.
+    pub fn name(&self) -> String {
+        format!("r = {}, {}", self.r, self.load)
     }
 
     /// How many keys each of its boards has.
-    pub fn load(&self) -> usize {
+    pub fn keys(&self) -> usize {
         self.boards[0].keys.len()
     }
 
@@ -115,22 +121,22 @@ fn fitting_keys(rng: &mut Rng, tabulation: &[u16], r: u32, count: usize) -> Vec<
 }
 
 /// The house book with random keys.
-fn house(name: String, r: u32, count: usize) -> Case {
+fn house(load: String, r: u32, count: usize) -> Case {
     let set = |seed: u64| {
         let mut rng = Rng::new(u64::from(r) << 32 | (count as u64) << 8 | seed);
         fitting_keys(&mut rng, &HOUSE, r, count + 1)
     };
-    Case::new(name, r, HOUSE.to_vec(), (0..SETS).map(set).collect())
+    Case::new(load, r, HOUSE.to_vec(), (0..SETS).map(set).collect())
 }
 
 /// As many keys as `percent` of the slots.
 fn loaded(r: u32, percent: usize) -> Case {
-    house(format!("r = {r}, {percent} %"), r, 2 * r as usize * percent / 100)
+    house(format!("{percent} %"), r, 2 * r as usize * percent / 100)
 }
 
 /// All the keys that fit but one: every slot is filled, and the stash but for one place.
 fn full(r: u32) -> Case {
-    house(format!("r = {r}, full"), r, 2 * r as usize + PLACES as usize - 1)
+    house("full".to_string(), r, 2 * r as usize + PLACES as usize - 1)
 }
 
 /// A book under which the keys 1 to 2r - 1 are one path through all slots, and ascending they join stretches of one length, doubling it: every set is
@@ -153,24 +159,26 @@ fn path(r: u32) -> Case {
     let extra = 1 << (bits - 1);
     let mut keys: Vec<u32> = (1..2 * r).filter(|k| *k != extra).collect();
     keys.push(extra);
-    Case::new(format!("r = {r}, path"), r, tabulation, vec![keys])
+    Case::new("path".to_string(), r, tabulation, vec![keys])
 }
 
 /// A book under which all keys have the same two slots: two sit, 63 are stashed, and one more fits.
 fn one_place(r: u32) -> Case {
     let keys = (1..=PLACES + 2).collect();
-    Case::new(format!("r = {r}, one place"), r, vec![0; 2_048], vec![keys])
+    Case::new("one place".to_string(), r, vec![0; 2_048], vec![keys])
 }
 
-pub const SIZES: [u32; 3] = [128, 512, 1_024];
-pub const LOADS: [usize; 4] = [12, 25, 49, 73];
+/// The sizes that are measured. The first and the last are compared.
+const SIZES: [u32; 3] = [128, 512, 1_024];
 
-/// All cases, in the order of the tables.
-pub fn all() -> Vec<Case> {
-    let mut cases = Vec::new();
-    for r in SIZES {
-        cases.extend(LOADS.map(|percent| loaded(r, percent)));
-    }
-    cases.extend([full(1_024), path(1_024), one_place(1_024)]);
+/// The cases of one size.
+fn of_size(r: u32) -> Vec<Case> {
+    let mut cases: Vec<Case> = [12, 25, 49, 73].map(|percent| loaded(r, percent)).into();
+    cases.extend([full(r), path(r), one_place(r)]);
     cases
+}
+
+/// All cases, size by size, in the order of the tables.
+pub fn all() -> Vec<Vec<Case>> {
+    SIZES.map(of_size).into()
 }

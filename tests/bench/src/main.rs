@@ -26,8 +26,12 @@ const LIBRARY: Partner = Partner {
     check: library::check,
     lookup: library::lookup,
 };
-const TWIN: Partner =
-    Partner { insert: twin::insert, remove: twin::remove, check: twin::check, lookup: twin::lookup };
+const TWIN: Partner = Partner {
+    insert: twin::insert,
+    remove: twin::remove,
+    check: twin::check,
+    lookup: twin::lookup,
+};
 
 const ROUNDS: usize = 60;
 
@@ -61,7 +65,7 @@ fn round(partner: &Partner, case: &Case, scratch: &mut [u32], best: &mut [Times]
     for (words, best) in all.iter().zip(best) {
         keep_time(&mut best[2], || (partner.check)(book, words, scratch));
     }
-    assert!(boards().zip(&all).all(|(board, words)| board.words == *words), "{}", case.name);
+    assert!(boards().zip(&all).all(|(board, words)| board.words == *words), "{}", case.name());
 }
 
 /// The times of both partners, whose rounds alternate: of each board the shortest, and the mean over the boards.
@@ -112,27 +116,28 @@ fn lookups(case: &Case, board: &Board, asked: &[u32]) -> [f64; 3] {
     best
 }
 
-fn print_changes(cases: &[Case]) {
+fn print_changes(sizes: &[Vec<Case>]) {
     println!("| case | keys | insert µs | ratio | remove µs | ratio | check µs | ratio |");
     println!("|---|---|---|---|---|---|---|---|");
-    let all: Vec<[Times; 2]> = cases.iter().map(changes).collect();
-    for (case, [ours, theirs]) in cases.iter().zip(&all) {
-        print!("| {} | {} |", case.name, case.load());
+    let times: Vec<Vec<[Times; 2]>> =
+        sizes.iter().map(|cases| cases.iter().map(changes).collect()).collect();
+    for (case, [ours, theirs]) in sizes.iter().flatten().zip(times.iter().flatten()) {
+        print!("| {} | {} |", case.name(), case.keys());
         for (our, their) in ours.iter().zip(theirs) {
             print!(" {:.1} | {:.2} |", our / 1_000.0, our / their);
         }
         println!();
     }
-    println!("\n| r = 1,024 against r = 128 | insert | remove | check |\n|---|---|---|---|");
-    for (i, load) in cases::LOADS.iter().enumerate() {
-        let (small, large) = (&all[i][0], &all[2 * cases::LOADS.len() + i][0]);
-        let growth: Vec<String> =
-            small.iter().zip(large).map(|(small, large)| format!("{:.1}", large / small)).collect();
-        println!("| {load} % | {} |", growth.join(" | "));
+    let (first, last) = (&sizes[0], &sizes[sizes.len() - 1]);
+    println!("\n| r = {} against r = {} | insert | remove | check |", last[0].r, first[0].r);
+    println!("|---|---|---|---|");
+    for ((case, small), large) in first.iter().zip(&times[0]).zip(&times[sizes.len() - 1]) {
+        let growth = [0, 1, 2].map(|call| format!("{:.1}", large[0][call] / small[0][call]));
+        println!("| {} | {} |", case.load, growth.join(" | "));
     }
 }
 
-fn print_lookups(cases: &[Case]) {
+fn print_lookups<'a>(cases: impl Iterator<Item = &'a Case>) {
     println!("\n| lookup | keys | library ns | twin ns | ratio | HashSet ns | ratio |");
     println!("|---|---|---|---|---|---|---|");
     for case in cases {
@@ -141,7 +146,7 @@ fn print_lookups(cases: &[Case]) {
             let [ours, twin, std] = lookups(case, board, &asked);
             println!(
                 "| {}, {what} | {} | {ours:.1} | {twin:.1} | {:.2} | {std:.1} | {:.2} |",
-                case.name,
+                case.name(),
                 asked.len(),
                 ours / twin,
                 ours / std
@@ -175,15 +180,17 @@ fn one(partner: &str, call: &str, case: &Case) {
 fn main() {
     let words: Vec<String> = std::env::args().skip(1).collect();
     let words: Vec<&str> = words.iter().map(String::as_str).collect();
-    let cases = cases::all();
+    let sizes = cases::all();
+    let mut cases = sizes.iter().flatten();
     match words[..] {
         [] => {
-            print_changes(&cases);
-            print_lookups(&cases);
+            print_changes(&sizes);
+            print_lookups(cases);
         }
-        ["cases"] => cases.iter().for_each(|case| println!("{}|{}", case.name, case.load())),
+        ["cases"] => cases.for_each(|case| println!("{}|{}", case.name(), case.keys())),
         ["one", partner, call, number] => {
-            one(partner, call, &cases[number.parse::<usize>().expect("a number")])
+            let number: usize = number.parse().expect("the number of a case");
+            one(partner, call, cases.nth(number).expect("a case"))
         }
         _ => panic!("see the top of main.rs"),
     }

@@ -21,9 +21,8 @@ fn ends(tabulation: &[u16; TABULATION_LENGTH], r: u32, key: u32) -> (usize, usiz
 #[inline]
 fn shape(words: &[u32]) -> Option<(u32, u32)> {
     let &[r, s, _, _, ..] = words else { return None };
-    let fits = (1..=1_024).contains(&r)
-        && s <= 64
-        && words.len() == HEADER + 4 * r as usize + s as usize;
+    let fits =
+        (1..=1_024).contains(&r) && s <= 64 && words.len() == HEADER + 4 * r as usize + s as usize;
     fits.then_some((r, s))
 }
 
@@ -116,8 +115,7 @@ impl Build<'_, '_> {
             }
             let sum = sets[one] + sets[two] - m;
             let smaller = sets[one] < sets[two];
-            let (child, parent, end) =
-                if smaller { (one, two, first) } else { (two, one, second) };
+            let (child, parent, end) = if smaller { (one, two, first) } else { (two, one, second) };
             self.reroot(end, key);
             self.parts.sets[child] = parent as u32;
             self.parts.sets[parent] = sum;

@@ -131,8 +131,7 @@ pub fn lookup(tabulation: &[u16], words: &[u32], key: u32, present: &mut u32) ->
 /// What the stash view answers, and the stretch of the words that it names.
 pub fn stash(words: &[u32]) -> (u32, &[u32]) {
     let (mut offset, mut length) = (u32::MAX, u32::MAX);
-    let answer =
-        unsafe { pinorange_stash(words.as_ptr(), words.len(), &mut offset, &mut length) };
+    let answer = unsafe { pinorange_stash(words.as_ptr(), words.len(), &mut offset, &mut length) };
     (answer, &words[offset as usize..][..length as usize])
 }
 
@@ -140,14 +139,7 @@ pub fn stash(words: &[u32]) -> (u32, &[u32]) {
 pub fn hashes(tabulation: &[u16], r: u32, key: u32, old: [u32; 2]) -> (u32, [u32; 2]) {
     let [mut table0, mut table1] = old;
     let answer = unsafe {
-        pinorange_hashes(
-            tabulation.as_ptr(),
-            tabulation.len(),
-            r,
-            key,
-            &mut table0,
-            &mut table1,
-        )
+        pinorange_hashes(tabulation.as_ptr(), tabulation.len(), r, key, &mut table0, &mut table1)
     };
     (answer, [table0, table1])
 }

@@ -71,7 +71,8 @@ fn compare(folder: &Folder, book: Option<&[u8]>, input: &[u8]) -> Vec<u8> {
 #[test]
 fn the_worked_listing() {
     let folder = Folder::new("listing");
-    let got = compare(&folder, Some(&book_of(&test_tabulation())), b"2,1\nA,65\nA,1\nA,33\nA,97\nL,65\n");
+    let got =
+        compare(&folder, Some(&book_of(&test_tabulation())), b"2,1\nA,65\nA,1\nA,33\nA,97\nL,65\n");
     assert_eq!(
         String::from_utf8_lossy(&got),
         "A,65,0\nA,1,0\nA,33,0\nA,97,8\nL,65,1\nP,0,1,1,33\nP,1,0,33,1\nD,65\n"
@@ -84,9 +85,19 @@ fn the_test_board() {
     let folder = Folder::new("board");
     let book = book_of(&test_tabulation());
     for session in [
-        "4,1", "4,1 A,17", "4,1 A,17 A,1", "4,1 A,65 A,1", "4,1 A,129 A,65 A,1", "4,1 A,129 A,65 A,1 A,193", "4,2 A,193 A,129 A,65 A,1",
-        "4,1 A,129 A,65 A,1 W,65", "4,1 A,129 A,65 A,17", "4,1 A,98 A,65 A,34 A,33 A,1", "4,1 A,98 A,65 A,34 A,33 A,1 W,33",
-        "4,1 A,225 A,98 A,65 A,34 A,1", "1,0 A,9 A,7 A,8",
+        "4,1",
+        "4,1 A,17",
+        "4,1 A,17 A,1",
+        "4,1 A,65 A,1",
+        "4,1 A,129 A,65 A,1",
+        "4,1 A,129 A,65 A,1 A,193",
+        "4,2 A,193 A,129 A,65 A,1",
+        "4,1 A,129 A,65 A,1 W,65",
+        "4,1 A,129 A,65 A,17",
+        "4,1 A,98 A,65 A,34 A,33 A,1",
+        "4,1 A,98 A,65 A,34 A,33 A,1 W,33",
+        "4,1 A,225 A,98 A,65 A,34 A,1",
+        "1,0 A,9 A,7 A,8",
     ] {
         compare(&folder, Some(&book), session.replace(' ', "\n").as_bytes());
     }
@@ -98,11 +109,52 @@ fn the_grammar() {
     let book = book_of(&test_tabulation());
     let long = "A,1".repeat(30_000);
     let lines = [
-        "", "A", "A,", "A,1,", "A,01", "A,00", "A,0", "L,0", "W,0", "A,4294967295", "A,4294967296", "A,99999999999", "a,1", "A;1", " A,1", "A, 1", "A,1 ",
-        "A,+1", "A,-1", "A,1\r", "L,4294967295", "W,4294967295", "X,1", "A,1,2", "4,1", "\"A\",1", "A,1\0", "L,17", &long, "E,1",
+        "",
+        "A",
+        "A,",
+        "A,1,",
+        "A,01",
+        "A,00",
+        "A,0",
+        "L,0",
+        "W,0",
+        "A,4294967295",
+        "A,4294967296",
+        "A,99999999999",
+        "a,1",
+        "A;1",
+        " A,1",
+        "A, 1",
+        "A,1 ",
+        "A,+1",
+        "A,-1",
+        "A,1\r",
+        "L,4294967295",
+        "W,4294967295",
+        "X,1",
+        "A,1,2",
+        "4,1",
+        "\"A\",1",
+        "A,1\0",
+        "L,17",
+        &long,
+        "E,1",
     ];
     let every = lines.join("\n");
-    for first in ["4,1", "1,0", "1024,64", "1025,1", "4,65", "0,1", "04,1", "4", "4,1,0", "4294967295,4294967295", "", "A,1"] {
+    for first in [
+        "4,1",
+        "1,0",
+        "1024,64",
+        "1025,1",
+        "4,65",
+        "0,1",
+        "04,1",
+        "4",
+        "4,1,0",
+        "4294967295,4294967295",
+        "",
+        "A,1",
+    ] {
         for end in ["", "\n", "\n\n"] {
             compare(&folder, Some(&book), format!("{first}\n{every}{end}").as_bytes());
             compare(&folder, Some(&book), format!("{first}{end}").as_bytes());
@@ -115,7 +167,13 @@ fn the_grammar() {
 fn the_book() {
     let folder = Folder::new("books");
     let book = book_of(&test_tabulation());
-    for bytes in [None, Some(&book[1..]), Some(&[][..]), Some(&[&book[..], &[0]].concat()[..]), Some(&book[..])] {
+    for bytes in [
+        None,
+        Some(&book[1..]),
+        Some(&[][..]),
+        Some(&[&book[..], &[0]].concat()[..]),
+        Some(&book[..]),
+    ] {
         compare(&folder, bytes, b"4,1\nA,17\n");
         compare(&folder, bytes, b"");
     }

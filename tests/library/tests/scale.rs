@@ -259,7 +259,14 @@ fn extreme_tabulations() {
 }
 
 /// A random way to a set: its keys in any order, with strangers that come and go, keys that go and come again, and refused calls.
-fn way_to(rng: &mut Rng, tabulation: &[u16], r: u32, s: u32, keys: &[u32], strangers: &[u32]) -> Vec<u32> {
+fn way_to(
+    rng: &mut Rng,
+    tabulation: &[u16],
+    r: u32,
+    s: u32,
+    keys: &[u32],
+    strangers: &[u32],
+) -> Vec<u32> {
     let mut words = fresh(r, s);
     let mut order = keys.to_vec();
     rng.shuffle(&mut order);
@@ -287,7 +294,8 @@ fn two_histories_of_one_set() {
     let (mut sets, mut stashed) = (0, 0);
     for round in 0..3_000 {
         let large = round % 600 == 0;
-        let (r, s) = if large { (1_024, 64) } else { (1 + rng.below(8) as u32, rng.below(5) as u32) };
+        let (r, s) =
+            if large { (1_024, 64) } else { (1 + rng.below(8) as u32, rng.below(5) as u32) };
         let tabulation = if large { HOUSE.to_vec() } else { narrow_tabulation(&mut rng) };
         let count = if large { 600 } else { 1 + rng.below(2 * r as usize) };
         let keys = if large { any_keys(&mut rng, count) } else { random_keys(&mut rng, count) };
