@@ -101,34 +101,17 @@ impl Beside {
     ) -> u32 {
         let mut expected = words.to_vec();
         let mut meter = meter_of(counters);
-        let (theirs, ours) = if kind == Kind::Insert {
-            let mut sheet = scratch.to_vec();
-            let answer = reference::calls::insert(
-                &Fast,
-                tabulation,
-                &mut expected,
-                &mut sheet,
-                &mut meter,
-                key,
-            );
-            (answer, crate::insert as crate::Change)
-        } else {
-            let mut sheet = scratch.to_vec();
-            let answer = reference::calls::remove(
-                &Fast,
-                tabulation,
-                &mut expected,
-                &mut sheet,
-                &mut meter,
-                key,
-            );
-            (answer, crate::remove as crate::Change)
+        let mut theirs = scratch.to_vec();
+        #[rustfmt::skip]
+        let (answer, ours): (_, crate::Change) = match kind {
+            Kind::Insert => (reference::calls::insert(&Fast, tabulation, &mut expected, &mut theirs, &mut meter, key), crate::insert),
+            _ => (reference::calls::remove(&Fast, tabulation, &mut expected, &mut theirs, &mut meter, key), crate::remove),
         };
         let mut book = Guarded::new(tabulation, 0x5A5A);
         let mut lent = Guarded::new(words, GUARD);
         let mut sheet = Guarded::new(scratch, GUARD);
         let got = ours(book.lent(), lent.lent(), sheet.lent(), counters, key);
-        assert_eq!(got, number(theirs), "{kind:?} of {key} on {words:?}");
+        assert_eq!(got, number(answer), "{kind:?} of {key} on {words:?}");
         assert_eq!(lent.content(), &expected[..], "{kind:?} of {key} on {words:?}");
         assert!(sheet.content().iter().all(|w| *w == 0), "the scratch is not zero");
         assert_eq!(book.content(), tabulation, "the tabulation changed");

@@ -56,8 +56,19 @@ pub fn init(words: &mut [u32], r: u32, s: u32, counters: &mut Counters) -> u32 {
 /// An insert or a remove, as a function.
 pub type Change = fn(&[u16], &mut [u32], &mut [u32], &mut Counters, u32) -> u32;
 
-/// Puts a key in.
-pub fn insert(
+type ExportedChange = unsafe extern "C" fn(
+    *const u16,
+    usize,
+    *mut u32,
+    usize,
+    *mut u32,
+    usize,
+    *mut Counters,
+    u32,
+) -> u32;
+
+fn call(
+    exported: ExportedChange,
     tabulation: &[u16],
     words: &mut [u32],
     scratch: &mut [u32],
@@ -65,7 +76,7 @@ pub fn insert(
     key: u32,
 ) -> u32 {
     unsafe {
-        pinorange_insert(
+        exported(
             tabulation.as_ptr(),
             tabulation.len(),
             words.as_mut_ptr(),
@@ -78,26 +89,16 @@ pub fn insert(
     }
 }
 
+/// Puts a key in.
+#[rustfmt::skip]
+pub fn insert(tabulation: &[u16], words: &mut [u32], scratch: &mut [u32], counters: &mut Counters, key: u32) -> u32 {
+    call(pinorange_insert, tabulation, words, scratch, counters, key)
+}
+
 /// Takes a key out.
-pub fn remove(
-    tabulation: &[u16],
-    words: &mut [u32],
-    scratch: &mut [u32],
-    counters: &mut Counters,
-    key: u32,
-) -> u32 {
-    unsafe {
-        pinorange_remove(
-            tabulation.as_ptr(),
-            tabulation.len(),
-            words.as_mut_ptr(),
-            words.len(),
-            scratch.as_mut_ptr(),
-            scratch.len(),
-            counters,
-            key,
-        )
-    }
+#[rustfmt::skip]
+pub fn remove(tabulation: &[u16], words: &mut [u32], scratch: &mut [u32], counters: &mut Counters, key: u32) -> u32 {
+    call(pinorange_remove, tabulation, words, scratch, counters, key)
 }
 
 /// Says whether the words are a canonical image.
