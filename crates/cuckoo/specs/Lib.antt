@@ -3,6 +3,7 @@
 pub mod Graph
 pub mod Rows
 pub mod Sets
+pub mod Lists
 pub mod Joined
 pub mod Walks
 pub mod Forest

@@ -1,10 +1,11 @@
 -- Worked examples: document 01's "Cards on a test board" over plain ends, so that a wrong definition in Graph.antt is refused in this very
 -- crate. The whole table, with every word and the hashes of the test tabulation, stands in the crate `layout`.
 use Prim.Native.Nat.{ℕ, zero, suc, _+_, _/_, _%_}
-use mathlib.Core.Bool.{Bool, true, false, _&&_}
+use mathlib.Core.Bool.{Bool, true, _&&_}
 use mathlib.Core.List.{List, [], _∷_, _++_}
-use lib.Dec.{eqb, T}
+use lib.Dec.{T}
 use Rattle.cuckoo.specs.Graph.{without, label, joined, component, onCycle, cyclic, spare, settle, seated, stash, root, sits, occupant, next, slot-key, slot-next}
+use Rattle.cuckoo.specs.Lists.{same}
 
 -- the test board's slots of a key below 256: 0 to 3 in table 0, 4 to 7 in table 1
 abbrev pub board-0 : ℕ → ℕ
@@ -12,12 +13,6 @@ board-0 c = c % 4
 
 abbrev pub board-1 : ℕ → ℕ
 board-1 c = 4 + c / 16 % 4
-
-abbrev pub same : List ℕ → List ℕ → Bool
-same [] [] = true
-same [] (y ∷ ys) = false
-same (x ∷ xs) [] = false
-same (x ∷ xs) (y ∷ ys) = eqb x y && same xs ys
 
 -- key and next of the n slots from v on, in the image of S
 abbrev pub contents : List ℕ → ℕ → ℕ → List ℕ
@@ -67,5 +62,5 @@ rows =
 
 -- the rows follow from the definitions, all at once
 pub board : T (all rows)
-unfolding without label joined component onCycle cyclic spare settle seated stash root sits occupant next slot-key slot-next
+unfolding same without label joined component onCycle cyclic spare settle seated stash root sits occupant next slot-key slot-next
 board = tt

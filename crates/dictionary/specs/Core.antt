@@ -11,11 +11,12 @@ use lib.Dec.{eqb, ltb}
 use lib.ListN.{length, take, replicate}
 use lib.Seq.{take-take, length-take-le}
 use Rattle.cuckoo.specs.Graph.{member, without}
+use Rattle.cuckoo.specs.Lists.{same}
 use Rattle.ordered.specs.Keys.{with-key}
 use Rattle.tabulation.specs.Refusal.{done, wrong-tabulation, wrong-shape, short-scratch, not-canonical, blank-key, key-present, key-absent, stash-full, first-refusal}
 use Rattle.tabulation.specs.Hash.{tabulation-length, blank}
 use Rattle.layout.specs.Layout.{Params, ValidSet, family, params-of, slots-of, places-of, scratch-length, shaped, stash-of, fits, image, keys-in}
-use Rattle.layout.specs.Canonical.{canonical, same, canonical-true}
+use Rattle.layout.specs.Canonical.{canonical, canonical-true}
 use Rattle.layout.specs.Shape.{Shaped, shape}
 use Rattle.layout.specs.Image.{le-fits}
 use Rattle.layout.specs.Standing.{keys-in-valid, not-blank}

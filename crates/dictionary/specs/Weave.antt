@@ -12,10 +12,10 @@ use lib.Dec.{eqb}
 use lib.ListN.{length, getD, set, take, drop, replicate, length-append, length-take, length-drop, take-append-drop, drop-of-length-le}
 use lib.Seq.{drop-cons, take-all, take-at, paste-suc}
 use Rattle.cuckoo.specs.Graph.{seated, stash, occupant, slot-key, slot-next}
+use Rattle.cuckoo.specs.Lists.{same}
 use Rattle.tabulation.specs.Slots.{slot-0, slot-1}
 use Rattle.layout.specs.Layout.{Params, family, header-length, words-length, stash-at, slots-of, places-of, stash-of, slot-words, image}
 use Rattle.layout.specs.Shape.{Shaped, Sized}
-use Rattle.layout.specs.Canonical.{same}
 use Rattle.build.specs.Slots.{listed}
 use Rattle.build.specs.Built.{next-at}
 use Rattle.build.specs.Scratch.{Parts, parts, used}

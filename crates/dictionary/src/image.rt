@@ -5,7 +5,7 @@ ghost use Prim.Native.Nat.{_*_, _≤_, _<_};
 ghost use mathlib.Core.List.{_∷_};
 ghost use lib.ListN.{length, drop};
 ghost use Rattle.layout.specs.Layout.{header-length};
-ghost use Rattle.layout.specs.Canonical.{same};
+ghost use Rattle.cuckoo.specs.Lists.{same};
 ghost use Rattle.build.specs.Scratch.{parts};
 ghost use Rattle.dictionary.specs.Assembled.{woven};
 ghost use Rattle.dictionary.specs.Weave.{Parted, Comparable, Writable, assembled-in, Weavable, slot-same};

@@ -4,14 +4,14 @@
 -- of Ends turn it into statements about `image` and `fits`. Assumes nothing.
 use Prim.Native.Nat.{ℕ, zero, suc, _+_, _-_, _/_, _%_, _<_}
 use mathlib.Core.Path.{_≡_, refl, _∙_}
-use mathlib.Core.Bool.{Bool, true, false, not, cond, _&&_, false≢true}
+use mathlib.Core.Bool.{Bool, true, false, not, cond, _&&_}
 use mathlib.Core.List.{List, [], _∷_, List·Memᴰ as In, List·Memᴰ·head as here, List·Memᴰ·tail as there}
 use native.Mathlib.Omega.{arith}
 use borrow.Author.Tests.{eqb-true, ne-eqb, ltb-true, not-true}
 use lib.Dec.{T, eqb, ltb, leb}
 use lib.ListN.{length}
 use Rattle.cuckoo.specs.Graph.{without, label, joined, component, onCycle, cyclic, spare, settle, seated, stash, root, sits, occupant, next, slot-key, slot-next}
-use Rattle.cuckoo.specs.Rows.{same}
+use Rattle.cuckoo.specs.Lists.{same, same-true}
 use Rattle.cuckoo.specs.Agree.{agree-none, agree-some}
 use Rattle.cuckoo.specs.Sets.{Asc, none, some, and-true}
 use Rattle.tabulation.specs.Hash.{Family, hash, blank, tabulation-length}
@@ -133,7 +133,7 @@ rows =
 
 -- the rows follow from the image rule, all at once
 rows-follow : T (all rows)
-unfolding without label joined component onCycle cyclic spare settle seated stash root sits occupant next slot-key slot-next hash board-tabulation fits-by slot-words-by image-by
+unfolding same without label joined component onCycle cyclic spare settle seated stash root sits occupant next slot-key slot-next hash board-tabulation fits-by slot-words-by image-by
 rows-follow = tt
 
 -- what the test means
@@ -141,16 +141,6 @@ rows-follow = tt
 T-true : (t : Bool) → T t → t ≡ true
 T-true true h = refl
 T-true false h = absurd h
-
-same-equal : (xs ys : List ℕ) → same xs ys ≡ true → xs ≡ ys
-same-equal [] [] e = refl
-same-equal [] (y ∷ ys) e = absurd (false≢true e)
-same-equal (x ∷ xs) [] e = absurd (false≢true e)
-same-equal (x ∷ xs) (y ∷ ys) e =
-    let p = and-true (eqb x y) (same xs ys) e in
-    let q = eqb-true x y (p .0) in
-    let r = same-equal xs ys (p .1) in
-    cc
 
 rises-valid : (n : ℕ) (S : List ℕ) → rises n S ≡ true → Asc S × ((c : ℕ) → In c S → n < c)
 rises-valid n [] e = (none, λ c i. elim i [ ])
@@ -189,7 +179,7 @@ holds (shows r s S words) e =
     record {
       valid = d .valid;
       fit = fits-known (board r s) (d .known) ∙ q .0;
-      words-are = image-known (board r s) (d .known) ∙ same-equal W words (q .1);
+      words-are = image-known (board r s) (d .known) ∙ same-true W words (q .1);
     }
 holds (full r s S) e =
     let F = fits-by (plain-0 r) (plain-1 r) s S in

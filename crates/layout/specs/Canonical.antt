@@ -3,25 +3,18 @@
 -- Assumes nothing.
 use Prim.Native.Nat.{ℕ, _<_}
 use mathlib.Core.Path.{_≡_, refl, sym, _∙_, ap}
-use mathlib.Core.Bool.{Bool, true, false, _&&_, true≢false, false≢true}
+use mathlib.Core.Bool.{Bool, true, false, _&&_, true≢false}
 use mathlib.Core.Logic.{inl, inr, _↔_}
-use mathlib.Core.List.{List, [], _∷_}
+use mathlib.Core.List.{List}
 use native.Mathlib.Omega.{arith}
-use borrow.Author.Tests.{eqb-true, eq-eqb}
-use lib.Dec.{eqb}
 use Rattle.cuckoo.specs.Sets.{test, and-true}
+use Rattle.cuckoo.specs.Lists.{same, same-true, true-same}
 use Rattle.layout.specs.Layout.{Params, ValidSet, slots-of, places-of, params-of, sizes-in-range, shaped, fits, image, keys-in}
 use Rattle.layout.specs.Image.{in-range-slots, shaped-true, image-shaped, image-params}
 use Rattle.layout.specs.Standing.{keys-in-valid, keys-in-image}
 
--- two lists of words are equal
-unfoldable pub same : List ℕ → List ℕ → Bool
-same [] [] = true
-same [] (y ∷ ys) = false
-same (x ∷ xs) [] = false
-same (x ∷ xs) (y ∷ ys) = eqb x y && same xs ys
-
--- The words are a canonical image: the keys that stand in them fit, and the words are the image of the set of these keys.
+-- The words are a canonical image: the keys that stand in them fit, and the words are the image of the set of these keys (`same`, of cuckoo/specs/Lists, is
+-- equality of lists).
 unfoldable pub canonical : List ℕ → List ℕ → Bool
 canonical tabulation ws = fits (params-of tabulation ws) (keys-in ws) && same ws (image (params-of tabulation ws) (keys-in ws))
 
@@ -30,27 +23,6 @@ pub record ImageOf (P : Params) (S ws : List ℕ) : Type 0 where
   pub valid : ValidSet S
   pub fit : fits P S ≡ true
   pub is : ws ≡ image P S
-
--- equality of words
-
-pub same-true : (xs ys : List ℕ) → same xs ys ≡ true → xs ≡ ys
-unfolding same
-same-true [] [] e = refl
-same-true [] (y ∷ ys) e = absurd (false≢true e)
-same-true (x ∷ xs) [] e = absurd (false≢true e)
-same-true (x ∷ xs) (y ∷ ys) e =
-    let p = and-true (eqb x y) (same xs ys) e in
-    let q = eqb-true x y (p .0) in
-    let r = same-true xs ys (p .1) in
-    cc
-
-same-self : (xs : List ℕ) → same xs xs ≡ true
-unfolding same
-same-self [] = refl
-same-self (x ∷ xs) = rw (eq-eqb x x refl) (same-self xs)
-
-pub true-same : (xs ys : List ℕ) → xs ≡ ys → same xs ys ≡ true
-true-same xs ys e = rw e (same-self ys)
 
 -- an image has one set
 

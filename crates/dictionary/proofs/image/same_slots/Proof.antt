@@ -4,7 +4,7 @@ use mathlib.Core.Path.{_≡_, refl, sym, _∙_}
 use native.Mathlib.Omega.{arith}
 use borrow.Author.Tests.{not-true, not-false}
 use lib.ListN.{length, drop}
-use Rattle.layout.specs.Canonical.{same}
+use Rattle.cuckoo.specs.Lists.{same}
 use Rattle.dictionary.specs.Assembled.{woven}
 use Rattle.dictionary.specs.Weave.{same-slots-step, same-slots-end}
 use borrow.Author.Needs.{needs}
