@@ -19,7 +19,8 @@ use Rattle.tabulation.specs.Refusal.{done, short-scratch, blank-key, key-presen
 use Rattle.tabulation.specs.Hash.{tabulation-length, blank}
 use Rattle.tabulation.specs.Slots.{slot-0, slot-1}
 use Rattle.layout.specs.Layout.{Params, ValidSet, family, params-of, slots-of, places-of, scratch-length, sizes-in-range, shaped, fits, image, keys-in}
-use Rattle.layout.specs.Image.{in-range-slots, shaped-true, image-shaped}
+use Rattle.layout.specs.Shape.{sized, sized-true, shape}
+use Rattle.layout.specs.Image.{image-shaped}
 use Rattle.layout.specs.Standing.{keys-in-valid}
 use Rattle.layout.specs.Canonical.{canonical, ImageOf, canonical-true, image-canonical, image-of-params, image-of-keys}
 use Rattle.layout.specs.Fitting.{without-valid, without-fits, fits-length, fits-placement, full-placement}
@@ -35,7 +36,7 @@ pub record Holds (P : Params) (S ws : List ℕ) : Type 0 where
 
 module _ {P : Params} {S ws : List ℕ} (h : Holds P S ws) where
   pub held-some : 0 < P .slots
-  held-some = in-range-slots (P .slots) (P .places) (h .range) .0
+  held-some = sized (P .slots) (P .places) (h .range) .some
 
   -- such words say r and s, and their set
   pub held-params : params-of (P .tabulation) ws ≡ P
@@ -55,7 +56,7 @@ module _ {P : Params} {S ws : List ℕ} (h : Holds P S ws) where
 
 -- Words that pass hold the set of the keys that stand in them.
 pub passed-holds : (tabulation ws : List ℕ) → shaped ws ≡ true → canonical tabulation ws ≡ true → Holds (params-of tabulation ws) (keys-in ws) ws
-passed-holds tabulation ws shape c = record { range = shaped-true ws shape .range; is = canonical-true tabulation ws c }
+passed-holds tabulation ws formed c = record { range = sized-true (slots-of ws) (places-of ws) (shape ws formed .sizes); is = canonical-true tabulation ws c }
 
 -- the new set
 

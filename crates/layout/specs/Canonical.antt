@@ -9,8 +9,9 @@ use mathlib.Core.List.{List}
 use native.Mathlib.Omega.{arith}
 use Rattle.cuckoo.specs.Sets.{test, and-true}
 use Rattle.cuckoo.specs.Lists.{same, same-true, true-same}
-use Rattle.layout.specs.Layout.{Params, ValidSet, slots-of, places-of, params-of, sizes-in-range, shaped, fits, image, keys-in}
-use Rattle.layout.specs.Image.{in-range-slots, shaped-true, image-shaped, image-params}
+use Rattle.layout.specs.Layout.{Params, ValidSet, slots-of, params-of, sizes-in-range, shaped, fits, image, keys-in}
+use Rattle.layout.specs.Shape.{shape}
+use Rattle.layout.specs.Image.{image-shaped, image-params}
 use Rattle.layout.specs.Standing.{keys-in-valid, keys-in-image}
 
 -- The words are a canonical image: the keys that stand in them fit, and the words are the image of the set of these keys (`same`, of cuckoo/specs/Lists, is
@@ -63,14 +64,14 @@ module _ (tabulation ws : List ℕ) where
   unfolding canonical
   true-canonical h = rw (h .fit) (true-same ws (image (params-of tabulation ws) (keys-in ws)) (h .is))
 
-  module _ (shape : shaped ws ≡ true) where
+  module _ (formed : shaped ws ≡ true) where
     -- If the words are the image of some set, with whatever r and s, then r and s are those in the header, and the set is that of the keys that stand.
     pub image-of-canonical : {P : Params} {S : List ℕ} → P .tabulation ≡ tabulation → ImageOf P S ws
         → (P ≡ params-of tabulation ws) × (S ≡ keys-in ws) × (canonical tabulation ws ≡ true)
     image-of-canonical {P} {S} t h =
         let p : P ≡ params-of tabulation ws = sym (image-of-params h) ∙ ap (λ (t : List ℕ). params-of t ws) t in
         let r : P .slots ≡ slots-of ws = ap (λ (Q : Params). Q .slots) p in
-        let some : 0 < P .slots = omega (arith, in-range-slots (slots-of ws) (places-of ws) (shaped-true ws shape .range)) in
+        let some : 0 < P .slots = omega (arith, shape ws formed .sizes .some) in
         let s : S ≡ keys-in ws = sym (image-of-keys h some) in
         (p, s, true-canonical (rw (p, s) at h))
 

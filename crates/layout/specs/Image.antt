@@ -2,20 +2,19 @@
 -- image has the shape of a dictionary and is read with the parameters it was made with. Assumes nothing.
 use Prim.Native.Nat.{ℕ, zero, suc, _+_, _*_, _-_, _/_, _%_, _<_, _≤_}
 use mathlib.Core.Path.{_≡_, refl, sym, _∙_, ap}
-use mathlib.Core.Bool.{true, _&&_}
+use mathlib.Core.Bool.{true}
 use mathlib.Core.Logic.{inl, inr}
 use mathlib.Core.List.{List, [], _∷_, _++_}
 use native.Mathlib.Omega.{arith}
-use borrow.Author.Tests.{leb-true, le-leb, eq-eqb, eqb-true}
-use lib.Dec.{eqb, leb}
+use borrow.Author.Tests.{leb-true, le-leb}
 use lib.ListN.{length, getD, drop, replicate, length-append, length-replicate, List·getD-append}
 use lib.Seq.{getD-drop, drop-drop, drop-at, ext-getD}
 use Rattle.cuckoo.specs.Graph.{stash, slot-key, slot-next}
-use Rattle.cuckoo.specs.Sets.{and-true, eq?, le?}
-use Rattle.tabulation.specs.Hash.{max-slots, slots-in-range, in-range-pos, in-range-max}
+use Rattle.cuckoo.specs.Sets.{eq?, le?}
 use Rattle.tabulation.specs.Slots.{slot-0, slot-1}
-use Rattle.layout.specs.Layout.{Params, family, header-length, slot-width, max-places, key-at, stash-at, words-length, slots-of, places-of}
+use Rattle.layout.specs.Layout.{Params, family, header-length, slot-width, key-at, stash-at, words-length, slots-of, places-of}
 use Rattle.layout.specs.Layout.{stash-count, params-of, sizes-in-range, shaped, stash-of, fits, slot-words, stash-words, image}
+use Rattle.layout.specs.Shape.{sized, shape-true}
 
 -- the kinds of positions
 
@@ -38,36 +37,6 @@ position r s i h =
         ]
       ]
     ]
-
--- the shape of words, taken apart
-
-pub in-range-slots : (r s : ℕ) → sizes-in-range r s ≡ true → (0 < r) × (r ≤ max-slots)
-unfolding sizes-in-range
-in-range-slots r s e =
-    let q = and-true (slots-in-range r) (leb s max-places) e .0 in
-    (in-range-pos r q, in-range-max r q)
-
-pub in-range-places : (r s : ℕ) → sizes-in-range r s ≡ true → s ≤ max-places
-unfolding sizes-in-range
-in-range-places r s e = leb-true s max-places (and-true (slots-in-range r) (leb s max-places) e .1)
-
-pub record Shape (ws : List ℕ) : Type 0 where
-  pub range : sizes-in-range (slots-of ws) (places-of ws) ≡ true
-  pub size : length ws ≡ words-length (slots-of ws) (places-of ws)
-
-pub shaped-true : (ws : List ℕ) → shaped ws ≡ true → Shape ws
-unfolding shaped
-shaped-true ws e =
-    let r = slots-of ws in
-    let s = places-of ws in
-    let p = and-true (leb header-length (length ws) && sizes-in-range r s) (eqb (length ws) (words-length r s)) e in
-    let q = and-true (leb header-length (length ws)) (sizes-in-range r s) (p .0) in
-    record { range = q .1; size = eqb-true (length ws) (words-length r s) (p .1) }
-
-pub true-shaped : {ws : List ℕ} → Shape ws → shaped ws ≡ true
-unfolding shaped
-true-shaped {ws} h =
-    rw (le-leb header-length (length ws) (omega arith), h .range) (eq-eqb (length ws) (words-length (slots-of ws) (places-of ws)) (h .size))
 
 -- zeros after a list are what reading past its end gives
 getD-zeros : (xs : List ℕ) (n i : ℕ) → getD (xs ++ replicate n 0) i 0 ≡ getD xs i 0
@@ -179,7 +148,7 @@ module _ (P : Params) (S : List ℕ) where
 
   -- An image has the shape of a dictionary,
   pub image-shaped : sizes-in-range (P .slots) (P .places) ≡ true → fits P S ≡ true → shaped (image P S) ≡ true
-  image-shaped range e = true-shaped {ws = image P S} (record { range = rw (image-slots, image-places) range; size = image-size e })
+  image-shaped range e = shape-true (image P S) (record { sizes = rw (image-slots, image-places) (sized (P .slots) (P .places) range); size = image-size e })
 
   -- and it is read with the parameters it was made with.
   pub image-params : params-of (P .tabulation) (image P S) ≡ P

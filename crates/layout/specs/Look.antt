@@ -17,7 +17,8 @@ use Rattle.tabulation.specs.Hash.{tabulation-length, blank}
 use Rattle.tabulation.specs.Slots.{slot-0, slot-1, slot-0-lt, slot-1-lt}
 use Rattle.layout.specs.Layout.{Params, family, ValidSet, key-at, slots-of, params-of, sizes-in-range, stash-of, fits, image, stash-part}
 use Rattle.layout.specs.Answers.{lookup-refusal, stands, lookup-values, view-refusal, view-of}
-use Rattle.layout.specs.Image.{in-range-slots, fits-le, image-slots, image-places, image-stashed, image-key, image-stash, image-shaped}
+use Rattle.layout.specs.Shape.{sized}
+use Rattle.layout.specs.Image.{fits-le, image-slots, image-places, image-stashed, image-key, image-stash, image-shaped}
 use Rattle.layout.specs.Standing.{not-blank, KeyWord, at-slot, stash-part-in, table-0, table-1, stashed, seen, image-stash-part, image-key-in}
 
 -- A key stands where a lookup looks: the test `stands`, read as a statement.
@@ -100,7 +101,7 @@ module _ (P : Params) (S : List ℕ) (e : fits P S ≡ true) where
     unfolding lookup-values
     image-lookup-values valid = elim (test (blank key)) [
       | inl b ↦ rw (image-lookup-refusal, b)
-      | inr b ↦ rw (image-lookup-refusal, b, image-stands valid (in-range-slots (P .slots) (P .places) range .0) key b)
+      | inr b ↦ rw (image-lookup-refusal, b, image-stands valid (sized (P .slots) (P .places) range .some) key b)
     ]
 
   -- The stash view is never refused on the image of a set, and is the set's stash.

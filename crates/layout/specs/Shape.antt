@@ -1,20 +1,17 @@
 -- What the shape of words means, as facts about numbers: for callers, which use these laws and not the text of `shaped`.
 use Prim.Native.Nat.{ℕ, _+_, _≤_, _<_}
 use mathlib.Core.Path.{_≡_, refl}
-use mathlib.Core.Bool.{Bool, true, false, not, cond, _&&_, false≢true}
+use mathlib.Core.Bool.{Bool, true, false, not, cond, _&&_}
 use mathlib.Core.List.{List}
 use native.Mathlib.Omega.{arith}
 use borrow.Author.Tests.{leb-true, eqb-true, le-leb, eq-eqb, ltb-false}
 use lib.Dec.{leb, ltb}
 use lib.ListN.{length, drop, length-drop}
 use lib.Seq.{take-all}
+use Rattle.cuckoo.specs.Sets.{and-true}
 use Rattle.tabulation.specs.Hash.{slots-in-range, max-slots, in-range-pos, in-range-max, range-in}
 use Rattle.layout.specs.Layout.{header-length, key-at, slots-of, places-of, stash-count, max-places, sizes-in-range, shaped, words-length, stash-at, stash-part}
 use Rattle.layout.specs.Answers.{view-refusal}
-
-and-true : (p q : Bool) → (p && q) ≡ true → (p ≡ true) × (q ≡ true)
-and-true true q e = (refl, e)
-and-true false q e = absurd (false≢true e)
 
 -- r and s are in their ranges
 pub record Sized (r s : ℕ) : Type 0 where

@@ -21,7 +21,8 @@ use Rattle.tabulation.specs.Hash.{blank}
 use Rattle.tabulation.specs.Slots.{slot-0, slot-1, slot-0-lt, slot-1-lt}
 use Rattle.layout.specs.Layout.{Params, family, ValidSet, header-length, slot-width, key-at, stash-at, words-length, slots-of, places-of}
 use Rattle.layout.specs.Layout.{stash-of, fits, stash-words, image, slot-keys, stash-part, key-words, keys-in}
-use Rattle.layout.specs.Image.{Shape, stash-words-length, image-size, image-key, image-stash, image-stash-at}
+use Rattle.layout.specs.Shape.{Shaped}
+use Rattle.layout.specs.Image.{stash-words-length, image-size, image-key, image-stash, image-stash-at}
 
 -- blank keys: all that this crate knows of `blank`
 
@@ -119,7 +120,7 @@ module _ (ws : List ℕ) where
   keys-in-valid = record { asc = keys-in-asc; solid = λ c i. blank-false c (keys-in-key i .1) }
 
   -- in words with the shape of a dictionary, the keys that are the key word of a slot or a word of the stash, but for 0
-  pub keys-in-words : Shape ws → (c : ℕ) → In c (keys-in ws) ↔ (KeyWord ws c × (c ≡ 0 → ⊥))
+  pub keys-in-words : Shaped ws → (c : ℕ) → In c (keys-in ws) ↔ (KeyWord ws c × (c ≡ 0 → ⊥))
   keys-in-words h c = (
     λ i. let k = keys-in-key i in (in-key-words ws (k .0), k .1),
     λ k. key-keys-in (key-word-in ws (h .size) (k .0)) (k .1),
