@@ -86,7 +86,7 @@ pub one-too-many : (P : Params) (key : ℕ) {S : List ℕ} → 0 < P .slots → 
     → P .slots + P .slots + P .places ≤ length S → fits P (with-key key S) ≡ false
 one-too-many P key {S} some valid b m l = elim (test (fits P (with-key key S))) [
   | inl e ↦
-      let bound = fits-length P (with-valid key b valid) some e in
+      let bound = fits-length P (with-valid key b valid .asc) some e in
       absurd (omega (arith, length-with key S (valid .asc) (λ i. true≢false (sym (in-member i) ∙ m))))
   | inr e ↦ e
 ]

@@ -12,7 +12,8 @@ use Rattle.tabulation.specs.Slots.{slot-0, slot-1}
 use Rattle.layout.specs.Layout.{Params, family, fits, slot-words, image}
 
 module _ (a b : ℕ → ℕ) where
-  -- `fits`, `slot-words` and `image` of Layout, with ends a and b in place of the hashes
+  -- `fits`, `slot-words` and `image` of Layout, with ends a and b in place of the hashes. They repeat Layout's definitions on purpose: Layout, which a
+  -- reader must believe, stays short and speaks of hashes alone; `fits-known` and `image-known` below prove that the two agree.
   unfoldable pub fits-by : ℕ → List ℕ → Bool
   fits-by s S = leb (length (stash a b S)) s
 

@@ -42,8 +42,8 @@ module _ (P : Params) {S : List ℕ} (valid : ValidSet S) where
   pub without-fits : (c : ℕ) → fits P S ≡ true → fits P (without c S) ≡ true
   without-fits c e = part-fits (asc-out c (valid .asc)) (λ d i. out-in c S i) e
 
-  -- A set that fits has no more keys than there are slots and places.
-  pub fits-length : 0 < P .slots → fits P S ≡ true → length S ≤ P .slots + P .slots + P .places
-  fits-length some e =
-      fits-bound (slot-0 (family P)) (slot-1 (family P)) (valid .asc) (P .slots + P .slots)
-      (λ c i. omega (arith, slot-0-lt (family P) some c)) (λ c i. slot-1-lt (family P) some c) (fits-le P S e)
+-- A set that fits has no more keys than there are slots and places.
+pub fits-length : (P : Params) {S : List ℕ} → Asc S → 0 < P .slots → fits P S ≡ true → length S ≤ P .slots + P .slots + P .places
+fits-length P {S} asc some e =
+    fits-bound (slot-0 (family P)) (slot-1 (family P)) asc (P .slots + P .slots)
+    (λ c i. omega (arith, slot-0-lt (family P) some c)) (λ c i. slot-1-lt (family P) some c) (fits-le P S e)

@@ -1,13 +1,13 @@
--- Fresh words are the image of the empty set, which fits with every r and s. Assumes nothing.
-use Prim.Native.Nat.{ℕ, zero, suc, _+_, _*_, _-_}
+-- Fresh words: the image of the empty set, which fits with every r and s; and what the test of sizes and length decides, for the code. Assumes nothing.
+use Prim.Native.Nat.{ℕ, zero, suc, _+_, _*_, _-_, _≤_}
 use mathlib.Core.Path.{_≡_, refl, sym}
-use mathlib.Core.Bool.{true, _&&_}
+use mathlib.Core.Bool.{true, false, _&&_}
 use mathlib.Core.Logic.{inl, inr}
 use mathlib.Core.List.{List, [], _∷_}
 use native.Mathlib.Omega.{arith}
 use borrow.Author.Tests.{eqb-true}
 use lib.Dec.{eqb}
-use lib.ListN.{length, replicate, replicate-append-replicate}
+use lib.ListN.{length, set, replicate, replicate-append-replicate}
 use Rattle.cuckoo.specs.Graph.{settle, seated, stash, occupant, slot-key, slot-next}
 use Rattle.cuckoo.specs.Sets.{none, test, and-true}
 use Rattle.tabulation.specs.Refusal.{done}
@@ -56,3 +56,20 @@ module _ (P : Params) (ws : List ℕ) (accepted : fresh-refusal (length ws) (P .
   pub fresh-image : fresh-words ws (P .slots) (P .places) ≡ image P []
   unfolding fresh-words
   fresh-image = rw (accepted, fresh-sizes .1) (sym (empty-image P))
+
+-- the same by the test that decides, for the code of `fresh`
+module _ (ws : List ℕ) (r s : ℕ) where
+  pub fresh-refused : (sizes-in-range r s && eqb (length ws) (words-length r s)) ≡ false
+      → (2 ≡ fresh-refusal (length ws) r s) × (ws ≡ fresh-words ws r s)
+  unfolding fresh-refusal fresh-words
+  fresh-refused e = (rw e, rw e)
+
+  two-set : (n : ℕ) → 2 ≤ n → set (set (replicate n 0) 0 r) 1 s ≡ r ∷ s ∷ replicate (n - 2) 0
+  two-set zero h = absurd (omega arith)
+  two-set (suc zero) h = absurd (omega arith)
+  two-set (suc (suc n)) h = let e : suc (suc n) - 2 ≡ n = omega arith in rw e
+
+  pub fresh-accepted : (sizes-in-range r s && eqb (length ws) (words-length r s)) ≡ true → 2 ≤ length ws
+      → (0 ≡ fresh-refusal (length ws) r s) × (set (set (replicate (length ws) 0) 0 r) 1 s ≡ fresh-words ws r s)
+  unfolding fresh-refusal fresh-words
+  fresh-accepted e h = (rw e, rw e (two-set (length ws) h))

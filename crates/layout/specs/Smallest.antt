@@ -7,32 +7,19 @@ use mathlib.Core.Logic.{inl, inr}
 use mathlib.Core.List.{List, [], _∷_, List·Memᴰ·head as here, List·Memᴰ·tail as there}
 use native.Mathlib.Nat.{mod-one}
 use native.Mathlib.Omega.{arith}
-use borrow.Author.Tests.{eq-eqb, ne-eqb, lt-ltb, le-ltb, leb-true}
-use lib.Dec.{eqb, leb}
+use borrow.Author.Tests.{eq-eqb, ne-eqb, lt-ltb, le-ltb}
+use lib.Dec.{eqb}
 use lib.ListN.{length}
 use Rattle.cuckoo.specs.Graph.{without, label, joined, component, onCycle, cyclic, spare, settle, seated, stash, root, sits, occupant, next, slot-key, slot-next}
 use Rattle.cuckoo.specs.Sets.{test, Asc, none, some}
-use Rattle.cuckoo.specs.Placement.{fits-bound}
 use Rattle.tabulation.specs.Hash.{hash}
-use Rattle.tabulation.specs.Slots.{slot-0, slot-1, slot-0-lt, slot-1-lt}
-use Rattle.layout.specs.Layout.{Params, family, fits, image}
+use Rattle.layout.specs.Layout.{Params, fits, image}
+use Rattle.layout.specs.Fitting.{fits-length}
 use Rattle.layout.specs.Ends.{Known, fits-by, slot-words-by, image-by, fits-known, image-known}
 
 -- more keys than slots and stash places do not fit
 crowded : (P : Params) {S : List ℕ} → Asc S → 0 < P .slots → P .slots + P .slots + P .places < length S → fits P S ≡ false
-unfolding fits
-crowded P {S} h pos more =
-    let F = family P in
-    let a = slot-0 F in
-    let b = slot-1 F in
-    elim (test (leb (length (stash a b S)) (P .places))) [
-      | inl t ↦ absurd (omega (
-        arith,
-        fits-bound a b h (P .slots + P .slots) (λ c i. omega (arith, slot-0-lt F pos c)) (λ c i. slot-1-lt F pos c)
-            (leb-true (length (stash a b S)) (P .places) t),
-      ))
-      | inr t ↦ t
-    ]
+crowded P {S} h pos more = elim (test (fits P S)) [ inl t ↦ absurd (omega (arith, fits-length P h pos t)) | inr t ↦ t ]
 
 -- a smaller key in front
 above : {c d : ℕ} {R : List ℕ} → c < d → Asc (d ∷ R) → Asc (c ∷ d ∷ R)

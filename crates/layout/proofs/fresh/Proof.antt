@@ -4,7 +4,7 @@ use native.Mathlib.Omega.{arith}
 use borrow.Author.Tests.{eq-eqb, ne-eqb, not-true, not-false}
 use lib.ListN.{length, set, length-set, length-replicate}
 use Rattle.layout.specs.Shape.{sized}
-use Rattle.layout.specs.Laid.{fresh-refused, fresh-accepted}
+use Rattle.layout.specs.Fresh.{fresh-refused, fresh-accepted}
 use borrow.Author.Needs.{needs}
 use Rattle.layout.proofs.fresh.Statement.{statement}
 use Rattle.layout.proofs.fresh.Tie as tie
