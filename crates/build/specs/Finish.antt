@@ -12,9 +12,8 @@ use Rattle.cuckoo.specs.Graph.{seated, occupant}
 use Rattle.cuckoo.specs.Sets.{eq?, in?, Asc, below-in, below-lt, in-below}
 use Rattle.cuckoo.specs.Joined.{Joined, jrefl, jsym, edge, mono, least}
 use Rattle.cuckoo.specs.Forest.{forest, forest-in, spans, spans-key, acyclic}
-use Rattle.cuckoo.specs.Settling.{seated-sub, seated-forest, seated-stops, is-seated, smallest, one}
+use Rattle.cuckoo.specs.Settling.{seated-asc, seated-sub, seated-forest, seated-stops, is-seated, smallest, one}
 use Rattle.cuckoo.specs.Seating.{Ends, occupant-from}
-use Rattle.cuckoo.specs.Places.{seated-asc}
 use Rattle.forest.specs.Oriented.{OrientedForest, Oriented, end-near, recast, standing}
 use Rattle.forest.specs.Finish.{Finished, Spanned, TreeComponent, CycleComponent, finish-tree, finish-cycle, finishes-tree, finishes-cycle}
 use Rattle.build.specs.Held.{Occupied, standing-tree, standing-off}

@@ -14,9 +14,8 @@ use borrow.Author.Tests.{eq-eqb, ne-eqb}
 use Rattle.cuckoo.specs.Graph.{seated, occupant, next}
 use Rattle.cuckoo.specs.Sets.{test, eq?, le?, Sub, Asc, none, some}
 use Rattle.cuckoo.specs.Joined.{Joined, jsym, edge}
-use Rattle.cuckoo.specs.Settling.{seated-sub, seated-stops}
+use Rattle.cuckoo.specs.Settling.{seated-asc, seated-sub, seated-stops}
 use Rattle.cuckoo.specs.Seating.{from-a, from-b, occupant-from, look}
-use Rattle.cuckoo.specs.Places.{seated-asc}
 use Rattle.cuckoo.specs.Next.{larger, around, next-is}
 use Rattle.build.specs.Slots.{each-slot, each-slot-length, all-slots-at}
 use Rattle.forest.specs.Oriented.{standing}

@@ -10,24 +10,13 @@ use Rattle.cuckoo.specs.Graph.{member, keep, first, last, without, label
 use Rattle.cuckoo.specs.Sets.{Sub, test, member-in, out-in}
 use Rattle.cuckoo.specs.Joined.{jrefl}
 use Rattle.cuckoo.specs.Seating.{rooted, occupant-from}
-use Rattle.cuckoo.specs.Locality.{keep-ext}
+use Rattle.cuckoo.specs.Lists.{keep-ext}
+use Rattle.cuckoo.specs.Settling.{settle-sub}
 
 -- a b and a′ b′ give every key of R the same two slots
 pub record Agree (a b a′ b′ : ℕ → ℕ) (R : List ℕ) : Type 0 where
   pub at-0 : (c : ℕ) → In c R → a c ≡ a′ c
   pub at-1 : (c : ℕ) → In c R → b c ≡ b′ c
-
-module _ (a b : ℕ → ℕ) where
-  -- settling only takes away
-  settle-sub : (n : ℕ) (R : List ℕ) → Sub (settle a b n R) R
-  unfolding settle
-  settle-sub zero R c i = i
-  settle-sub (suc n) R c i = go (keep (spare a b R) R) (λ d k. out-in d R (settle-sub n (without d R) c k)) i
-    where
-      go : (D : List ℕ) → ((d : ℕ) → In c (settle a b n (without d R)) → In c R)
-          → In c (elim D [ [] ↦ R | d ∷ D ↦ settle a b n (without (last (d ∷ D)) R) ]) → In c R
-      go [] h k = k
-      go (d ∷ D) h k = h (last (d ∷ D)) k
 
 module _ {a b a′ b′ : ℕ → ℕ} where
   -- key by key, and for every part of a set

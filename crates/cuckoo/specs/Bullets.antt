@@ -7,12 +7,13 @@ use mathlib.Core.List.{List, List·Memᴰ as In}
 use native.Mathlib.Omega.{arith}
 use Rattle.cuckoo.specs.Graph.{onCycle, component, root, occupant}
 use Rattle.cuckoo.specs.Sets.{eq?, Asc}
+use Rattle.cuckoo.specs.Lists.{Picked, passes, fails, picked}
 use Rattle.cuckoo.specs.Joined.{Joined, jsym, jrefl, jtrans, edge}
-use Rattle.cuckoo.specs.Settling.{OnCycle, Cyclic, onCycle-true, true-onCycle}
+use Rattle.cuckoo.specs.Settling.{OnCycle, Cyclic, Settled, onCycle-true, true-onCycle}
 use Rattle.cuckoo.specs.Seating.{from-b, tree-root, Rooted, rooted, root-same, true-sits, occupant-is, occupant-from}
 use Rattle.cuckoo.specs.Tree.{Far, far-end, far-once}
-use Rattle.cuckoo.specs.Components.{Picked, passes, fails, picked, in-component, component-in, component-near, asc-component}
-use Rattle.cuckoo.specs.Places.{Settled, hung, hung-in, hung-root, hung-joins, hung-bare, at-root, at-far, Seat, ends-or, seat-occupant, occupant-seat}
+use Rattle.cuckoo.specs.Components.{in-component, component-in, component-near, asc-component}
+use Rattle.cuckoo.specs.Places.{hung, hung-in, hung-root, hung-joins, hung-bare, at-root, at-far, Seat, ends-or, seat-occupant, occupant-seat}
 
 -- the key c sits in exactly one slot
 pub record InOne (f : ℕ → ℕ) (c : ℕ) : Type 0 where

@@ -10,8 +10,7 @@ use lib.ListN.{length}
 use Rattle.cuckoo.specs.Graph.{without, cyclic, spare, settle, seated}
 use Rattle.cuckoo.specs.Sets.{Sub, in?, out-in, out-ne, Asc, asc-out}
 use Rattle.cuckoo.specs.Joined.{Joined, jrefl, jsym, jtrans, mono, cut}
-use Rattle.cuckoo.specs.Forest.{spans}
-use Rattle.cuckoo.specs.Settling.{OnCycle, Cyclic, Spare, Goes, stop, go-on, moves, round, seated-stops, seated-sub, seated-forest}
+use Rattle.cuckoo.specs.Settling.{OnCycle, Cyclic, Spare, Settled, Goes, stop, go-on, moves, round, seated-stops, seated-joined}
 use Rattle.cuckoo.specs.Settling.{cyclic-true, true-cyclic, spare-true, true-spare}
 use Rattle.cuckoo.specs.Seating.{Ends, ends-flip}
 use Rattle.cuckoo.specs.Walks.{Distinct, nil, new, stay, step, reached, reached-rekey, ClosedWalk}
@@ -124,7 +123,7 @@ module _ {a b : ℕ → ℕ} where
   goes-largest g = record { cycle = g .spare .cycle; two = two-simple (g .spare) jrefl .0; largest = λ d l j. g .largest d (moves (g .spare) l j) }
 
   -- Where nothing is spare:
-  module _ {R : List ℕ} (none-spare : (d : ℕ) → Spare a b R d → ⊥) {v : ℕ} where
+  module _ {R : List ℕ} (none-spare : Settled a b R) {v : ℕ} where
     -- no component has two different cycles;
     pub not-two : TwoCycles a b R v → ⊥
     not-two t = let s = two-spare t in none-spare (s .0) (s .1)
@@ -188,10 +187,6 @@ module _ (a b : ℕ → ℕ) where
   settle-cyclic (suc n) h l = elim (round a b n h) [ stop t e ↦ rw e l | go-on c g e ↦ rw e (settle-cyclic n (asc-out c h) (keeps-one (g .spare) l)) ]
 
   module _ (S : List ℕ) (asc : Asc S) where
-    -- the seated keys join what all keys join
-    pub seated-joined : {u v : ℕ} → Joined a b (seated a b S) u v ↔ Joined a b S u v
-    seated-joined = (mono (seated-sub a b S asc), λ j. mono (seated-forest a b S asc) (spans S j))
-
     -- "until one loop is left": among the seated keys no component has two different cycles,
     pub seated-not-two : {v : ℕ} → TwoCycles a b (seated a b S) v → ⊥
     seated-not-two = not-two (seated-stops a b S asc)
@@ -207,4 +202,4 @@ module _ (a b : ℕ → ℕ) where
     seated-one l =
         let γ = cyclic-cycle .0 (seated-cyclic l) in
         let o = one-cycle (seated-stops a b S asc) γ in
-        (γ, λ d. (λ i. let p = o d .0 i in (p .0, seated-joined .0 (p .1)), λ p. o d .1 (p .0, seated-joined .1 (p .1))))
+        (γ, λ d. (λ i. let p = o d .0 i in (p .0, seated-joined a b S asc .0 (p .1)), λ p. o d .1 (p .0, seated-joined a b S asc .1 (p .1))))

@@ -1,18 +1,18 @@
 -- Which slots are filled, how often a key sits, and that every key is seated or in the stash. Assumes nothing.
-use Prim.Native.Nat.{ℕ, suc, _+_}
+use Prim.Native.Nat.{ℕ, _+_}
 use mathlib.Core.Path.{_≡_, refl, sym, _∙_, ap}
-use mathlib.Core.Bool.{Bool, true, false, not, true≢false}
+use mathlib.Core.Bool.{Bool, true, not, true≢false}
 use mathlib.Core.Logic.{_⊎_, inl, inr}
-use mathlib.Core.List.{List, [], _∷_, List·Memᴰ as In}
-use native.Mathlib.Omega.{arith}
+use mathlib.Core.List.{List, List·Memᴰ as In}
 use borrow.Author.Tests.{not-true}
 use lib.ListN.{length}
 use Rattle.cuckoo.specs.Graph.{member, keep, root, sits, occupant, seated, stash}
-use Rattle.cuckoo.specs.Sets.{Sub, test, eq?, in?, keep-in, keep-test, in-keep, member-in, in-member, no-member, Asc, asc-keep, asc-ext}
+use Rattle.cuckoo.specs.Sets.{Sub, eq?, in?, keep-in, keep-test, in-keep, member-in, in-member, no-member, Asc, asc-keep, asc-ext}
+use Rattle.cuckoo.specs.Lists.{length-split}
 use Rattle.cuckoo.specs.Joined.{Joined, jsym, jrefl, jtrans}
-use Rattle.cuckoo.specs.Settling.{Cyclic, seated-sub}
+use Rattle.cuckoo.specs.Settling.{Cyclic, Settled, cyclic?, cyclic-near, seated-sub, seated-asc}
 use Rattle.cuckoo.specs.Seating.{occupant-is}
-use Rattle.cuckoo.specs.Places.{Settled, cyclic?, cyclic-near, seated-asc, or-ends, seat-near, seat-occupant, occupant-seat, slot-seat}
+use Rattle.cuckoo.specs.Places.{or-ends, seat-near, seat-occupant, occupant-seat, slot-seat}
 use Rattle.cuckoo.specs.Bullets.{InOne, Smallest, root-tree, root-cycle, bullet-tree, bullet-cycle, seated-at}
 
 module _ (a b : ℕ → ℕ) where
@@ -50,7 +50,7 @@ module _ (a b : ℕ → ℕ) where
         go : {z : ℕ} → Smallest a b T z × Joined a b T (a c) (a z) → (Cyclic a b T (a c) → ⊥) → (c ≡ z) ⊎ (c ≡ z → ⊥) → Sitting T c
         go s n (inl q) = let B = bullet-tree a b T stop asc solid c (rw (← q) at (s .0)) n in in-both (rw (← q) at (s .0)) n (B .table-0) (B .table-1)
         go {z} s n (inr m) =
-            let flat : Cyclic a b T (a z) → ⊥ = λ L. n (cyclic-near a b (s .1) L) in
+            let flat : Cyclic a b T (a z) → ⊥ = λ L. n (cyclic-near (s .1) L) in
             in-one (bullet-tree a b T stop asc solid z (s .0) flat .others c i (jsym (s .1)) m)
 
     -- In a component with a cycle no two slots have the same key.
@@ -59,16 +59,6 @@ module _ (a b : ℕ → ℕ) where
         let i = filled stop (L .cycle .on) (L .near) in
         let o = cycle-one L i (seat-near a b (seated-at a b T stop asc solid i refl)) in
         o .only v refl ∙ sym (o .only w (sym e))
-
--- seated and stash
-length-split : (p : ℕ → Bool) (S : List ℕ) → length (keep p S) + length (keep (λ c. not (p c)) S) ≡ length S
-length-split p [] = refl
-length-split p (c ∷ S) = go (test (p c)) (length-split p S)
-  where
-    go : (p c ≡ true) ⊎ (p c ≡ false) → length (keep p S) + length (keep (λ c. not (p c)) S) ≡ length S
-        → length (keep p (c ∷ S)) + length (keep (λ c. not (p c)) (c ∷ S)) ≡ suc (length S)
-    go (inl e) h = rw e (omega arith)
-    go (inr e) h = rw e (omega arith)
 
 module _ (a b : ℕ → ℕ) (S : List ℕ) where
   -- A key of the set is seated or in the stash,

@@ -1,16 +1,15 @@
 -- The forest of a set of keys. Assumes nothing.
 use Prim.Native.Nat.{ℕ, zero, suc, _<_, _≤_}
-use mathlib.Core.Path.{_≡_, refl, sym, subst, _∙_, ap}
-use mathlib.Core.Bool.{Bool, true, false, not, cond, _&&_, _||_, true≢false}
+use mathlib.Core.Path.{sym, _∙_}
+use mathlib.Core.Bool.{not, true≢false}
 use mathlib.Core.Logic.{_⊎_, inl, inr}
-use mathlib.Core.List.{List, [], _∷_, List·Memᴰ as In, List·Memᴰ·head as here, List·Memᴰ·tail as there}
+use mathlib.Core.List.{List, _∷_, List·Memᴰ as In, List·Memᴰ·head as here, List·Memᴰ·tail as there}
 use native.Mathlib.Omega.{arith}
 use native.Mathlib.Nat.{not-suc-le-zero}
 use borrow.Author.Tests.{not-true}
-use lib.Dec.{T, eqb, ltb}
-use Rattle.cuckoo.specs.Graph.{label, joined, member, keep, any, without}
-use Rattle.cuckoo.specs.Sets.{keep-in, keep-test, in-keep, test, eq?, in?, le?, Sub, out-in, in-out, out-ne, around, below, below-in, below-lt, in-below, below-sub, below-up, below-out, below-suc, top, in-top}
-use Rattle.cuckoo.specs.Joined.{Joined, Way, past, along, back, jrefl, jsym, jtrans, edge, mono, within, split, split-out, cut, joined?, joined-true, true-joined, no-joined, least}
+use Rattle.cuckoo.specs.Graph.{joined, keep, without}
+use Rattle.cuckoo.specs.Sets.{keep-in, keep-test, in-keep, in?, le?, Sub, out-in, out-ne, below, below-in, below-lt, in-below, below-sub, below-up, below-suc, top, in-top}
+use Rattle.cuckoo.specs.Joined.{Joined, past, along, back, edge, mono, within, split, joined?, true-joined, no-joined}
 
 module _ (a b : ℕ → ℕ) where
   -- the key at which u and v come to be joined, as the keys of X are laid down from the smallest up

@@ -6,7 +6,7 @@
 -- table 0 and `b c` in table 1. A set of keys is a strictly ascending list of numbers, none of them 0; 0 stands for "no key".
 -- Nothing here knows how slots are numbered, how keys are hashed or how a dictionary lies in words.
 use Prim.Native.Nat.{ℕ, zero, suc}
-use mathlib.Core.Bool.{Bool, true, false, not, cond, _&&_, _||_}
+use mathlib.Core.Bool.{Bool, false, not, cond, _&&_, _||_}
 use mathlib.Core.List.{List, [], _∷_, _++_}
 use lib.Dec.{eqb, ltb}
 use lib.ListN.{length}

@@ -1,13 +1,13 @@
 -- Joined slots. Assumes nothing.
-use Prim.Native.Nat.{ℕ, zero, suc, _<_, _≤_}
-use mathlib.Core.Path.{_≡_, refl, sym, subst, _∙_, ap}
-use mathlib.Core.Bool.{Bool, true, false, not, cond, _&&_, _||_}
+use Prim.Native.Nat.{ℕ}
+use mathlib.Core.Path.{_≡_, refl, sym, _∙_, ap}
+use mathlib.Core.Bool.{true, false, not, cond}
 use mathlib.Core.Logic.{_⊎_, inl, inr}
 use mathlib.Core.List.{List, [], _∷_, List·Memᴰ as In, List·Memᴰ·head as here, List·Memᴰ·tail as there}
-use lib.Dec.{T, eqb, ltb, eqb→eq, eqb-refl, T-not, not-T}
+use lib.Dec.{eqb}
 use borrow.Author.Tests.{eqb-true, eqb-false, eq-eqb, ne-eqb}
-use Rattle.cuckoo.specs.Graph.{label, joined, member, keep, any, without}
-use Rattle.cuckoo.specs.Sets.{test, eq?, Sub, out-in, in-out, around}
+use Rattle.cuckoo.specs.Graph.{label, joined, without}
+use Rattle.cuckoo.specs.Sets.{test, eq?, Sub, in-out, around}
 
 module _ (a b : ℕ → ℕ) where
   pub record Joined (R : List ℕ) (u v : ℕ) : Type 0 where

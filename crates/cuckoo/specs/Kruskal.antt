@@ -10,10 +10,9 @@ use Rattle.cuckoo.specs.Graph.{keep, without, seated, root}
 use Rattle.cuckoo.specs.Sets.{Sub, eq?, in?, le?, keep-in, keep-test, in-keep, out-in, in-out, out-ne, outs, below-in, below-lt, Asc, asc-keep, asc-ext}
 use Rattle.cuckoo.specs.Joined.{Joined, jrefl, jsym, jtrans, edge, mono, confine}
 use Rattle.cuckoo.specs.Forest.{forest, forest-in, spans-key, spans, acyclic}
-use Rattle.cuckoo.specs.Settling.{OnCycle, Cyclic, Stays, one, seated-sub, seated-forest, seated-stops, seated-some, seated-is, is-seated}
-use Rattle.cuckoo.specs.Seating.{Bare, ends-cycle, one-near}
+use Rattle.cuckoo.specs.Settling.{OnCycle, Cyclic, Settled, seated-asc, Stays, one, seated-sub, seated-forest, seated-stops, seated-some, seated-is, is-seated}
+use Rattle.cuckoo.specs.Seating.{Bare, ends-near, ends-cycle, one-near}
 use Rattle.cuckoo.specs.Tree.{far-some}
-use Rattle.cuckoo.specs.Places.{Settled, seated-asc, ends-near}
 use Rattle.cuckoo.specs.Bullets.{root-cycle}
 
 module _ (a b : ℕ → ℕ) where
@@ -99,7 +98,7 @@ module _ (a b : ℕ → ℕ) where
       let ne = out-ne c K (F .c-in) in
       let e : Joined a b (without d K) (a c) (b c) = edge (in-out d K (λ q. ne (sym q)) (l .on)) in
       let w : Joined a b (without d X) (F .w) (b c) = elim (one-near (F .ends) (F .c-in) (jsym (l .closed))) [ inl k ↦ absurd (F .cut k) | inr k ↦ k ] in
-      (d, ne, record { on = i; closed = ends-cycle (F .ends) (jtrans e (jsym (mono (λ x k. search outs) w))) }, ends-near a b (F .ends) i)
+      (d, ne, record { on = i; closed = ends-cycle (F .ends) (jtrans e (jsym (mono (λ x k. search outs) w))) }, ends-near (F .ends) i)
 
   -- The root of a component with a cycle is of the forest (where each key has two slots: the tables are disjoint).
   pub root-forest : {S : List ℕ} {v : ℕ} → Asc S → ((c : ℕ) → In c S → a c ≡ b c → ⊥) → Cyclic a b (seated a b S) v

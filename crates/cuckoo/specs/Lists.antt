@@ -1,11 +1,27 @@
--- Lists of numbers beyond membership (which is in Sets): when two are equal, what a test keeps of them. Assumes nothing.
-use Prim.Native.Nat.{ℕ}
-use mathlib.Core.Path.{_≡_, refl}
-use mathlib.Core.Bool.{Bool, true, false, _&&_, false≢true}
-use mathlib.Core.List.{List, [], _∷_}
-use borrow.Author.Tests.{eqb-true, eq-eqb}
-use lib.Dec.{eqb}
-use Rattle.cuckoo.specs.Sets.{and-true}
+-- Lists of numbers beyond membership (which is in Sets): equality as a test, what tests keep, what stands where, the smallest of an ascending list, and
+-- counting. Nothing here knows of slots. Assumes nothing.
+use Prim.Native.Nat.{ℕ, zero, suc, _+_, _%_, _<_, _≤_, zero-le}
+use mathlib.Core.Path.{_≡_, refl, sym, _∙_, ap}
+use mathlib.Core.Bool.{Bool, true, false, not, _&&_, false≢true}
+use mathlib.Core.Logic.{_⊎_, inl, inr}
+use mathlib.Core.List.{List, [], _∷_, _++_, List·Memᴰ as In, List·Memᴰ·head as here, List·Memᴰ·tail as there}
+use native.Mathlib.Omega.{arith}
+use native.Mathlib.Nat.{not-suc-le-zero, le-of-eq, mod-self, mod-eq-of-lt}
+use native.Mathlib.Numerals.{add-one}
+use borrow.Author.Tests.{eqb-true, eq-eqb, ltb-true, lt-ltb, le-ltb}
+use lib.Dec.{eqb, ltb}
+use lib.ListN.{length, getD, drop, drop-of-length-le}
+use lib.Seq.{drop-cons}
+use Rattle.cuckoo.specs.Graph.{keep, first}
+use Rattle.cuckoo.specs.Sets.{test, eq?, le?, and-true, keep-in, keep-test, in-keep, length-drop, below, in-below, Asc, none, some, asc-keep, first-in}
+
+-- equality
+
+-- two tests that pass together are equal
+pub bool-ext : (p q : Bool) → (p ≡ true → q ≡ true) → (q ≡ true → p ≡ true) → p ≡ q
+bool-ext true q f g = sym (f refl)
+bool-ext false true f g = g refl
+bool-ext false false f g = refl
 
 -- two lists are equal, as a test
 unfoldable pub same : List ℕ → List ℕ → Bool
@@ -32,3 +48,151 @@ same-self (x ∷ xs) = rw (eq-eqb x x refl) (same-self xs)
 
 pub true-same : (xs ys : List ℕ) → xs ≡ ys → same xs ys ≡ true
 true-same xs ys e = rw e (same-self ys)
+
+-- what tests keep
+
+-- tests that agree on a list keep the same of it
+pub keep-ext : (p q : ℕ → Bool) (R : List ℕ) → ((c : ℕ) → In c R → p c ≡ q c) → keep p R ≡ keep q R
+keep-ext p q [] h = refl
+keep-ext p q (c ∷ R) h = rw (h c (here refl), keep-ext p q R (λ d i. h d (there i)))
+
+-- two tests in turn are one
+pub keep-keep : (p q : ℕ → Bool) (R : List ℕ) → keep p (keep q R) ≡ keep (λ c. q c && p c) R
+keep-keep p q [] = refl
+keep-keep p q (c ∷ R) = elim (test (q c)) [ inl e ↦ rw (e, keep-keep p q R) | inr e ↦ rw (e, keep-keep p q R) ]
+
+-- kept by q and then by p, or at once by r, which passes only what q passes and there agrees with p
+pub keep-both : (p q r : ℕ → Bool) (R : List ℕ) → ((c : ℕ) → In c R → r c ≡ true → q c ≡ true) → ((c : ℕ) → In c R → q c ≡ true → r c ≡ p c)
+    → keep r R ≡ keep p (keep q R)
+keep-both p q r R k h =
+    keep-ext r (λ c. q c && p c) R (λ c i. bool-ext (r c) (q c && p c)
+    (λ e. let t = k c i e in rw t (sym (h c i t) ∙ e))
+    (λ e. let t = and-true (q c) (p c) e in h c i (t .0) ∙ t .1)) ∙ sym (keep-keep p q R)
+
+-- a test that all pass keeps all
+keep-all : (p : ℕ → Bool) (L : List ℕ) → ((d : ℕ) → In d L → p d ≡ true) → keep p L ≡ L
+keep-all p [] h = refl
+keep-all p (d ∷ L) h = rw (h d (here refl), keep-all p L (λ e i. h e (there i)))
+
+-- what passes a test and what does not are all together
+pub length-split : (p : ℕ → Bool) (S : List ℕ) → length (keep p S) + length (keep (λ c. not (p c)) S) ≡ length S
+length-split p [] = refl
+length-split p (c ∷ S) = go (test (p c)) (length-split p S)
+  where
+    go : (p c ≡ true) ⊎ (p c ≡ false) → length (keep p S) + length (keep (λ c. not (p c)) S) ≡ length S
+        → length (keep p (c ∷ S)) + length (keep (λ c. not (p c)) (c ∷ S)) ≡ suc (length S)
+    go (inl e) h = rw e (omega arith)
+    go (inr e) h = rw e (omega arith)
+
+-- places
+
+-- what stands at a place of a list is in it
+pub getD-in : (L : List ℕ) (i : ℕ) → i < length L → In (getD L i 0) L
+getD-in [] i l = absurd (not-suc-le-zero l)
+getD-in (c ∷ L) zero l = here refl
+getD-in (c ∷ L) (suc i) l = there (getD-in L i (omega arith))
+
+first-getD : (L : List ℕ) → first L ≡ getD L 0 0
+first-getD [] = refl
+first-getD (c ∷ L) = refl
+
+-- ascending lists
+
+-- the larger members of an ascending list are those that follow
+pub larger-drop : {L : List ℕ} → Asc L → (i : ℕ) → i < length L → keep (ltb (getD L i 0)) L ≡ drop (suc i) L
+larger-drop none i l = absurd (not-suc-le-zero l)
+larger-drop (some {c} {R} h k) zero l = rw (le-ltb c c (omega arith)) (keep-all (ltb c) R (λ d i. lt-ltb c d (h d i)))
+larger-drop (some {c} {R} h k) (suc i) l =
+    let x = getD R i 0 in
+    let m = h x (getD-in R i (omega arith)) in
+    rw (le-ltb x c (omega arith)) (larger-drop k i (omega arith))
+
+-- and, going round, the first of them is the one after
+pub first-drop : (L : List ℕ) (i : ℕ) → i < length L → first (drop (suc i) L ++ L) ≡ getD L ((i + 1) % length L) 0
+first-drop L i l =
+    elim (le? (length L) (suc i)) [
+      | inl m ↦
+          let e : i + 1 ≡ length L = omega arith in
+          rw (drop-of-length-le L m, e, mod-self (length L)) (first-getD L)
+      | inr m ↦
+          let e : (i + 1) % length L ≡ suc i = rw (add-one i) (mod-eq-of-lt m) in
+          rw (e, drop-cons L (suc i) 0)
+    ]
+
+-- no member of an ascending list is smaller than the first
+first-low : {L : List ℕ} {d : ℕ} → Asc L → In d L → first L ≤ d
+first-low (some h k) (here q) = le-of-eq (sym q)
+first-low (some h k) (there i) = omega (arith, h _ i)
+
+-- x is the smallest member of C that passes the test p, or, where none passes, the smallest
+pub data Picked (p : ℕ → Bool) (C : List ℕ) (x : ℕ) : Type 0 where
+  passes : In x C → p x ≡ true → ((d : ℕ) → In d C → p d ≡ true → x ≤ d) → Picked p C x
+  fails : In x C → ((d : ℕ) → In d C → p d ≡ true → ⊥) → ((d : ℕ) → In d C → x ≤ d) → Picked p C x
+
+-- the first that passes of an ascending list, or else its first, is so picked
+pub picked : (p : ℕ → Bool) {C : List ℕ} {c : ℕ} → Asc C → In c C → Picked p C (first (keep p C ++ C))
+picked p {C} asc i = go (keep p C) refl
+  where
+    go : (L : List ℕ) → keep p C ≡ L → Picked p C (first (L ++ C))
+    go [] e = fails (first-in C i) (λ d k t. elim (rw e at (in-keep p C t k)) [ ]) (λ d k. first-low asc k)
+    go (x ∷ L) e =
+        let k : In x (keep p C) = rw e (here refl) in
+        passes (keep-in p C k) (keep-test p C k) (λ d m t. first-low (rw e at (asc-keep p asc)) (rw e at (in-keep p C t m)))
+
+-- counting
+
+-- one member less: all but those equal to x are left
+pull : {A : Type 0} {x : A} {M : List A} → In x M → (N : List A) × (length M ≡ suc (length N)) × ((y : A) → In y M → (y ≡ x → ⊥) → In y N)
+pull (here {xs = M} q) = (M, refl, λ y i n. elim i [ here e ↦ absurd (n (e ∙ sym q)) | there t ↦ t ])
+pull (there {x = z} {xs = M} h) =
+    let r = pull h in
+    (z ∷ r .0, ap suc (r .1), λ y i n. elim i [ here e ↦ here e | there t ↦ there (r .2 y t n) ])
+
+-- pigeons in holes: what is mapped apart into a list is no longer than it
+pub pigeonhole : {A : Type 0} (f : ℕ → A) {L : List ℕ} (M : List A) → Asc L → ((c : ℕ) → In c L → In (f c) M)
+    → ((c d : ℕ) → In c L → In d L → f c ≡ f d → c ≡ d) → length L ≤ length M
+pigeonhole f M none into apart = zero-le
+pigeonhole f M (some {c} {R} h k) into apart =
+    let r = pull (into c (here refl)) in
+    omega (
+      arith,
+      r .1,
+      pigeonhole f (r .0) k
+          (λ d i. r .2 (f d) (into d (there i)) (λ e. omega (arith, h d i, apart d c (there i) (here refl) e)))
+          (λ d e i j. apart d e (there i) (there j)),
+    )
+
+-- 0 .. n - 1
+pub upto : ℕ → List ℕ
+upto zero = []
+upto (suc n) = n ∷ upto n
+
+pub length-upto : (n : ℕ) → length (upto n) ≡ n
+unfolding upto
+length-upto zero = refl
+length-upto (suc n) = ap suc (length-upto n)
+
+pub in-upto : (n : ℕ) {i : ℕ} → i < n → In i (upto n)
+unfolding upto
+in-upto zero l = absurd (not-suc-le-zero l)
+in-upto (suc n) {i} l = elim (eq? i n) [ inl q ↦ here q | inr ne ↦ there (in-upto n (omega arith)) ]
+
+-- the rank of a member of a list: the number of smaller ones
+pub rank-below : (R : List ℕ) {c : ℕ} → In c R → length (below c R) < length R
+unfolding below
+rank-below R {c} i = length-drop (λ x. ltb x c) R i (le-ltb c c (omega arith))
+
+below-below : (R : List ℕ) {c d : ℕ} → c < d → below c R ≡ below c (below d R)
+unfolding below
+below-below R {c} {d} l =
+    keep-both (λ x. ltb x c) (λ x. ltb x d) (λ x. ltb x c) R (λ x k t. let x<c = ltb-true x c t in lt-ltb x d (omega arith)) (λ x k t. refl)
+
+rank-lt : (R : List ℕ) {c d : ℕ} → In c R → c < d → length (below c R) < length (below d R)
+rank-lt R {c} {d} i l = rw (below-below R l) (rank-below (below d R) (in-below d R l i))
+
+pub rank-apart : (R : List ℕ) {c d : ℕ} → In c R → In d R → length (below c R) ≡ length (below d R) → c ≡ d
+rank-apart R {c} {d} i j e =
+    elim (le? c d) [
+      | inl l ↦ elim (le? d c) [ inl m ↦ omega arith | inr m ↦ absurd (omega (arith, rank-lt R i m)) ]
+      | inr l ↦ absurd (omega (arith, rank-lt R j l))
+    ]

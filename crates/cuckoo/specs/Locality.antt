@@ -1,43 +1,20 @@
 -- Components are those of the whole set, stashed keys included, and what happens in one depends on its keys alone: which of its keys settling
 -- takes away, in what order, which slots the others take and which key each points to. Assumes nothing.
 use Prim.Native.Nat.{ℕ}
-use mathlib.Core.Path.{_≡_, refl, sym, _∙_, ap}
-use mathlib.Core.Bool.{Bool, true, false, not, _&&_, _||_, and-true as and-right}
+use mathlib.Core.Path.{_≡_, sym, _∙_, ap}
+use mathlib.Core.Bool.{Bool, true, not, _&&_, _||_, and-true as and-right}
 use mathlib.Core.Logic.{inl, inr, _↔_}
-use mathlib.Core.List.{List, [], _∷_, List·Memᴰ as In, List·Memᴰ·head as here, List·Memᴰ·tail as there}
+use mathlib.Core.List.{List, List·Memᴰ as In}
 use borrow.Author.Tests.{eqb-true}
 use lib.Dec.{eqb}
 use Rattle.cuckoo.specs.Graph.{joined, member, keep, without, first, onCycle, component, seated, stash, root, sits, occupant, next}
 use Rattle.cuckoo.specs.Sets.{Sub, test, member-in, in-member, out-in, in-out, out-ne, out-sub, below, below-in, below-lt, in-below, below-sub, Asc, asc-ext, and-true}
+use Rattle.cuckoo.specs.Lists.{bool-ext, keep-ext, keep-keep, keep-both}
 use Rattle.cuckoo.specs.Joined.{Joined, jrefl, jsym, jtrans, edge, mono, joined-true, true-joined, cut, confine}
-use Rattle.cuckoo.specs.Forest.{forest, forest-in, forest-no, in-forest, spans}
-use Rattle.cuckoo.specs.Settling.{OnCycle, Cyclic, Spare, onCycle-true, true-onCycle, tree, smallest, seated-sub, seated-forest, seated-is, is-seated}
-use Rattle.cuckoo.specs.Seating.{rooted, occupant-from}
+use Rattle.cuckoo.specs.Forest.{forest, forest-in, forest-no, in-forest}
+use Rattle.cuckoo.specs.Settling.{OnCycle, Cyclic, Spare, onCycle-true, true-onCycle, tree, smallest, seated-sub, seated-joined, cycle-mono, spare-mono, seated-asc, seated-is, is-seated}
+use Rattle.cuckoo.specs.Seating.{ends-near, rooted, occupant-from}
 use Rattle.cuckoo.specs.Components.{in-component, component-in, component-near, asc-component}
-use Rattle.cuckoo.specs.Places.{seated-asc, ends-near}
-
--- two tests that pass together are equal
-pub bool-ext : (p q : Bool) → (p ≡ true → q ≡ true) → (q ≡ true → p ≡ true) → p ≡ q
-bool-ext true q f g = sym (f refl)
-bool-ext false true f g = g refl
-bool-ext false false f g = refl
-
--- tests that agree on a list keep the same of it
-pub keep-ext : (p q : ℕ → Bool) (R : List ℕ) → ((c : ℕ) → In c R → p c ≡ q c) → keep p R ≡ keep q R
-keep-ext p q [] h = refl
-keep-ext p q (c ∷ R) h = rw (h c (here refl), keep-ext p q R (λ d i. h d (there i)))
-
-keep-keep : (p q : ℕ → Bool) (R : List ℕ) → keep p (keep q R) ≡ keep (λ c. q c && p c) R
-keep-keep p q [] = refl
-keep-keep p q (c ∷ R) = elim (test (q c)) [ inl e ↦ rw (e, keep-keep p q R) | inr e ↦ rw (e, keep-keep p q R) ]
-
--- kept by q and then by p, or at once by r, which passes only what q passes and there agrees with p
-pub keep-both : (p q r : ℕ → Bool) (R : List ℕ) → ((c : ℕ) → In c R → r c ≡ true → q c ≡ true) → ((c : ℕ) → In c R → q c ≡ true → r c ≡ p c)
-    → keep r R ≡ keep p (keep q R)
-keep-both p q r R k h =
-    keep-ext r (λ c. q c && p c) R (λ c i. bool-ext (r c) (q c && p c)
-    (λ e. let t = k c i e in rw t (sym (h c i t) ∙ e))
-    (λ e. let t = and-true (q c) (p c) e in h c i (t .0) ∙ t .1)) ∙ sym (keep-keep p q R)
 
 module _ (a b : ℕ → ℕ) where
   component-sub : (R : List ℕ) (v : ℕ) → Sub (component a b R v) R
@@ -86,23 +63,7 @@ module _ {a b : ℕ → ℕ} where
     near = part-joined p k (l .near);
   }
 
-  -- a key on a cycle is on one in every larger set,
-  pub cycle-mono : {R R′ : List ℕ} {c : ℕ} → Sub R R′ → OnCycle a b R c → OnCycle a b R′ c
-  cycle-mono {c = c} s l = record { on = s c (l .on); closed = mono (out-sub c s) (l .closed) }
-
-  -- a component with a cycle has one in every larger set,
-  pub cyclic-mono : {R R′ : List ℕ} {v : ℕ} → Sub R R′ → Cyclic a b R v → Cyclic a b R′ v
-  cyclic-mono s l = record { d = l .d; cycle = cycle-mono s (l .cycle); near = mono s (l .near) }
-
-  -- and a spare key is spare in every larger set
-  pub spare-mono : {R R′ : List ℕ} {c : ℕ} → Sub R R′ → Spare a b R c → Spare a b R′ c
-  spare-mono {c = c} s l = record { cycle = cycle-mono s (l .cycle); rest = cyclic-mono (out-sub c s) (l .rest) }
-
 module _ (a b : ℕ → ℕ) where
-  -- "A group is a connected set of pockets and its cards", drawer cards included: the seated keys join exactly what all keys join.
-  pub joined-seated : {S : List ℕ} → Asc S → (u v : ℕ) → Joined a b S u v ↔ Joined a b (seated a b S) u v
-  joined-seated {S} h u v = (λ j. mono (seated-forest a b S h) (spans S j), mono (seated-sub a b S h))
-
   module _ (S : List ℕ) (v : ℕ) where
     -- the keys of v's component
     abbrev C : List ℕ
@@ -207,7 +168,7 @@ module _ (a b : ℕ → ℕ) where
         to : Sub (component a b (seated a b S) v) (seated a b (C S v))
         to c i =
             let t = component-in a b (seated a b S) v i in
-            let k : Joined a b S v (a c) = joined-seated h v (a c) .1 (component-near a b (seated a b S) v i) in
+            let k : Joined a b S v (a c) = seated-joined a b S h .0 (component-near a b (seated a b S) v i) in
             is-seated a b (C S v) hC c (in-component a b S v (seated-sub a b S h c t) k) (elim (seated-is a b S h c t) [
               | tree f ↦ tree (forest-component S v k .0 f)
               | smallest m ↦ smallest (λ x ix nx j.
@@ -223,15 +184,15 @@ module _ (a b : ℕ → ℕ) where
               | tree f ↦ tree (forest-component S v k .1 f)
               | smallest m ↦ smallest (λ x ix nx j.
                   m x (in-component a b S v ix (near x j)) (λ f. nx (forest-component S v (near x j) .1 f)) (joined-component S v (near x j) .0 j))
-            ])) (joined-seated h v (a c) .0 k)
+            ])) (seated-joined a b S h .1 k)
 
     -- What a slot holds depends on the keys of its component alone,
     pub occupant-alone : {u : ℕ} → Joined a b S v u → occupant a b (seated a b S) u ≡ occupant a b (seated a b (component a b S v)) u
-    occupant-alone {u} k = rw (← seated-component) (occupant-component (seated a b S) v (joined-seated h v u .0 k))
+    occupant-alone {u} k = rw (← seated-component) (occupant-component (seated a b S) v (seated-joined a b S h .1 k))
 
     -- so does the key that a seated key points to,
     pub next-alone : {c : ℕ} → Joined a b S v (a c) → next a b (seated a b S) c ≡ next a b (seated a b (component a b S v)) c
-    next-alone {c} k = rw (← seated-component) (next-component (seated a b S) v (joined-seated h v (a c) .0 k))
+    next-alone {c} k = rw (← seated-component) (next-component (seated a b S) v (seated-joined a b S h .1 k))
 
     -- and what a component sends to the stash: its stashed keys are the stash of its keys.
     pub stash-alone : keep (λ c. joined a b S v (a c)) (stash a b S) ≡ stash a b (component a b S v)
@@ -248,7 +209,7 @@ module _ (a b : ℕ → ℕ) where
 
         member-alone : {c : ℕ} → Joined a b S v (a c) → member c (seated a b S) ≡ member c (seated a b (C S v))
         member-alone {c} k = rw (← seated-component) (bool-ext (member c (seated a b S)) (member c (component a b (seated a b S) v))
-            (λ e. in-member (in-component a b (seated a b S) v (member-in c (seated a b S) e) (joined-seated h v (a c) .0 k)))
+            (λ e. in-member (in-component a b (seated a b S) v (member-in c (seated a b S) e) (seated-joined a b S h .1 k)))
             (λ e. in-member (component-in a b (seated a b S) v (member-in c (component a b (seated a b S) v) e))))
 
   -- two sets have the same image in v's component: the same keys there are seated, in the same slots and with the same next keys, and the same
@@ -269,7 +230,7 @@ module _ (a b : ℕ → ℕ) where
     nexts = nexts;
     nexts-there = λ u k n. rw (← slots u k) (nexts (occupant a b (seated a b S) u) (jtrans k (elim (occupant-from a b (seated a b S) u) [
       | inl z ↦ absurd (n z)
-      | inr o ↦ joined-seated h u _ .1 (ends-near a b (o .1 .1) (o .0))
+      | inr o ↦ seated-joined a b S h .0 (ends-near (o .1 .1) (o .0))
     ])));
     stashed = stash-alone h v ∙ ap (stash a b) e ∙ sym (stash-alone h′ v);
   }

@@ -1,56 +1,19 @@
 -- `next` runs through the keys of a component, ascending, and round. "The next number of a seated card is the next larger seated card of its group; the
 -- largest points to the smallest; a lone card points to itself." Assumes nothing.
-use Prim.Native.Nat.{ℕ, zero, suc, _+_, _%_, _<_, _≤_}
-use mathlib.Core.Path.{_≡_, refl, sym}
-use mathlib.Core.Bool.{Bool, true}
-use mathlib.Core.Logic.{inl, inr}
-use mathlib.Core.List.{List, [], _∷_, _++_, List·Memᴰ as In, List·Memᴰ·head as here, List·Memᴰ·tail as there}
+use Prim.Native.Nat.{ℕ, _+_, _%_, _<_, _≤_}
+use mathlib.Core.Path.{_≡_, sym}
+use mathlib.Core.List.{List, List·Memᴰ as In}
 use native.Mathlib.Omega.{arith}
-use native.Mathlib.Nat.{not-suc-le-zero, mod-self, mod-eq-of-lt}
-use native.Mathlib.Numerals.{add-one}
-use borrow.Author.Tests.{ltb-true, lt-ltb, le-ltb}
+use borrow.Author.Tests.{ltb-true, lt-ltb}
 use lib.Dec.{ltb}
-use lib.ListN.{length, getD, drop, drop-of-length-le}
-use lib.Seq.{drop-cons}
-use Rattle.cuckoo.specs.Graph.{keep, first, component, next, seated, stash}
-use Rattle.cuckoo.specs.Sets.{le?, Asc, none, some}
+use lib.ListN.{length, getD}
+use Rattle.cuckoo.specs.Graph.{component, next, seated, stash}
+use Rattle.cuckoo.specs.Sets.{Asc}
+use Rattle.cuckoo.specs.Lists.{getD-in, larger-drop, first-drop, passes, fails, picked}
 use Rattle.cuckoo.specs.Joined.{Joined, jrefl}
-use Rattle.cuckoo.specs.Components.{passes, fails, picked, in-component, component-in, component-near, component-same, asc-component}
-use Rattle.cuckoo.specs.Places.{seated-asc}
+use Rattle.cuckoo.specs.Components.{in-component, component-in, component-near, component-same, asc-component}
+use Rattle.cuckoo.specs.Settling.{seated-asc}
 use Rattle.cuckoo.specs.Filled.{not-seated-and-stash}
-
-getD-in : (L : List ℕ) (i : ℕ) → i < length L → In (getD L i 0) L
-getD-in [] i l = absurd (not-suc-le-zero l)
-getD-in (c ∷ L) zero l = here refl
-getD-in (c ∷ L) (suc i) l = there (getD-in L i (omega arith))
-
-first-getD : (L : List ℕ) → first L ≡ getD L 0 0
-first-getD [] = refl
-first-getD (c ∷ L) = refl
-
-keep-all : (p : ℕ → Bool) (L : List ℕ) → ((d : ℕ) → In d L → p d ≡ true) → keep p L ≡ L
-keep-all p [] h = refl
-keep-all p (d ∷ L) h = rw (h d (here refl), keep-all p L (λ e i. h e (there i)))
-
--- the larger members of an ascending list are those that follow
-larger-drop : {L : List ℕ} → Asc L → (i : ℕ) → i < length L → keep (ltb (getD L i 0)) L ≡ drop (suc i) L
-larger-drop none i l = absurd (not-suc-le-zero l)
-larger-drop (some {c} {R} h k) zero l = rw (le-ltb c c (omega arith)) (keep-all (ltb c) R (λ d i. lt-ltb c d (h d i)))
-larger-drop (some {c} {R} h k) (suc i) l =
-    let x = getD R i 0 in
-    let m = h x (getD-in R i (omega arith)) in
-    rw (le-ltb x c (omega arith)) (larger-drop k i (omega arith))
-
-first-drop : (L : List ℕ) (i : ℕ) → i < length L → first (drop (suc i) L ++ L) ≡ getD L ((i + 1) % length L) 0
-first-drop L i l =
-    elim (le? (length L) (suc i)) [
-      | inl m ↦
-          let e : i + 1 ≡ length L = omega arith in
-          rw (drop-of-length-le L m, e, mod-self (length L)) (first-getD L)
-      | inr m ↦
-          let e : (i + 1) % length L ≡ suc i = rw (add-one i) (mod-eq-of-lt m) in
-          rw (e, drop-cons L (suc i) 0)
-    ]
 
 module _ (a b : ℕ → ℕ) where
   -- With the keys of a component in their order, next goes from each to the one after it, and from the last to the first.

@@ -1,82 +1,23 @@
 -- "Full drawer" without the canonical rule: the stash of a set has at most s keys exactly if its keys can be put, each into one of its two slots or
 -- into one of s places aside, no two together. So a refusal for a full stash is no fault of the rule: no placement of the set exists. Assumes nothing.
-use Prim.Native.Nat.{ℕ, zero, suc, _+_, _<_, _≤_, zero-le}
+use Prim.Native.Nat.{ℕ, _+_, _<_, _≤_}
 use mathlib.Core.Path.{_≡_, refl, sym, _∙_, ap}
 use mathlib.Core.Bool.{true, cond, true≢false}
 use mathlib.Core.Logic.{_⊎_, inl, inr, _↔_}
-use mathlib.Core.List.{List, [], _∷_, _++_, map, List·Memᴰ as In, List·Memᴰ·head as here, List·Memᴰ·tail as there, Memᴰ·append-left, Memᴰ·append-right, Memᴰ·map}
+use mathlib.Core.List.{List, _++_, map, List·Memᴰ as In, Memᴰ·append-left, Memᴰ·append-right, Memᴰ·map}
 use native.Mathlib.Omega.{arith}
-use native.Mathlib.Nat.{not-suc-le-zero}
-use borrow.Author.Tests.{eqb-true, eqb-false, ltb-true, lt-ltb, le-ltb}
-use lib.Dec.{eqb, ltb}
+use borrow.Author.Tests.{eqb-true, eqb-false}
+use lib.Dec.{eqb}
 use lib.ListN.{length, length-append, length-map}
 use Rattle.cuckoo.specs.Graph.{member, without, cyclic, seated, stash, occupant}
-use Rattle.cuckoo.specs.Sets.{Sub, test, eq?, in?, le?, below, in-below, length-drop, in-member, no-member, out-in, Asc, none, some, asc-out}
+use Rattle.cuckoo.specs.Sets.{Sub, test, in?, le?, below, in-member, no-member, out-in, Asc, asc-out}
+use Rattle.cuckoo.specs.Lists.{pigeonhole, upto, length-upto, in-upto, rank-below, rank-apart}
 use Rattle.cuckoo.specs.Joined.{jsym, edge}
-use Rattle.cuckoo.specs.Settling.{Cyclic, cyclic-true, true-cyclic, seated-sub, seated-stops}
+use Rattle.cuckoo.specs.Settling.{Cyclic, cyclic-true, true-cyclic, cyclic-near, seated-sub, seated-asc, seated-joined, seated-stops}
 use Rattle.cuckoo.specs.Seating.{look}
-use Rattle.cuckoo.specs.Places.{seated-asc, cyclic-near, seat-near, seat-occupant, slot-seat}
+use Rattle.cuckoo.specs.Places.{seat-near, seat-occupant, slot-seat}
 use Rattle.cuckoo.specs.Filled.{occupant-injective, seated-or-stash, not-seated-and-stash, seated-stash-length}
-use Rattle.cuckoo.specs.Locality.{keep-both, joined-seated}
 use Rattle.cuckoo.specs.Kruskal.{stashed-cyclic}
-
--- lists
-
--- one member less: all but those equal to x are left
-pull : {A : Type 0} {x : A} {M : List A} → In x M → (N : List A) × (length M ≡ suc (length N)) × ((y : A) → In y M → (y ≡ x → ⊥) → In y N)
-pull (here {xs = M} q) = (M, refl, λ y i n. elim i [ here e ↦ absurd (n (e ∙ sym q)) | there t ↦ t ])
-pull (there {x = z} {xs = M} h) =
-    let r = pull h in
-    (z ∷ r .0, ap suc (r .1), λ y i n. elim i [ here e ↦ here e | there t ↦ there (r .2 y t n) ])
-
--- pigeons in holes: what is mapped apart into a list is no longer than it
-pub pigeonhole : {A : Type 0} (f : ℕ → A) {L : List ℕ} (M : List A) → Asc L → ((c : ℕ) → In c L → In (f c) M)
-    → ((c d : ℕ) → In c L → In d L → f c ≡ f d → c ≡ d) → length L ≤ length M
-pigeonhole f M none into apart = zero-le
-pigeonhole f M (some {c} {R} h k) into apart =
-    let r = pull (into c (here refl)) in
-    omega (
-      arith,
-      r .1,
-      pigeonhole f (r .0) k
-          (λ d i. r .2 (f d) (into d (there i)) (λ e. omega (arith, h d i, apart d c (there i) (here refl) e)))
-          (λ d e i j. apart d e (there i) (there j)),
-    )
-
--- 0 .. n - 1
-upto : ℕ → List ℕ
-upto zero = []
-upto (suc n) = n ∷ upto n
-
-length-upto : (n : ℕ) → length (upto n) ≡ n
-unfolding upto
-length-upto zero = refl
-length-upto (suc n) = ap suc (length-upto n)
-
-in-upto : (n : ℕ) {i : ℕ} → i < n → In i (upto n)
-unfolding upto
-in-upto zero l = absurd (not-suc-le-zero l)
-in-upto (suc n) {i} l = elim (eq? i n) [ inl q ↦ here q | inr ne ↦ there (in-upto n (omega arith)) ]
-
--- the rank of a member of a list: the number of smaller ones
-rank-below : (R : List ℕ) {c : ℕ} → In c R → length (below c R) < length R
-unfolding below
-rank-below R {c} i = length-drop (λ x. ltb x c) R i (le-ltb c c (omega arith))
-
-below-below : (R : List ℕ) {c d : ℕ} → c < d → below c R ≡ below c (below d R)
-unfolding below
-below-below R {c} {d} l =
-    keep-both (λ x. ltb x c) (λ x. ltb x d) (λ x. ltb x c) R (λ x k t. let x<c = ltb-true x c t in lt-ltb x d (omega arith)) (λ x k t. refl)
-
-rank-lt : (R : List ℕ) {c d : ℕ} → In c R → c < d → length (below c R) < length (below d R)
-rank-lt R {c} {d} i l = rw (below-below R l) (rank-below (below d R) (in-below d R l i))
-
-rank-apart : (R : List ℕ) {c d : ℕ} → In c R → In d R → length (below c R) ≡ length (below d R) → c ≡ d
-rank-apart R {c} {d} i j e =
-    elim (le? c d) [
-      | inl l ↦ elim (le? d c) [ inl m ↦ omega arith | inr m ↦ absurd (omega (arith, rank-lt R i m)) ]
-      | inr l ↦ absurd (omega (arith, rank-lt R j l))
-    ]
 
 -- where a key may be put: a slot, or a place aside
 pub data Place : Type 0 where
@@ -182,7 +123,7 @@ module _ (a b : ℕ → ℕ) where
       goal-is c i = elim (test (cyclic a b T (a c))) [
         | inl e ↦ let L = cyclic-true e in elim (P .allowed c i) [
           | table-0 q ↦ held e q L
-          | table-1 q ↦ held e q (cyclic-near a b (joined-seated a b h (b c) (a c) .0 (jsym (edge i))) L)
+          | table-1 q ↦ held e q (cyclic-near (seated-joined a b S h .1 (jsym (edge i))) L)
           | aside j l q ↦ same j l q (rw (e, q))
         ]
         | inr e ↦ let flat : Cyclic a b T (a c) → ⊥ = λ L. true≢false (sym (true-cyclic L) ∙ e) in
@@ -193,7 +134,7 @@ module _ (a b : ℕ → ℕ) where
           held {u} e q L =
               let r = slot-seat a b (seated-stops a b S h) (L .cycle .on) (L .near) in
               let o = seat-occupant a b (r .1) in
-              holder u (r .0) q (rw (e, q, o)) L o (r .1 .c-in) (cyclic-near a b (jsym (seat-near a b (r .1))) L)
+              holder u (r .0) q (rw (e, q, o)) L o (r .1 .c-in) (cyclic-near (jsym (seat-near a b (r .1))) L)
 
       into : {c : ℕ} → Goal c → In (goal c) (spots T s)
       into (holder u d q e L o i M) = slot-in s e i

@@ -3,37 +3,17 @@
 -- Assumes nothing.
 use Prim.Native.Nat.{ℕ}
 use mathlib.Core.Path.{_≡_, refl, sym, _∙_, ap}
-use mathlib.Core.Bool.{Bool, true, cond, _&&_, _||_, true≢false}
+use mathlib.Core.Bool.{cond, true≢false}
 use mathlib.Core.Logic.{_⊎_, inl, inr}
-use mathlib.Core.List.{List, [], _∷_, List·Memᴰ as In, List·Memᴰ·head as here}
-use lib.Dec.{eqb}
-use lib.ListN.{length}
-use Rattle.cuckoo.specs.Graph.{keep, without, onCycle, cyclic, seated, root, sits, occupant, first}
-use Rattle.cuckoo.specs.Sets.{Sub, test, eq?, in-out, out-in, out-ne, keep-test, and-true, Asc}
-use Rattle.cuckoo.specs.Joined.{Joined, jsym, jrefl, jtrans, edge, cut}
-use Rattle.cuckoo.specs.Settling.{OnCycle, Cyclic, Spare, onCycle-true, true-onCycle, cyclic-true, true-cyclic, settle-asc}
-use Rattle.cuckoo.specs.Seating.{Ends, from-a, from-b, Bare, Sat, tree-root, tree-away, cycle-root, cycle-away, Rooted, rooted, root-same, sits-true, true-sits, occupant-is, occupant-from}
+use mathlib.Core.List.{List, List·Memᴰ as In}
+use Rattle.cuckoo.specs.Graph.{without, onCycle, root, occupant}
+use Rattle.cuckoo.specs.Sets.{Sub, test, eq?, in-out, out-in, out-ne}
+use Rattle.cuckoo.specs.Joined.{Joined, jsym, jtrans, cut}
+use Rattle.cuckoo.specs.Settling.{OnCycle, Settled, onCycle-true, true-onCycle}
+use Rattle.cuckoo.specs.Seating.{Ends, from-a, from-b, ends-near, Bare, Sat, tree-root, tree-away, cycle-root, cycle-away, Rooted, rooted, root-same, sits-true, true-sits, occupant-is, occupant-from}
 use Rattle.cuckoo.specs.Tree.{Far, far-some}
 
 module _ (a b : ℕ → ℕ) where
-  -- nothing is spare: no component has two cycles
-  abbrev pub Settled : List ℕ → Type 0
-  Settled T = (d : ℕ) → Spare a b T d → ⊥
-
-  -- the seated keys of an ascending set are ascending
-  pub seated-asc : (S : List ℕ) → Asc S → Asc (seated a b S)
-  unfolding seated
-  seated-asc S asc = settle-asc a b (length S) asc
-
-  -- whether a slot's component has a cycle
-  pub cyclic? : (T : List ℕ) (v : ℕ) → Cyclic a b T v ⊎ (Cyclic a b T v → ⊥)
-  cyclic? T v =
-      elim (test (cyclic a b T v)) [ inl e ↦ inl (cyclic-true e) | inr e ↦ inr (λ L. true≢false (sym (true-cyclic L) ∙ e)) ]
-
-  -- joined slots have cycles in their component alike
-  pub cyclic-near : {T : List ℕ} {u v : ℕ} → Joined a b T u v → Cyclic a b T v → Cyclic a b T u
-  cyclic-near j L = record { d = L .d; cycle = L .cycle; near = jtrans j (L .near) }
-
   -- the keys that hang as trees, where z is a root: on a cycle z is left out
   unfoldable pub hung : List ℕ → ℕ → List ℕ
   hung T z = cond (onCycle a b T z) (without z T) T
@@ -72,7 +52,7 @@ module _ (a b : ℕ → ℕ) where
     hung-joins j = elim (kind T z) [ tree m e ↦ rw e j | cycle l e ↦ rw e (cut z T (l .closed) j) ]
 
     -- and they have no cycle in the root's component
-    pub hung-bare : {u : ℕ} → Settled T → Rooted a b T u z → Bare a b (hung T z) (a z)
+    pub hung-bare : {u : ℕ} → Settled a b T → Rooted a b T u z → Bare a b (hung T z) (a z)
     hung-bare stop R =
         elim (kind T z) [
           | tree m e ↦ rw e (λ c i j k. R .flat m c (jtrans (R .near) j) (record { on = i; closed = k }))
@@ -132,11 +112,6 @@ module _ (a b : ℕ → ℕ) where
   ends-or (from-a p q) = inl p
   ends-or (from-b p q) = inr p
 
-  -- a key's slot is in its component
-  pub ends-near : {R : List ℕ} {c v w : ℕ} → Ends a b c v w → In c R → Joined a b R v (a c)
-  ends-near (from-a p q) i = rw p jrefl
-  ends-near (from-b p q) i = rw p (jsym (edge i))
-
   -- a key sits in a slot of its component
   pub seat-near : {T : List ℕ} {v c : ℕ} → Seat T v c → Joined a b T v (a c)
   seat-near S = ends-near (seat-ends S .1) (S .c-in)
@@ -145,31 +120,17 @@ module _ (a b : ℕ → ℕ) where
   pub seat-occupant : {T : List ℕ} {v c : ℕ} → Seat T v c → occupant a b T v ≡ c
   seat-occupant {T} {v} {c} S = occupant-is a b T v (S .c-in) (seat-ends S .1) (true-sits a b T v c (place-sat T (root a b T (a c)) (S .place)))
 
-  occupant-sits : (T : List ℕ) (v : ℕ) → (occupant a b T v ≡ 0) ⊎ (sits a b T v (occupant a b T v) ≡ true)
-  unfolding occupant
-  occupant-sits T v = go (keep t T) refl
-    where
-      t : ℕ → Bool
-      t c = (eqb v (a c) || eqb v (b c)) && sits a b T v c
-
-      go : (L : List ℕ) → keep t T ≡ L → (first L ≡ 0) ⊎ (sits a b T v (first L) ≡ true)
-      go [] e = inl refl
-      go (d ∷ L) e = let k : In d (keep t T) = rw e (here refl) in inr (and-true (eqb v (a d) || eqb v (b d)) (sits a b T v d) (keep-test t T k) .1)
-
   -- a slot is empty, or its occupant sits there
   pub occupant-seat : (T : List ℕ) (v : ℕ) → (occupant a b T v ≡ 0) ⊎ Seat T v (occupant a b T v)
   occupant-seat T v =
       let c = occupant a b T v in
       elim (occupant-from a b T v) [
         | inl e ↦ inl e
-        | inr r ↦ elim (occupant-sits T v) [
-          | inl e ↦ inl e
-          | inr s ↦ inr (record { c-in = r .0; place = sat-place T (root a b T (a c)) (r .0) (r .1 .1) (sits-true a b T v c s) })
-        ]
+        | inr r ↦ inr (record { c-in = r .0; place = sat-place T (root a b T (a c)) (r .0) (r .1 .1) (sits-true a b T v c (r .2)) })
       ]
 
   -- every slot of a component that has keys has one that sits there
-  pub slot-seat : {T : List ℕ} {v c : ℕ} → Settled T → In c T → Joined a b T v (a c) → (d : ℕ) × Seat T v d
+  pub slot-seat : {T : List ℕ} {v c : ℕ} → Settled a b T → In c T → Joined a b T v (a c) → (d : ℕ) × Seat T v d
   slot-seat {T} {v} {c} stop i j = go (eq? v (a z))
     where
       z : ℕ

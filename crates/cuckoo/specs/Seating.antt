@@ -1,17 +1,15 @@
 -- Where the keys that stay sit. Assumes nothing.
-use Prim.Native.Nat.{ℕ, zero, suc, _+_, _<_, _≤_}
-use mathlib.Core.Path.{_≡_, refl, sym, subst, _∙_, ap}
-use mathlib.Core.Bool.{Bool, true, false, not, cond, _&&_, _||_, true≢false}
+use Prim.Native.Nat.{ℕ}
+use mathlib.Core.Path.{_≡_, refl, sym, _∙_, ap}
+use mathlib.Core.Bool.{Bool, true, false, _&&_, _||_, true≢false}
 use mathlib.Core.Logic.{_⊎_, inl, inr}
-use mathlib.Core.List.{List, [], _∷_, List·Memᴰ as In, List·Memᴰ·head as here, List·Memᴰ·tail as there}
-use native.Mathlib.Omega.{arith}
+use mathlib.Core.List.{List, [], _∷_, List·Memᴰ as In, List·Memᴰ·head as here}
 use borrow.Author.Tests.{eqb-true, eqb-false, eq-eqb, ne-eqb, not-true}
 use lib.Dec.{eqb}
-use lib.ListN.{length, getD}
-use Rattle.cuckoo.specs.Graph.{label, joined, member, keep, any, without, onCycle, component, root, sits, occupant, first}
-use Rattle.cuckoo.specs.Sets.{keep-in, keep-test, in-keep, test, eq?, in?, le?, Sub, out-in, in-out, out-ne, outs, out-sub, around, first-in, first-two, and-true, or-true}
-use Rattle.cuckoo.specs.Settling.{OnCycle, Cyclic, Spare, onCycle-true, true-onCycle, onCycle?}
-use Rattle.cuckoo.specs.Joined.{Joined, Way, past, along, back, jrefl, jsym, jtrans, edge, mono, within, split, split-out, cut, joined?, joined-true, true-joined, no-joined, least}
+use Rattle.cuckoo.specs.Graph.{joined, keep, without, onCycle, component, root, sits, occupant, first}
+use Rattle.cuckoo.specs.Sets.{keep-in, keep-test, in-keep, test, eq?, Sub, out-in, in-out, outs, first-in, first-two, and-true, or-true}
+use Rattle.cuckoo.specs.Settling.{OnCycle, Settled, onCycle-true, true-onCycle, onCycle?}
+use Rattle.cuckoo.specs.Joined.{Joined, past, along, back, jrefl, jsym, jtrans, edge, mono, split-out, cut, joined-true, true-joined, no-joined}
 
 module _ (a b : ℕ → ℕ) where
   -- v is an end of c, and w the other
@@ -38,9 +36,13 @@ module _ {a b : ℕ → ℕ} where
   ends-flip (from-a p q) = from-b q p
   ends-flip (from-b p q) = from-a q p
 
+  -- a key's slot is in its component
+  pub ends-near : {R : List ℕ} {c v w : ℕ} → Ends a b c v w → In c R → Joined a b R v (a c)
+  ends-near (from-a p q) i = rw p jrefl
+  ends-near (from-b p q) i = rw p (jsym (edge i))
+
   at-root : {R : List ℕ} {c v w z : ℕ} → Ends a b c v w → c ≡ z → In z R → Joined a b R v (a z)
-  at-root (from-a e f) p i = rw (e, p) jrefl
-  at-root (from-b e f) p i = rw (e, p) (jsym (edge i))
+  at-root e p i = ends-near (rw p at e) i
 
   pub over : {c v w : ℕ} (R : List ℕ) {p q : ℕ} → Ends a b c v w → Joined a b R p q → Over a b (without c R) v w p q
   over {c} R (from-a e f) j = rw (e, f) (elim (split-out c R j) [ past k ↦ past-it k | along k l ↦ by-v k l | back k l ↦ by-w k l ])
@@ -52,10 +54,6 @@ module _ (a b : ℕ → ℕ) (X : List ℕ) (p : ℕ) where
   Bare = (c : ℕ) → In c X → Joined a b X p (a c) → Joined a b (without c X) (a c) (b c) → ⊥
 
 module _ {a b : ℕ → ℕ} {X : List ℕ} {p : ℕ} where
-  near-end : {c v w : ℕ} → Ends a b c v w → In c X → Joined a b X p v → Joined a b X p (a c)
-  near-end (from-a e f) i j = rw e at j
-  near-end (from-b e f) i j = jtrans (rw e at j) (jsym (edge i))
-
   -- one end of a key is joined to p without it
   pub one-near : {c v w : ℕ} → Ends a b c v w → In c X → Joined a b X p v
       → Joined a b (without c X) v p ⊎ Joined a b (without c X) w p
@@ -85,7 +83,7 @@ module _ {a b : ℕ → ℕ} {X : List ℕ} {p : ℕ} where
     pub not-both : {c v w : ℕ} → Ends a b c v w → In c X → Joined a b (without c X) v p → Joined a b (without c X) w p → ⊥
     not-both {c} {v} {w} e i j k =
         let up : Sub (without c X) X = λ d h. out-in c X h in
-        bare c i (near-end e i (jsym (mono up j))) (ends-cycle e (jtrans j (jsym k)))
+        bare c i (jtrans (jsym (mono up j)) (ends-near e i)) (ends-cycle e (jtrans j (jsym k)))
 
     pub away : {c : ℕ} → In c X → Joined a b X p (a c) → (Joined a b (without c X) (a c) p → ⊥) ⊎ (Joined a b (without c X) (b c) p → ⊥)
     away i j =
@@ -125,7 +123,7 @@ module _ {a b : ℕ → ℕ} {K : List ℕ} {z : ℕ} where
   -- each key sits in one of its slots
   pub sat-some : {c : ℕ} → In c K → Joined a b K (a z) (a c)
       → ((OnCycle a b K z → ⊥) → (d : ℕ) → Joined a b K (a z) (a d) → OnCycle a b K d → ⊥)
-      → ((d : ℕ) → Spare a b K d → ⊥) → Sat a b K z (a c) c ⊎ Sat a b K z (b c) c
+      → Settled a b K → Sat a b K z (a c) c ⊎ Sat a b K z (b c) c
   sat-some {c} i j flat stop = go (onCycle? a b K z) (eq? c z)
     where
       go : OnCycle a b K z ⊎ (OnCycle a b K z → ⊥) → (c ≡ z) ⊎ (c ≡ z → ⊥) → Sat a b K z (a c) c ⊎ Sat a b K z (b c) c
@@ -207,10 +205,6 @@ module _ (a b : ℕ → ℕ) where
     of-ends {c} (from-a p q) = rw (eq-eqb v (a c) p)
     of-ends {c} (from-b p q) = rw (eq-eqb v (b c) p, or-true)
 
-    near-v : {c w : ℕ} → Ends a b c v w → In c K → Joined a b K v (a c)
-    near-v (from-a p q) i = rw p jrefl
-    near-v (from-b p q) i = rw p (jsym (edge i))
-
     pub occupant-is : {c w : ℕ} → In c K → Ends a b c v w → sits a b K v c ≡ true → occupant a b K v ≡ c
     unfolding occupant here-sits
     occupant-is {c} {w} i e t =
@@ -220,27 +214,29 @@ module _ (a b : ℕ → ℕ) where
         let g = and-true (eqb v (a d) || eqb v (b d)) (sits a b K v d) (keep-test here-sits K f) in
         let x = ends-of d (g .0) in
         let id = keep-in here-sits K f in
-        let jc = near-v e i in
-        let jd = near-v (x .1) id in
+        let jc = ends-near e i in
+        let jd = ends-near (x .1) id in
         let z = root a b K v in
         let rc : root a b K (a c) ≡ z = root-same K (jsym jc) in
         let rd : root a b K (a d) ≡ z = root-same K (jsym jd) in
         let R = rooted K i jc in
         sat-one (x .1) e id i (R .z-in) (jsym (R .near)) (rw rd at (sits-true K v d (g .1))) (rw rc at (sits-true K v c t))
 
-    pub occupant-from : (occupant a b K v ≡ 0) ⊎ (In (occupant a b K v) K × ((w : ℕ) × Ends a b (occupant a b K v) v w))
+    -- a slot is empty, or its key is of K, has it as an end, and sits there
+    pub occupant-from : (occupant a b K v ≡ 0)
+        ⊎ (In (occupant a b K v) K × ((w : ℕ) × Ends a b (occupant a b K v) v w) × (sits a b K v (occupant a b K v) ≡ true))
     unfolding occupant here-sits
     occupant-from = go (keep here-sits K) refl
       where
-        go : (L : List ℕ) → keep here-sits K ≡ L → (first L ≡ 0) ⊎ (In (first L) K × ((w : ℕ) × Ends a b (first L) v w))
+        go : (L : List ℕ) → keep here-sits K ≡ L → (first L ≡ 0) ⊎ (In (first L) K × ((w : ℕ) × Ends a b (first L) v w) × (sits a b K v (first L) ≡ true))
         go [] e = inl refl
         go (d ∷ L) e =
             let f : In d (keep here-sits K) = rw e (here refl) in
             let g = and-true (eqb v (a d) || eqb v (b d)) (sits a b K v d) (keep-test here-sits K f) in
-            inr (keep-in here-sits K f, ends-of d (g .0))
+            inr (keep-in here-sits K f, ends-of d (g .0), g .1)
 
   -- where nothing is spare each key shows in one of its slots
-  pub look : (K : List ℕ) → ((d : ℕ) → Spare a b K d → ⊥) → (c : ℕ) → In c K → (occupant a b K (a c) ≡ c) ⊎ (occupant a b K (b c) ≡ c)
+  pub look : (K : List ℕ) → Settled a b K → (c : ℕ) → In c K → (occupant a b K (a c) ≡ c) ⊎ (occupant a b K (b c) ≡ c)
   look K stop c i =
       let R = rooted K i jrefl in
       elim (sat-some i (jsym (R .near)) (λ n d x l. R .flat n d (jtrans (R .near) x) l) stop) [

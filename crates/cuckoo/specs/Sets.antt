@@ -1,13 +1,13 @@
 -- Lists of numbers as sets: membership, and what `keep` and `without` keep. Assumes nothing.
-use Prim.Native.Nat.{ℕ, zero, suc, _<_, _≤_, max, zero-le}
-use mathlib.Core.Path.{_≡_, refl, sym, subst, _∙_}
+use Prim.Native.Nat.{ℕ, suc, _<_, _≤_, max, zero-le}
+use mathlib.Core.Path.{_≡_, refl, sym, _∙_}
 use mathlib.Core.Bool.{Bool, true, false, not, cond, _&&_, _||_, true≢false, false≢true}
 use mathlib.Core.Logic.{_⊎_, inl, inr}
 use mathlib.Core.List.{List, [], _∷_, _++_, List·Memᴰ as In, List·Memᴰ·head as here, List·Memᴰ·tail as there}
 use native.Mathlib.Omega.{arith}
-use native.Mathlib.Nat.{not-suc-le-zero, le-of-eq}
+use native.Mathlib.Nat.{le-of-eq}
 use lib.ListN.{length}
-use lib.Dec.{T, eqb, ltb, leb, eqb→eq, eqb-refl, T-not, not-T}
+use lib.Dec.{eqb, ltb, leb}
 use borrow.Author.Tests.{eqb-true, eqb-false, eq-eqb, ne-eqb, ltb-true, lt-ltb, leb-true, leb-false, not-true}
 use Rattle.cuckoo.specs.Graph.{member, keep, any, without, last, first}
 
@@ -219,15 +219,15 @@ asc-ext (c ∷ K) (d ∷ L) (some h h′) (some k k′) s t =
     let r = asc-ext K L h′ k′ (asc-tail q (some h h′) s) (asc-tail (sym q) (some k k′) t) in
     cc
 
--- a decidable property of some member, or of none
-pub find? : {P : ℕ → Type 0} → ((y : ℕ) → P y ⊎ (P y → ⊥)) → (K : List ℕ) → ((y : ℕ) × In y K × P y) ⊎ ((y : ℕ) → In y K → P y → ⊥)
-find? t [] = inr (λ y i. elim i [ ])
-find? {P} t (c ∷ K) =
+-- some member has the one property, or all have the other
+pub some-or-all : {P Q : ℕ → Type 0} → ((y : ℕ) → P y ⊎ Q y) → (K : List ℕ) → ((y : ℕ) × In y K × P y) ⊎ ((y : ℕ) → In y K → Q y)
+some-or-all t [] = inr (λ y i. elim i [ ])
+some-or-all {P} {Q} t (c ∷ K) =
     elim (t c) [
       | inl p ↦ inl (c, here refl, p)
-      | inr n ↦ elim (find? t K) [
+      | inr q ↦ elim (some-or-all t K) [
         | inl r ↦ inl (r .0, there (r .1), r .2)
-        | inr m ↦ inr (λ y i p. elim i [ here q ↦ n (rw q at p) | there j ↦ m y j p ])
+        | inr h ↦ inr (λ y i. elim i [ here e ↦ rw e q | there j ↦ h y j ])
       ]
     ]
 

@@ -1,18 +1,16 @@
 -- What stays when the largest spare keys are taken away. Assumes nothing.
 use Prim.Native.Nat.{ℕ, zero, suc, _<_, _≤_}
-use mathlib.Core.Path.{_≡_, refl, sym, subst, _∙_, ap}
-use mathlib.Core.Bool.{Bool, true, false, not, cond, _&&_, _||_, true≢false}
-use mathlib.Core.Logic.{_⊎_, inl, inr}
-use mathlib.Core.List.{List, [], _∷_, List·Memᴰ as In, List·Memᴰ·head as here, List·Memᴰ·tail as there}
+use mathlib.Core.Path.{_≡_, refl, sym, _∙_}
+use mathlib.Core.Bool.{true, true≢false}
+use mathlib.Core.Logic.{_⊎_, inl, inr, _↔_}
+use mathlib.Core.List.{List, [], _∷_, List·Memᴰ as In}
 use native.Mathlib.Omega.{arith}
-use native.Mathlib.Nat.{not-suc-le-zero, le-of-eq}
-use borrow.Author.Tests.{not-true}
+use native.Mathlib.Nat.{le-of-eq}
 use lib.ListN.{length}
-use lib.Dec.{T, eqb, ltb}
-use Rattle.cuckoo.specs.Graph.{label, joined, member, keep, any, without, onCycle, component, cyclic, spare, settle, seated, last}
-use Rattle.cuckoo.specs.Sets.{keep-in, keep-test, in-keep, test, eq?, in?, le?, Sub, out-in, in-out, out-ne, outs, out-sub, around, below, below-in, below-lt, in-below, below-sub, below-up, below-out, below-suc, member-in, in-member, and-true, any-true, true-any, Asc, asc-keep, last-in, last-max, out-shorter, asc-out, in-length, asc-ext, find?, both?, not?}
-use Rattle.cuckoo.specs.Joined.{Joined, Way, past, along, back, jrefl, jsym, jtrans, edge, mono, within, split, split-out, cut, joined?, joined-true, true-joined, no-joined, false-joined, confine, least}
-use Rattle.cuckoo.specs.Forest.{Larger, larger, forest, forest-in, forest-no, in-forest, spans, acyclic, not-largest}
+use Rattle.cuckoo.specs.Graph.{joined, member, keep, without, onCycle, component, cyclic, spare, settle, seated, last}
+use Rattle.cuckoo.specs.Sets.{keep-test, in-keep, test, eq?, in?, Sub, out-in, in-out, out-ne, outs, out-sub, below-out, member-in, in-member, and-true, any-true, true-any, Asc, asc-keep, last-in, last-max, out-shorter, asc-out, in-length, some-or-all, both?, not?}
+use Rattle.cuckoo.specs.Joined.{Joined, past, along, back, jrefl, jsym, jtrans, edge, mono, split-out, cut, joined?, joined-true, true-joined, confine}
+use Rattle.cuckoo.specs.Forest.{forest, forest-in, spans, acyclic, not-largest}
 
 module _ (a b : ℕ → ℕ) where
   pub record OnCycle (R : List ℕ) (c : ℕ) : Type 0 where
@@ -28,6 +26,10 @@ module _ (a b : ℕ → ℕ) where
     pub cycle : OnCycle R c
     pub rest : Cyclic (without c R) (a c)
 
+  -- nothing is spare: no component has two cycles
+  abbrev pub Settled : List ℕ → Type 0
+  Settled R = (d : ℕ) → Spare R d → ⊥
+
   pub onCycle? : (R : List ℕ) (c : ℕ) → OnCycle R c ⊎ (OnCycle R c → ⊥)
   onCycle? R c =
       elim (in? c R) [
@@ -41,7 +43,7 @@ module _ (a b : ℕ → ℕ) where
     pub largest : (d : ℕ) → Spare R d → d ≤ c
 
   pub data Round (R : List ℕ) (n : ℕ) : Type 0 where
-    stop : ((d : ℕ) → Spare R d → ⊥) → settle a b (suc n) R ≡ R → Round R n
+    stop : Settled R → settle a b (suc n) R ≡ R → Round R n
     go-on : (c : ℕ) → Goes R c → settle a b (suc n) R ≡ settle a b n (without c R) → Round R n
 
 module _ {a b : ℕ → ℕ} where
@@ -70,6 +72,22 @@ module _ {a b : ℕ → ℕ} where
   pub true-spare : {R : List ℕ} {c : ℕ} → Spare a b R c → spare a b R c ≡ true
   unfolding spare
   true-spare {R} {c} s = rw (true-onCycle (s .cycle)) (true-cyclic (s .rest))
+
+  -- joined slots have cycles in their component alike
+  pub cyclic-near : {R : List ℕ} {u v : ℕ} → Joined a b R u v → Cyclic a b R v → Cyclic a b R u
+  cyclic-near j L = record { d = L .d; cycle = L .cycle; near = jtrans j (L .near) }
+
+  -- a key on a cycle is on one in every larger set,
+  pub cycle-mono : {R R′ : List ℕ} {c : ℕ} → Sub R R′ → OnCycle a b R c → OnCycle a b R′ c
+  cycle-mono {c = c} s l = record { on = s c (l .on); closed = mono (out-sub c s) (l .closed) }
+
+  -- a component with a cycle has one in every larger set,
+  pub cyclic-mono : {R R′ : List ℕ} {v : ℕ} → Sub R R′ → Cyclic a b R v → Cyclic a b R′ v
+  cyclic-mono s l = record { d = l .d; cycle = cycle-mono s (l .cycle); near = mono s (l .near) }
+
+  -- and a spare key is spare in every larger set
+  pub spare-mono : {R R′ : List ℕ} {c : ℕ} → Sub R R′ → Spare a b R c → Spare a b R′ c
+  spare-mono {c = c} s l = record { cycle = cycle-mono s (l .cycle); rest = cyclic-mono (out-sub c s) (l .rest) }
 
   -- the case that a key m is on a cycle of R only with c, and c only with m
   moves-both : {R : List ℕ} {c m : ℕ} → (c ≡ m → ⊥) → OnCycle a b R m → Joined a b R (a c) (a m) → OnCycle a b R c
@@ -116,6 +134,11 @@ module _ {a b : ℕ → ℕ} where
       ]
 
 module _ (a b : ℕ → ℕ) where
+  -- whether a slot's component has a cycle
+  pub cyclic? : (R : List ℕ) (v : ℕ) → Cyclic a b R v ⊎ (Cyclic a b R v → ⊥)
+  cyclic? R v =
+      elim (test (cyclic a b R v)) [ inl e ↦ inl (cyclic-true e) | inr e ↦ inr (λ L. true≢false (sym (true-cyclic L) ∙ e)) ]
+
   pub round : (n : ℕ) {R : List ℕ} → Asc R → Round a b R n
   unfolding settle
   round n {R} h = go (keep (spare a b R) R) refl
@@ -131,14 +154,16 @@ module _ (a b : ℕ → ℕ) where
           let asc : Asc (c ∷ D) = rw e at (asc-keep (spare a b R) h) in
           go-on f (record { spare = spare-true (keep-test (spare a b R) R i); largest = λ d s. last-max (c ∷ D) asc (rw e at (in-spare d s)) }) (rw (e, settle))
 
-  pub settle-sub : (n : ℕ) {R : List ℕ} → Asc R → Sub (settle a b n R) R
+  -- settling only takes away
+  pub settle-sub : (n : ℕ) (R : List ℕ) → Sub (settle a b n R) R
   unfolding settle
-  settle-sub zero h d i = i
-  settle-sub (suc n) {R} h d i =
-      elim (round n h) [
-        | stop s e ↦ rw e at i
-        | go-on c g e ↦ out-in c R (settle-sub n (asc-out c h) d (rw e at i))
-      ]
+  settle-sub zero R c i = i
+  settle-sub (suc n) R c i = go (keep (spare a b R) R) (λ d k. out-in d R (settle-sub n (without d R) c k)) i
+    where
+      go : (D : List ℕ) → ((d : ℕ) → In c (settle a b n (without d R)) → In c R)
+          → In c (elim D [ [] ↦ R | d ∷ D ↦ settle a b n (without (last (d ∷ D)) R) ]) → In c R
+      go [] h k = k
+      go (d ∷ D) h k = h (last (d ∷ D)) k
 
   pub settle-asc : (n : ℕ) {R : List ℕ} → Asc R → Asc (settle a b n R)
   unfolding settle
@@ -146,7 +171,7 @@ module _ (a b : ℕ → ℕ) where
   settle-asc (suc n) {R} h = elim (round n h) [ stop s e ↦ rw e h | go-on c g e ↦ rw e (settle-asc n (asc-out c h)) ]
 
   -- once it has gone on long enough nothing is spare
-  pub settle-stops : (n : ℕ) {R : List ℕ} → Asc R → length R ≤ n → (d : ℕ) → Spare a b (settle a b n R) d → ⊥
+  pub settle-stops : (n : ℕ) {R : List ℕ} → Asc R → length R ≤ n → Settled a b (settle a b n R)
   unfolding settle
   settle-stops zero h l d s = omega (arith, in-length (s .cycle .on))
   settle-stops (suc n) {R} h l d s =
@@ -194,7 +219,7 @@ module _ (a b : ℕ → ℕ) where
               let s′ : Sub (without c R) S = λ z k. s z (out-in c R k) in
               let f′ = stays (goes-off s g) f in
               let iy′ = rw e at iy in
-              let iyc = settle-sub n (asc-out c h) y iy′ in
+              let iyc = settle-sub n (without c R) y iy′ in
               elim (eq? c x) [
                 | inl q ↦
                     let iyR = out-in c R iyc in
@@ -205,7 +230,7 @@ module _ (a b : ℕ → ℕ) where
         ]
 
     -- where nothing is spare, a component has at most one key off the forest
-    pub one : {K : List ℕ} → ((d : ℕ) → Spare a b K d → ⊥) → Sub K S → Sub F K → (x y : ℕ) → In x K → In y K
+    pub one : {K : List ℕ} → Settled a b K → Sub K S → Sub F K → (x y : ℕ) → In x K → In y K
         → (In x F → ⊥) → (In y F → ⊥) → Joined a b S (a x) (a y) → x ≡ y
     one {K} t s f x y ix iy nx ny j =
         elim (eq? x y) [
@@ -232,7 +257,7 @@ module _ (a b : ℕ → ℕ) where
 
     stand? : (K : List ℕ) (x : ℕ) → Stand K x ⊎ ((y : ℕ) → In y K → Joined a b S (a x) (a y) → In y F)
     stand? K x =
-        elim (find? {P = OffNear x} (λ y. both? (joined? a b S (a x) (a y)) (not? (in? y F))) K) [
+        elim (some-or-all {P = OffNear x} {Q = λ y. OffNear x y → ⊥} (λ y. both? (joined? a b S (a x) (a y)) (not? (in? y F))) K) [
           | inl r ↦ inl (record { y = r .0; y-in = r .1; y-off = r .2 .1; near = r .2 .0 })
           | inr n ↦ inr (λ y i j. elim (in? y F) [ inl k ↦ k | inr o ↦ absurd (n y i (j, o)) ])
         ]
@@ -276,13 +301,21 @@ module _ (a b : ℕ → ℕ) where
     module _ (asc : Asc S) where
       pub seated-sub : Sub (seated a b S) S
       unfolding seated
-      seated-sub = settle-sub (length S) asc
+      seated-sub = settle-sub (length S) S
+
+      pub seated-asc : Asc (seated a b S)
+      unfolding seated
+      seated-asc = settle-asc (length S) asc
 
       pub seated-forest : Sub F (seated a b S)
       unfolding seated
       seated-forest = settle-forest (length S) asc (λ c i. i) (forest-in a b S)
 
-      pub seated-stops : (d : ℕ) → Spare a b (seated a b S) d → ⊥
+      -- "A group is a connected set of pockets and its cards", drawer cards included: the seated keys join exactly what all keys join.
+      pub seated-joined : {u v : ℕ} → Joined a b (seated a b S) u v ↔ Joined a b S u v
+      seated-joined = (mono seated-sub, λ j. mono seated-forest (spans S j))
+
+      pub seated-stops : Settled a b (seated a b S)
       unfolding seated
       seated-stops = settle-stops (length S) asc (omega arith)
 

@@ -5,25 +5,13 @@ use Prim.Native.Nat.{ℕ}
 use mathlib.Core.Path.{_≡_, refl, sym, _∙_, ap}
 use mathlib.Core.Bool.{Bool, true, false, not, cond, _||_, true≢false}
 use mathlib.Core.Logic.{_⊎_, inl, inr}
-use mathlib.Core.List.{List, [], _∷_, List·Memᴰ as In, List·Memᴰ·head as here, List·Memᴰ·tail as there}
+use mathlib.Core.List.{List, List·Memᴰ as In}
 use borrow.Author.Tests.{eqb-true, eq-eqb, ne-eqb, not-true}
 use lib.Dec.{eqb}
 use Rattle.cuckoo.specs.Graph.{keep, joined, without}
-use Rattle.cuckoo.specs.Sets.{Sub, eq?, in?, in-out, out-sub, keep-in, keep-test, in-keep}
+use Rattle.cuckoo.specs.Sets.{Sub, eq?, in?, some-or-all, in-out, out-sub, keep-in, keep-test, in-keep}
 use Rattle.cuckoo.specs.Joined.{Joined, mono, joined?, joined-true, true-joined, false-joined, jsym, jrefl, jtrans, edge, least}
 use Rattle.cuckoo.specs.Seating.{Ends, from-a, from-b, Bare, one-near, not-both, away, ends-edge, ends-flip}
-
--- some member has the one property, or all have the other
-some-or-all : {P Q : ℕ → Type 0} → ((y : ℕ) → P y ⊎ Q y) → (K : List ℕ) → ((y : ℕ) × In y K × P y) ⊎ ((y : ℕ) → In y K → Q y)
-some-or-all t [] = inr (λ y i. elim i [ ])
-some-or-all {P} {Q} t (c ∷ K) =
-    elim (t c) [
-      | inl p ↦ inl (c, here refl, p)
-      | inr q ↦ elim (some-or-all t K) [
-        | inl r ↦ inl (r .0, there (r .1), r .2)
-        | inr h ↦ inr (λ y i. elim i [ here e ↦ rw e q | there j ↦ h y j ])
-      ]
-    ]
 
 module _ (a b : ℕ → ℕ) where
   -- v is the far end of the key c of X: without c it is cut off from p

@@ -7,10 +7,10 @@ use mathlib.Core.List.{List, List·Memᴰ as In}
 use Rattle.cuckoo.specs.Graph.{root, seated, occupant}
 use Rattle.cuckoo.specs.Sets.{eq?, Asc}
 use Rattle.cuckoo.specs.Joined.{Joined, jsym, jrefl, jtrans, mono}
-use Rattle.cuckoo.specs.Settling.{Cyclic, seated-sub, seated-stops}
-use Rattle.cuckoo.specs.Seating.{from-a, from-b, rooted}
+use Rattle.cuckoo.specs.Settling.{Cyclic, Settled, cyclic?, cyclic-near, seated-asc, seated-sub, seated-stops}
+use Rattle.cuckoo.specs.Seating.{from-a, from-b, ends-near, rooted}
 use Rattle.cuckoo.specs.Tree.{Far, fixed}
-use Rattle.cuckoo.specs.Places.{Settled, cyclic?, cyclic-near, seated-asc, hung, hung-sub, hung-root, hung-joins, hung-bare, at-root, at-far, Seat, seat-near, ends-near, or-ends, seat-occupant, occupant-seat, slot-seat}
+use Rattle.cuckoo.specs.Places.{hung, hung-sub, hung-root, hung-joins, hung-bare, at-root, at-far, Seat, seat-near, or-ends, seat-occupant, occupant-seat, slot-seat}
 use Rattle.cuckoo.specs.Bullets.{InOne, Smallest, SmallestOnCycle, Obeys, one-of, root-tree, root-cycle, obeys}
 
 module _ (a b : ℕ → ℕ) where
@@ -54,7 +54,7 @@ module _ (a b : ℕ → ℕ) where
           | inl L ↦ rule-cycle (root-cycle a b T asc L .0)
           | inr n ↦
               let s = root-tree a b T asc i jrefl n in
-              rule-tree (s .0) (λ L. n (cyclic-near a b (s .1) L))
+              rule-tree (s .0) (λ L. n (cyclic-near (s .1) L))
         ]
 
     -- who sits in a slot by the rule of `sits` is in it
@@ -76,7 +76,7 @@ module _ (a b : ℕ → ℕ) where
           | inl e ↦ elim (o .holds v) [
             | inl q ↦ q ∙ sym e
             | inr r ↦
-                let S = slot-seat a b {v = v} stop (r .0) (ends-near a b (or-ends a b (r .1) .1) (r .0)) in
+                let S = slot-seat a b {v = v} stop (r .0) (ends-near (or-ends a b (r .1) .1) (r .0)) in
                 absurd (solid (rw (sym (seat-occupant a b (S .1)) ∙ e) at (S .1 .c-in)))
           ]
         ]

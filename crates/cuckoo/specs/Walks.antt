@@ -8,9 +8,9 @@ use mathlib.Core.List.{List, [], _∷_, _++_, List·Memᴰ as In, List·Memᴰ·
 use mathlib.Core.List.{List·Memᴰ·append-cases as in-append, List·Memᴰ·not-nil as in-nil}
 use Rattle.cuckoo.specs.Graph.{label, joined, without, onCycle}
 use Rattle.cuckoo.specs.Sets.{Sub, out-in, in-out, out-ne}
-use Rattle.cuckoo.specs.Joined.{Joined, past, along, back, jrefl, jsym, jtrans, edge, split, joined?, joined-true, true-joined}
+use Rattle.cuckoo.specs.Joined.{Joined, past, along, back, jrefl, jsym, jtrans, split, joined?, joined-true, true-joined}
 use Rattle.cuckoo.specs.Settling.{OnCycle, onCycle-true, true-onCycle}
-use Rattle.cuckoo.specs.Seating.{Ends, from-a, from-b, ends-edge, ends-cycle}
+use Rattle.cuckoo.specs.Seating.{Ends, from-a, from-b, ends-edge, ends-cycle, ends-near}
 
 -- nothing stands twice in the list
 pub data Distinct : List ℕ → Type 0 where
@@ -92,13 +92,9 @@ module _ {a b : ℕ → ℕ} where
   reached-through (stay p) i e l = refl
   reached-through (step j f k) i e l = rw (reached-through k i e l)
 
-  end-near : {R : List ℕ} {c v w : ℕ} → Ends a b c v w → In c R → Joined a b R v (a c)
-  end-near (from-a p q) i = rw p jrefl
-  end-near (from-b p q) i = rw p (jsym (edge i))
-
   -- the keys of a walk are of the component of its start
   pub walk-near : {R cs : List ℕ} {d u v : ℕ} → Walk a b R cs u v → In d cs → Joined a b R u (a d)
-  walk-near (step i e k) (here q) = rw q (end-near e i)
+  walk-near (step i e k) (here q) = rw q (ends-near e i)
   walk-near (step i e k) (there m) = jtrans (ends-edge e i) (walk-near k m)
 
   -- and so are its slots
