@@ -29,7 +29,7 @@ module _ {a b a′ b′ : ℕ → ℕ} where
     at-1 = λ d i. elim i [ here e ↦ rw e q | there k ↦ g .at-1 d k ];
   }
 
-  pub agree-sub : {R R′ : List ℕ} → Sub R′ R → Agree a b a′ b′ R → Agree a b a′ b′ R′
+  agree-sub : {R R′ : List ℕ} → Sub R′ R → Agree a b a′ b′ R → Agree a b a′ b′ R′
   agree-sub s g = record { at-0 = λ c i. g .at-0 c (s c i); at-1 = λ c i. g .at-1 c (s c i) }
 
   agree-out : (c : ℕ) {R : List ℕ} → Agree a b a′ b′ R → Agree a b a′ b′ (without c R)
@@ -41,33 +41,33 @@ module _ {a b a′ b′ : ℕ → ℕ} where
 
   -- Each definition of Graph in its order there: over ends that agree on its keys it gives the same. Labels, cycles and occupants do so at every
   -- slot and every number; `sits` and `next` look at the slots of the key that they are asked for, so it must be a key of the set.
-  pub label-agree : {R : List ℕ} → Agree a b a′ b′ R → (v : ℕ) → label a b R v ≡ label a′ b′ R v
+  label-agree : {R : List ℕ} → Agree a b a′ b′ R → (v : ℕ) → label a b R v ≡ label a′ b′ R v
   unfolding label
   label-agree {R = []} g v = refl
   label-agree {R = c ∷ R} g v =
       let h = label-agree (agree-sub (λ d. there) g) in
       rw (g .at-0 c (here refl), g .at-1 c (here refl), h v, h (a′ c), h (b′ c))
 
-  pub joined-agree : {R : List ℕ} → Agree a b a′ b′ R → (u v : ℕ) → joined a b R u v ≡ joined a′ b′ R u v
+  joined-agree : {R : List ℕ} → Agree a b a′ b′ R → (u v : ℕ) → joined a b R u v ≡ joined a′ b′ R u v
   unfolding joined
   joined-agree g u v = rw (label-agree g u, label-agree g v)
 
-  pub component-agree : {R : List ℕ} → Agree a b a′ b′ R → (v : ℕ) → component a b R v ≡ component a′ b′ R v
+  component-agree : {R : List ℕ} → Agree a b a′ b′ R → (v : ℕ) → component a b R v ≡ component a′ b′ R v
   unfolding component
   component-agree {R} g v = keep-ext _ _ R (λ d i. rw (g .at-0 d i) (joined-agree g v (a′ d)))
 
-  pub onCycle-agree : {R : List ℕ} → Agree a b a′ b′ R → (c : ℕ) → onCycle a b R c ≡ onCycle a′ b′ R c
+  onCycle-agree : {R : List ℕ} → Agree a b a′ b′ R → (c : ℕ) → onCycle a b R c ≡ onCycle a′ b′ R c
   unfolding onCycle
   onCycle-agree {R} g c = elim (test (member c R)) [
     | inl e ↦ let i = member-in c R e in rw (e, g .at-0 c i, g .at-1 c i) (joined-agree (agree-out c g) (a′ c) (b′ c))
     | inr e ↦ rw e
   ]
 
-  pub cyclic-agree : {R : List ℕ} → Agree a b a′ b′ R → (v : ℕ) → cyclic a b R v ≡ cyclic a′ b′ R v
+  cyclic-agree : {R : List ℕ} → Agree a b a′ b′ R → (v : ℕ) → cyclic a b R v ≡ cyclic a′ b′ R v
   unfolding cyclic
   cyclic-agree {R} g v = let e : onCycle a b R ≡ onCycle a′ b′ R = fun-ext (onCycle-agree g) in rw (component-agree g v, e)
 
-  pub spare-agree : {R : List ℕ} → Agree a b a′ b′ R → (c : ℕ) → spare a b R c ≡ spare a′ b′ R c
+  spare-agree : {R : List ℕ} → Agree a b a′ b′ R → (c : ℕ) → spare a b R c ≡ spare a′ b′ R c
   unfolding spare onCycle
   spare-agree {R} g c = elim (test (member c R)) [
     | inl e ↦ let i = member-in c R e in let g′ = agree-out c g in
@@ -75,14 +75,14 @@ module _ {a b a′ b′ : ℕ → ℕ} where
     | inr e ↦ rw e
   ]
 
-  pub settle-agree : (n : ℕ) {R : List ℕ} → Agree a b a′ b′ R → settle a b n R ≡ settle a′ b′ n R
+  settle-agree : (n : ℕ) {R : List ℕ} → Agree a b a′ b′ R → settle a b n R ≡ settle a′ b′ n R
   unfolding settle
   settle-agree zero g = refl
   settle-agree (suc n) {R} g =
       ap₂ (λ (p : ℕ → Bool) (f : ℕ → List ℕ). elim (keep p R) [ [] ↦ R | c ∷ D ↦ f (last (c ∷ D)) ])
       (fun-ext (spare-agree g)) (fun-ext (λ c. settle-agree n {R = without c R} (agree-out c g)))
 
-  pub seated-agree : {S : List ℕ} → Agree a b a′ b′ S → seated a b S ≡ seated a′ b′ S
+  seated-agree : {S : List ℕ} → Agree a b a′ b′ S → seated a b S ≡ seated a′ b′ S
   unfolding seated
   seated-agree {S} g = settle-agree (length S) g
 
@@ -90,12 +90,12 @@ module _ {a b a′ b′ : ℕ → ℕ} where
   unfolding stash
   stash-agree g = rw (seated-agree g)
 
-  pub root-agree : {T : List ℕ} → Agree a b a′ b′ T → (v : ℕ) → root a b T v ≡ root a′ b′ T v
+  root-agree : {T : List ℕ} → Agree a b a′ b′ T → (v : ℕ) → root a b T v ≡ root a′ b′ T v
   unfolding root
   root-agree {T} g v = let e : onCycle a b T ≡ onCycle a′ b′ T = fun-ext (onCycle-agree g) in rw (component-agree g v, e)
 
   -- the root's slot is looked at as well: the root of a key of the set is one too
-  pub sits-agree : {T : List ℕ} → Agree a b a′ b′ T → (v : ℕ) {c : ℕ} → In c T → sits a b T v c ≡ sits a′ b′ T v c
+  sits-agree : {T : List ℕ} → Agree a b a′ b′ T → (v : ℕ) {c : ℕ} → In c T → sits a b T v c ≡ sits a′ b′ T v c
   unfolding sits
   sits-agree {T} g v {c} i =
       let z = root a′ b′ T (a′ c) in
@@ -104,11 +104,11 @@ module _ {a b a′ b′ : ℕ → ℕ} where
       let g′ : (t : Bool) → Agree a b a′ b′ (without c (cond t (without z T) T)) = λ t. agree-out c (elim t [ true ↦ agree-out z g | false ↦ g ]) in
       rw (e, onCycle-agree g z, g .at-0 z k, joined-agree (g′ (onCycle a′ b′ T z)) v (a′ z))
 
-  pub occupant-agree : {T : List ℕ} → Agree a b a′ b′ T → (v : ℕ) → occupant a b T v ≡ occupant a′ b′ T v
+  occupant-agree : {T : List ℕ} → Agree a b a′ b′ T → (v : ℕ) → occupant a b T v ≡ occupant a′ b′ T v
   unfolding occupant
   occupant-agree {T} g v = ap first (keep-ext _ _ T (λ c i. rw (g .at-0 c i, g .at-1 c i, sits-agree g v i)))
 
-  pub next-agree : {T : List ℕ} → Agree a b a′ b′ T → {c : ℕ} → In c T → next a b T c ≡ next a′ b′ T c
+  next-agree : {T : List ℕ} → Agree a b a′ b′ T → {c : ℕ} → In c T → next a b T c ≡ next a′ b′ T c
   unfolding next
   next-agree g {c} i = rw (g .at-0 c i, component-agree g (a′ c))
 

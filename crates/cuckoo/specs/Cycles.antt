@@ -63,7 +63,7 @@ module _ {a b : ℕ → ℕ} where
       record { cycle = record { key = c; closed = w }; near = λ d i. jtrans j (jtrans (jsym (walk-near k (here refl))) (walk-near k i)) }
 
   -- a key of R that lies on a cycle starts one, and it is in no slot twice
-  pub cycle-at : {R : List ℕ} {c v : ℕ} → OnCycle a b R c → Joined a b R v (a c)
+  cycle-at : {R : List ℕ} {c v : ℕ} → OnCycle a b R c → Joined a b R v (a c)
       → (γ : CycleAt a b R v) × In c (keys a b (γ .cycle)) × Simple a b (γ .cycle)
   cycle-at l j = let w = simple-cycle l in (closed-at (w .0) j, here refl, w .1)
 

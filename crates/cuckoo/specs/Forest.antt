@@ -13,12 +13,12 @@ use Rattle.cuckoo.specs.Joined.{Joined, past, along, back, edge, mono, w
 
 module _ (a b : ℕ → ℕ) where
   -- the key at which u and v come to be joined, as the keys of X are laid down from the smallest up
-  pub record Crossing (X : List ℕ) (p u v : ℕ) : Type 0 where
-    pub m : ℕ
-    pub m-in : In m X
-    pub p≤m : p ≤ m
-    pub before : Joined a b (below m X) u v → ⊥
-    pub after : Joined a b (m ∷ below m X) u v
+  record Crossing (X : List ℕ) (p u v : ℕ) : Type 0 where
+    m : ℕ
+    m-in : In m X
+    p≤m : p ≤ m
+    before : Joined a b (below m X) u v → ⊥
+    after : Joined a b (m ∷ below m X) u v
 
   -- a larger key on a cycle, near the key c
   pub record Larger (R : List ℕ) (c : ℕ) : Type 0 where
@@ -71,7 +71,7 @@ module _ {a b : ℕ → ℕ} where
       ]
 
   -- a key on a cycle whose ends the smaller keys do not join has a larger one on a cycle near it
-  pub larger : {R : List ℕ} {c : ℕ} → In c R → (Joined a b (below c R) (a c) (b c) → ⊥) → Joined a b (without c R) (a c) (b c) → Larger a b R c
+  larger : {R : List ℕ} {c : ℕ} → In c R → (Joined a b (below c R) (a c) (b c) → ⊥) → Joined a b (without c R) (a c) (b c) → Larger a b R c
   larger {R} {c} i n j = larger-at i (crossing (without c R) c (λ k. n (mono (below-sub c (λ d. out-in c R)) k)) j)
 
   pub forest-no : (S : List ℕ) {c : ℕ} → In c (forest a b S) → Joined a b (below c S) (a c) (b c) → ⊥

@@ -70,7 +70,7 @@ module _ (a b : ℕ → ℕ) where
     C = component a b S v
 
     -- the keys of a component join its slots as all keys do
-    pub joined-component : {u w : ℕ} → Joined a b S v u → Joined a b S u w ↔ Joined a b C u w
+    joined-component : {u w : ℕ} → Joined a b S v u → Joined a b S u w ↔ Joined a b C u w
     joined-component k = (part-joined (part-component S v) k, mono (component-sub a b S v))
 
     -- a key of the component lies on a cycle of the whole set exactly if it does so in the component alone
@@ -100,7 +100,7 @@ module _ (a b : ℕ → ℕ) where
         still d = joined a b (without c S) v (a d)
 
     -- its slots have the same component in it
-    pub component-component : {u : ℕ} → Joined a b S v u → component a b S u ≡ component a b C u
+    component-component : {u : ℕ} → Joined a b S v u → component a b S u ≡ component a b C u
     unfolding component
     component-component {u} k = keep-both (λ d. joined a b C u (a d)) (λ d. joined a b S v (a d)) (λ d. joined a b S u (a d)) S
         (λ d i e. true-joined (jtrans k (joined-true e))) (λ d i e. part-test (a d) (part-component S v) k)
@@ -111,14 +111,14 @@ module _ (a b : ℕ → ℕ) where
         bool-ext (onCycle a b S c) (onCycle a b C c) (λ e. true-onCycle (l .0 (onCycle-true e))) (λ e. true-onCycle (l .1 (onCycle-true e)))
 
     -- the key that decides how the component sits is decided by the component
-    pub root-component : {u : ℕ} → Joined a b S v u → root a b S u ≡ root a b C u
+    root-component : {u : ℕ} → Joined a b S v u → root a b S u ≡ root a b C u
     unfolding root
     root-component {u} k =
         let e = keep-ext (onCycle a b S) (onCycle a b C) (component a b S u) (λ d i. onCycle-component (jtrans k (component-near a b S u i))) in
         rw (← component-component k, e)
 
     -- its keys sit where they would sit with no other component there
-    pub sits-component : {u c : ℕ} → Joined a b S v u → In c S → Joined a b S u (a c) → sits a b S u c ≡ sits a b C u c
+    sits-component : {u c : ℕ} → Joined a b S v u → In c S → Joined a b S u (a c) → sits a b S u c ≡ sits a b C u c
     unfolding sits
     sits-component {u} {c} k i j =
         let z = root a b S (a c) in
@@ -131,7 +131,7 @@ module _ (a b : ℕ → ℕ) where
         ])
 
     -- its slots hold what they would hold
-    pub occupant-component : {u : ℕ} → Joined a b S v u → occupant a b S u ≡ occupant a b C u
+    occupant-component : {u : ℕ} → Joined a b S v u → occupant a b S u ≡ occupant a b C u
     unfolding occupant component
     occupant-component {u} k = ap first (keep-both (λ c. (eqb u (a c) || eqb u (b c)) && sits a b C u c) (λ c. joined a b S v (a c))
         (λ c. (eqb u (a c) || eqb u (b c)) && sits a b S u c) S
@@ -145,7 +145,7 @@ module _ (a b : ℕ → ℕ) where
         ]
 
     -- and its keys point to the keys to which they would point
-    pub next-component : {c : ℕ} → Joined a b S v (a c) → next a b S c ≡ next a b C c
+    next-component : {c : ℕ} → Joined a b S v (a c) → next a b S c ≡ next a b C c
     unfolding next
     next-component k = rw (component-component k)
 

@@ -57,7 +57,7 @@ module _ (a b : ℕ → ℕ) where
     pub apart : (c d : ℕ) → In c S → In d S → at c ≡ at d → c ≡ d
 
   -- a part of a set is placed as in the whole
-  pub restrict : {s : ℕ} {R S : List ℕ} → Sub R S → Placement s S → Placement s R
+  restrict : {s : ℕ} {R S : List ℕ} → Sub R S → Placement s S → Placement s R
   restrict f P = record { at = P .at; allowed = λ c i. P .allowed c (f c i); apart = λ c d i j. P .apart c d (f c i) (f d j) }
 
   module _ {S : List ℕ} (h : Asc S) where

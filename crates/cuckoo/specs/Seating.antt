@@ -60,7 +60,7 @@ module _ {a b : ℕ → ℕ} {X : List ℕ} {p : ℕ} where
   one-near e i j = elim (over X e j) [ past-it k ↦ inl (jsym k) | by-v k l ↦ inl (jsym k) | by-w k l ↦ inr (jsym k) ]
 
   -- no two keys are away from p at the same slot
-  pub no-two : {c d v w x : ℕ} → Ends a b c v w → Ends a b d v x → In c X → In d X → Joined a b X p v
+  no-two : {c d v w x : ℕ} → Ends a b c v w → Ends a b d v x → In c X → In d X → Joined a b X p v
       → (Joined a b (without c X) v p → ⊥) → (Joined a b (without d X) v p → ⊥) → c ≡ d
   no-two {c} {d} {v} {w} {x} e f ic id j nc nd =
       elim (eq? c d) [
@@ -102,7 +102,7 @@ module _ (a b : ℕ → ℕ) where
 
 module _ {a b : ℕ → ℕ} {K : List ℕ} {z : ℕ} where
   -- a slot holds one key
-  pub sat-one : {c d v w x : ℕ} → Ends a b c v w → Ends a b d v x → In c K → In d K → In z K → Joined a b K (a z) v → Sat a b K z v c → Sat a b K z v d → c ≡ d
+  sat-one : {c d v w x : ℕ} → Ends a b c v w → Ends a b d v x → In c K → In d K → In z K → Joined a b K (a z) v → Sat a b K z v c → Sat a b K z v d → c ≡ d
   sat-one e f ic id iz j (tree-root n p) (tree-root m q) = cc
   sat-one e f ic id iz j (tree-root n p) (tree-away m q o) = absurd (o (at-root e p (in-out _ K q iz)))
   sat-one e f ic id iz j (tree-away n p o) (tree-root m q) = absurd (o (at-root f q (in-out _ K p iz)))
@@ -121,7 +121,7 @@ module _ {a b : ℕ → ℕ} {K : List ℕ} {z : ℕ} where
   sat-one e f ic id iz j (cycle-away l q r) (cycle-away m s t) = no-two e f (in-out z K (λ k. q (sym k)) ic) (in-out z K (λ k. s (sym k)) id) (cut z K (l .closed) j) r t
 
   -- each key sits in one of its slots
-  pub sat-some : {c : ℕ} → In c K → Joined a b K (a z) (a c)
+  sat-some : {c : ℕ} → In c K → Joined a b K (a z) (a c)
       → ((OnCycle a b K z → ⊥) → (d : ℕ) → Joined a b K (a z) (a d) → OnCycle a b K d → ⊥)
       → Settled a b K → Sat a b K z (a c) c ⊎ Sat a b K z (b c) c
   sat-some {c} i j flat stop = go (onCycle? a b K z) (eq? c z)

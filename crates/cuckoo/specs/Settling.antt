@@ -82,7 +82,7 @@ module _ {a b : ℕ → ℕ} where
   cycle-mono {c = c} s l = record { on = s c (l .on); closed = mono (out-sub c s) (l .closed) }
 
   -- a component with a cycle has one in every larger set,
-  pub cyclic-mono : {R R′ : List ℕ} {v : ℕ} → Sub R R′ → Cyclic a b R v → Cyclic a b R′ v
+  cyclic-mono : {R R′ : List ℕ} {v : ℕ} → Sub R R′ → Cyclic a b R v → Cyclic a b R′ v
   cyclic-mono s l = record { d = l .d; cycle = cycle-mono s (l .cycle); near = mono s (l .near) }
 
   -- and a spare key is spare in every larger set
@@ -165,13 +165,13 @@ module _ (a b : ℕ → ℕ) where
       go [] h k = k
       go (d ∷ D) h k = h (last (d ∷ D)) k
 
-  pub settle-asc : (n : ℕ) {R : List ℕ} → Asc R → Asc (settle a b n R)
+  settle-asc : (n : ℕ) {R : List ℕ} → Asc R → Asc (settle a b n R)
   unfolding settle
   settle-asc zero h = h
   settle-asc (suc n) {R} h = elim (round n h) [ stop s e ↦ rw e h | go-on c g e ↦ rw e (settle-asc n (asc-out c h)) ]
 
   -- once it has gone on long enough nothing is spare
-  pub settle-stops : (n : ℕ) {R : List ℕ} → Asc R → length R ≤ n → Settled a b (settle a b n R)
+  settle-stops : (n : ℕ) {R : List ℕ} → Asc R → length R ≤ n → Settled a b (settle a b n R)
   unfolding settle
   settle-stops zero h l d s = omega (arith, in-length (s .cycle .on))
   settle-stops (suc n) {R} h l d s =
@@ -194,7 +194,7 @@ module _ (a b : ℕ → ℕ) where
     stays : {R : List ℕ} {c : ℕ} → (In c F → ⊥) → Sub F R → Sub F (without c R)
     stays {R} {c} n s d i = in-out c R (λ q. n (rw (← q) at i)) (s d i)
 
-    pub settle-forest : (n : ℕ) {R : List ℕ} → Asc R → Sub R S → Sub F R → Sub F (settle a b n R)
+    settle-forest : (n : ℕ) {R : List ℕ} → Asc R → Sub R S → Sub F R → Sub F (settle a b n R)
     unfolding settle
     settle-forest zero h s f d i = f d i
     settle-forest (suc n) {R} h s f d i =
@@ -208,7 +208,7 @@ module _ (a b : ℕ → ℕ) where
     off-cycle f i n = mono (stays n f) (spans S (edge i))
 
     -- what is taken away is larger than what stays off the forest in its component
-    pub settle-min : (n : ℕ) {R : List ℕ} → Asc R → Sub R S → Sub F R → (x y : ℕ) → In x R → (In x (settle a b n R) → ⊥)
+    settle-min : (n : ℕ) {R : List ℕ} → Asc R → Sub R S → Sub F R → (x y : ℕ) → In x R → (In x (settle a b n R) → ⊥)
         → In y (settle a b n R) → (In y F → ⊥) → Joined a b S (a x) (a y) → y < x
     unfolding settle
     settle-min zero h s f x y ix nx iy ny j = absurd (nx ix)
@@ -275,7 +275,7 @@ module _ (a b : ℕ → ℕ) where
         ]
 
     -- each key off the forest has one that stays in its component
-    pub settle-some : (n : ℕ) {R : List ℕ} → Asc R → Sub R S → Sub F R → (x : ℕ) → In x R → (In x F → ⊥) → Stand (settle a b n R) x
+    settle-some : (n : ℕ) {R : List ℕ} → Asc R → Sub R S → Sub F R → (x : ℕ) → In x R → (In x F → ⊥) → Stand (settle a b n R) x
     unfolding settle
     settle-some zero h s f x i o = record { y = x; y-in = i; y-off = o; near = jrefl }
     settle-some (suc n) {R} h s f x i o =
@@ -319,7 +319,7 @@ module _ (a b : ℕ → ℕ) where
       unfolding seated
       seated-stops = settle-stops (length S) asc (omega arith)
 
-      pub seated-min : (x y : ℕ) → In x S → (In x (seated a b S) → ⊥) → In y (seated a b S) → (In y F → ⊥) → Joined a b S (a x) (a y) → y < x
+      seated-min : (x y : ℕ) → In x S → (In x (seated a b S) → ⊥) → In y (seated a b S) → (In y F → ⊥) → Joined a b S (a x) (a y) → y < x
       unfolding seated
       seated-min = settle-min (length S) asc (λ c i. i) (forest-in a b S)
 

@@ -62,7 +62,7 @@ module _ {a b : ℕ → ℕ} where
   walk-keys (step i e k) d (there m) = walk-keys k d m
 
   -- a walk joins
-  pub walk-joined : {R cs : List ℕ} {u v : ℕ} → Walk a b R cs u v → Joined a b R u v
+  walk-joined : {R cs : List ℕ} {u v : ℕ} → Walk a b R cs u v → Joined a b R u v
   walk-joined (stay e) = rw e jrefl
   walk-joined (step i e k) = jtrans (ends-edge e i) (walk-joined k)
 
@@ -98,7 +98,7 @@ module _ {a b : ℕ → ℕ} where
   walk-near (step i e k) (there m) = jtrans (ends-edge e i) (walk-near k m)
 
   -- and so are its slots
-  pub reached-near : {R cs : List ℕ} {s u v : ℕ} (k : Walk a b R cs u v) → In s (u ∷ reached a b k) → Joined a b R u s
+  reached-near : {R cs : List ℕ} {s u v : ℕ} (k : Walk a b R cs u v) → In s (u ∷ reached a b k) → Joined a b R u s
   unfolding reached
   reached-near k (here q) = rw q jrefl
   reached-near (step i e k) (there m) = jtrans (ends-edge e i) (reached-near k m)

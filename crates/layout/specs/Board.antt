@@ -33,6 +33,7 @@ entries i (suc n) = board-entry i ∷ entries (suc i) n
 unfoldable pub board-tabulation : List ℕ
 board-tabulation = entries 0 tabulation-length
 
+-- it has the length of a tabulation
 pub board-length : length board-tabulation ≡ tabulation-length
 unfolding board-tabulation
 board-length = refl

@@ -11,7 +11,7 @@ use lib.ListN.{length, set, replicate, replicate-append-replicate}
 use Rattle.cuckoo.specs.Graph.{settle, seated, stash, occupant, slot-key, slot-next}
 use Rattle.cuckoo.specs.Sets.{none, test, and-true}
 use Rattle.tabulation.specs.Refusal.{done}
-use Rattle.layout.specs.Layout.{Params, ValidSet, slot-width, words-length, sizes-in-range, stash-of, fits, slot-words, image}
+use Rattle.layout.specs.Layout.{Params, ValidSet, slot-width, words-length, sizes-in-range, fits, slot-words, image}
 use Rattle.layout.specs.Answers.{fresh-refusal, fresh-words}
 use Rattle.layout.specs.Image.{le-fits}
 
@@ -19,10 +19,6 @@ pub empty-valid : ValidSet []
 empty-valid = record { asc = none; solid = λ c i. elim i [ ] }
 
 module _ (P : Params) where
-  pub empty-stash : stash-of P [] ≡ []
-  unfolding stash
-  empty-stash = refl
-
   pub empty-fits : fits P [] ≡ true
   unfolding fits stash
   empty-fits = le-fits P [] (omega arith)

@@ -4,10 +4,10 @@ use Prim.Native.Nat.{ℕ, zero, suc, _+_, _*_, _-_, _/_, _%_, _<_, _≤_}
 use mathlib.Core.Path.{_≡_, refl, sym, _∙_, ap}
 use mathlib.Core.Bool.{true}
 use mathlib.Core.Logic.{inl, inr}
-use mathlib.Core.List.{List, [], _∷_, _++_}
+use mathlib.Core.List.{List, _++_}
 use native.Mathlib.Omega.{arith}
 use borrow.Author.Tests.{leb-true, le-leb}
-use lib.ListN.{length, getD, drop, replicate, length-append, length-replicate, List·getD-append}
+use lib.ListN.{length, getD, drop, length-append, length-replicate, List·getD-append}
 use lib.Seq.{getD-drop, drop-drop, drop-at, ext-getD}
 use Rattle.cuckoo.specs.Graph.{stash, slot-key, slot-next}
 use Rattle.cuckoo.specs.Sets.{eq?, le?}
@@ -19,13 +19,13 @@ use Rattle.layout.specs.Shape.{sized, shape-true}
 -- the kinds of positions
 
 -- Position i of words with r and s: in the header, at a slot's key or next, or in the stash.
-pub data Position (r s i : ℕ) : Type 0 where
+data Position (r s i : ℕ) : Type 0 where
   in-header : i < header-length → Position r s i
   at-key : (v : ℕ) → v < r + r → i ≡ key-at v → Position r s i
   at-next : (v : ℕ) → v < r + r → i ≡ suc (key-at v) → Position r s i
   at-stash : (j : ℕ) → j < s → i ≡ stash-at r + j → Position r s i
 
-pub position : (r s i : ℕ) → i < words-length r s → Position r s i
+position : (r s i : ℕ) → i < words-length r s → Position r s i
 position r s i h =
     elim (le? header-length i) [
       | inr l ↦ in-header l
@@ -38,14 +38,6 @@ position r s i h =
       ]
     ]
 
--- zeros after a list are what reading past its end gives
-getD-zeros : (xs : List ℕ) (n i : ℕ) → getD (xs ++ replicate n 0) i 0 ≡ getD xs i 0
-getD-zeros [] zero i = refl
-getD-zeros [] (suc n) zero = refl
-getD-zeros [] (suc n) (suc i) = getD-zeros [] n i
-getD-zeros (x ∷ xs) n zero = refl
-getD-zeros (x ∷ xs) n (suc i) = getD-zeros xs n i
-
 module _ (P : Params) (S : List ℕ) where
   pub fits-le : fits P S ≡ true → length (stash-of P S) ≤ P .places
   unfolding fits
@@ -56,7 +48,7 @@ module _ (P : Params) (S : List ℕ) where
   le-fits l = le-leb (length (stash-of P S)) (P .places) l
 
   -- the words of the slots
-  pub slot-words-length : (v n : ℕ) → length (slot-words P S v n) ≡ slot-width * n
+  slot-words-length : (v n : ℕ) → length (slot-words P S v n) ≡ slot-width * n
   unfolding slot-words
   slot-words-length v zero = omega arith
   slot-words-length v (suc n) = omega (arith, slot-words-length (suc v) n)
@@ -76,9 +68,6 @@ module _ (P : Params) (S : List ℕ) where
   pub stash-words-length : fits P S ≡ true → length (stash-words P S) ≡ P .places
   stash-words-length e = let l = fits-le e in simp (length-append, length-replicate) (omega arith)
 
-  pub stash-words-at : (i : ℕ) → getD (stash-words P S) i 0 ≡ getD (stash (slot-0 (family P)) (slot-1 (family P)) S) i 0
-  stash-words-at i = getD-zeros (stash-of P S) (P .places - length (stash-of P S)) i
-
   -- the header of the image
   pub image-slots : slots-of (image P S) ≡ P .slots
   unfolding image
@@ -97,7 +86,7 @@ module _ (P : Params) (S : List ℕ) where
   image-stashed = refl
 
   -- its slots
-  pub image-after-header : drop header-length (image P S) ≡ slot-words P S 0 (P .slots + P .slots) ++ stash-words P S
+  image-after-header : drop header-length (image P S) ≡ slot-words P S 0 (P .slots + P .slots) ++ stash-words P S
   unfolding image
   image-after-header = refl
 

@@ -43,7 +43,7 @@ module _ (tabulation ws : List ℕ) (key : ℕ) where
   abbrev word-1 : ℕ
   word-1 = getD ws (key-at (slot-1 (family (params-of tabulation ws)) key)) 0
 
-  pub stands-true : stands tabulation ws key ≡ true → Stands tabulation ws key
+  stands-true : stands tabulation ws key ≡ true → Stands tabulation ws key
   unfolding stands
   stands-true e = elim (or-cases (eqb word-0 key || eqb word-1 key) (member key (stash-part ws)) e) [
     | inl f ↦ elim (or-cases (eqb word-0 key) (eqb word-1 key) f) [
@@ -53,14 +53,14 @@ module _ (tabulation ws : List ℕ) (key : ℕ) where
     | inr q ↦ in-stash-part (member-in key (stash-part ws) q)
   ]
 
-  pub true-stands : Stands tabulation ws key → stands tabulation ws key ≡ true
+  true-stands : Stands tabulation ws key → stands tabulation ws key ≡ true
   unfolding stands
   true-stands (in-table-0 q) = rw (eq-eqb word-0 key q)
   true-stands (in-table-1 q) = rw (eq-eqb word-1 key q, or-true)
   true-stands (in-stash-part i) = rw (in-member i, or-true)
 
   -- then it is one of the key words
-  pub stands-key-word : 0 < slots-of ws → Stands tabulation ws key → KeyWord ws key
+  stands-key-word : 0 < slots-of ws → Stands tabulation ws key → KeyWord ws key
   stands-key-word some (in-table-0 q) =
       at-slot (slot-0 (family (params-of tabulation ws)) key) (omega (arith, slot-0-lt (family (params-of tabulation ws)) some key)) q
   stands-key-word some (in-table-1 q) =
@@ -70,7 +70,7 @@ module _ (tabulation ws : List ℕ) (key : ℕ) where
 module _ (P : Params) (S : List ℕ) (e : fits P S ≡ true) where
   module _ (valid : ValidSet S) where
     module _ (some : 0 < P .slots) (key : ℕ) where
-      pub image-in-stands : In key S → Stands (P .tabulation) (image P S) key
+      image-in-stands : In key S → Stands (P .tabulation) (image P S) key
       unfolding image
       image-in-stands i = elim (seen (slot-0 (family P)) (slot-1 (family P)) (valid .asc) i) [
         | table-0 q ↦ in-table-0 (at (slot-0 (family P) key) (omega (arith, slot-0-lt (family P) some key)) q)
@@ -92,7 +92,7 @@ module _ (P : Params) (S : List ℕ) (e : fits P S ≡ true) where
 
   -- What a call of lookup answers on the image of a set: 5 for a blank key, and else 0 with 1 or 0.
   module _ (full : length (P .tabulation) ≡ tabulation-length) (range : sizes-in-range (P .slots) (P .places) ≡ true) (key : ℕ) where
-    pub image-lookup-refusal : lookup-refusal (P .tabulation) (image P S) key ≡ cond (blank key) blank-key done
+    image-lookup-refusal : lookup-refusal (P .tabulation) (image P S) key ≡ cond (blank key) blank-key done
     unfolding lookup-refusal
     image-lookup-refusal = rw (eq-eqb (length (P .tabulation)) tabulation-length full, image-shaped P S range e)
 

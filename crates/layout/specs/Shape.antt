@@ -1,16 +1,15 @@
 -- What the shape of words means, as facts about numbers: for callers, which use these laws and not the text of `shaped`.
-use Prim.Native.Nat.{ℕ, _+_, _≤_, _<_}
+use Prim.Native.Nat.{ℕ, _≤_, _<_}
 use mathlib.Core.Path.{_≡_, refl}
 use mathlib.Core.Bool.{Bool, true, false, not, cond, _&&_}
 use mathlib.Core.List.{List}
 use native.Mathlib.Omega.{arith}
 use borrow.Author.Tests.{leb-true, eqb-true, le-leb, eq-eqb, ltb-false}
 use lib.Dec.{leb, ltb}
-use lib.ListN.{length, drop, length-drop}
-use lib.Seq.{take-all}
+use lib.ListN.{length}
 use Rattle.cuckoo.specs.Sets.{and-true}
 use Rattle.tabulation.specs.Hash.{slots-in-range, max-slots, in-range-pos, in-range-max, range-in}
-use Rattle.layout.specs.Layout.{header-length, key-at, slots-of, places-of, stash-count, max-places, sizes-in-range, shaped, words-length, stash-at, stash-part}
+use Rattle.layout.specs.Layout.{header-length, slots-of, places-of, stash-count, max-places, sizes-in-range, shaped, words-length}
 use Rattle.layout.specs.Answers.{view-refusal}
 
 -- r and s are in their ranges
@@ -47,12 +46,6 @@ shape-true ws h =
     rw (le-leb header-length (length ws) (omega arith), sized-true (slots-of ws) (places-of ws) (h .sizes))
     (eq-eqb (length ws) (words-length (slots-of ws) (places-of ws)) (h .size))
 
--- the stash is all that comes after the slots
-pub stash-rest : (ws : List ℕ) → Shaped ws → stash-part ws ≡ drop (stash-at (slots-of ws)) ws
-stash-rest ws h =
-    let l : length (drop (stash-at (slots-of ws)) ws) ≤ places-of ws = simp length-drop (omega arith) in
-    take-all (places-of ws) (drop (stash-at (slots-of ws)) ws) l
-
 -- a view that is not refused
 pub record Viewed (ws : List ℕ) : Type 0 where
   pub shape : Shaped ws
@@ -66,7 +59,3 @@ viewed ws = go (shaped ws) (ltb (places-of ws) (stash-count ws)) refl refl
     go true true e f h = absurd (omega arith)
     go true false e f h = record { shape = shape ws e; filled = ltb-false _ _ f }
     go false q e f h = absurd (omega arith)
-
--- a slot's words lie inside
-pub slot-inside : (ws : List ℕ) → Shaped ws → (v : ℕ) → v < slots-of ws + slots-of ws → key-at v + 1 < length ws
-slot-inside ws h v l = omega arith

@@ -12,10 +12,11 @@ use lib.ListN.{length, getD, take, drop, replicate, length-take, length-drop}
 use lib.Seq.{getD-drop, getD-take, take-all}
 use Rattle.cuckoo.specs.Graph.{keep, seated, stash, slot-key}
 use Rattle.cuckoo.specs.Sets.{Asc, asc-ext, keep-in, keep-test, in-keep}
+use Rattle.cuckoo.specs.Lists.{getD-in}
 use Rattle.cuckoo.specs.Settling.{seated-sub, seated-stops}
 use Rattle.cuckoo.specs.Seating.{look, occupant-from}
 use Rattle.cuckoo.specs.Filled.{seated-or-stash, stash-sub}
-use Rattle.ordered.specs.Sorting.{at-in, in-at}
+use Rattle.ordered.specs.Sorting.{in-at}
 use Rattle.ordered.specs.Distinct.{distinct-sorted-asc, distinct-sorted-in, in-distinct-sorted}
 use Rattle.tabulation.specs.Hash.{blank}
 use Rattle.tabulation.specs.Slots.{slot-0, slot-1, slot-0-lt, slot-1-lt}
@@ -26,14 +27,14 @@ use Rattle.layout.specs.Image.{stash-words-length, image-size, image-key
 
 -- blank keys: all that this crate knows of `blank`
 
-pub blank-zero : (c : ℕ) → blank c ≡ eqb c 0
+blank-zero : (c : ℕ) → blank c ≡ eqb c 0
 unfolding blank
 blank-zero c = refl
 
 pub not-blank : (c : ℕ) → blank c ≡ false → c ≡ 0 → ⊥
 not-blank c e = eqb-false c 0 (sym (blank-zero c) ∙ e)
 
-pub blank-false : (c : ℕ) → (c ≡ 0 → ⊥) → blank c ≡ false
+blank-false : (c : ℕ) → (c ≡ 0 → ⊥) → blank c ≡ false
 blank-false c n = blank-zero c ∙ ne-eqb c 0 n
 
 pub solid-zero : {S : List ℕ} → ValidSet S → In 0 S → ⊥
@@ -64,7 +65,7 @@ module _ (ws : List ℕ) where
       → getD (slot-keys (slots-of ws + slots-of ws) (drop header-length ws)) v 0 ≡ getD ws (key-at v) 0
   slots-at v l = slot-keys-at (slots-of ws + slots-of ws) (drop header-length ws) v l ∙ getD-drop header-length ws (slot-width * v) 0
 
-  pub stash-part-at : (i : ℕ) → i < places-of ws → getD (stash-part ws) i 0 ≡ getD ws (stash-at (slots-of ws) + i) 0
+  stash-part-at : (i : ℕ) → i < places-of ws → getD (stash-part ws) i 0 ≡ getD ws (stash-at (slots-of ws) + i) 0
   stash-part-at i l = getD-take (places-of ws) (drop (stash-at (slots-of ws)) ws) i 0 l ∙ getD-drop (stash-at (slots-of ws)) ws i 0
 
   pub stash-part-in : {c : ℕ} → In c (stash-part ws) → KeyWord ws c
@@ -73,7 +74,7 @@ module _ (ws : List ℕ) where
       let l : w .0 < places-of ws = omega (arith, w .1, length-take (places-of ws) (drop (stash-at (slots-of ws)) ws)) in
       in-stash (w .0) l (sym (stash-part-at (w .0) l) ∙ w .2)
 
-  pub in-key-words : {c : ℕ} → In c (key-words ws) → KeyWord ws c
+  in-key-words : {c : ℕ} → In c (key-words ws) → KeyWord ws c
   in-key-words {c} h = elim (List·Memᴰ·append-cases (slot-keys (slots-of ws + slots-of ws) (drop header-length ws)) h) [
     | inl i ↦
         let w = in-at i in
@@ -83,26 +84,26 @@ module _ (ws : List ℕ) where
   ]
 
   module _ (size : length ws ≡ words-length (slots-of ws) (places-of ws)) where
-    pub stash-part-length : length (stash-part ws) ≡ places-of ws
+    stash-part-length : length (stash-part ws) ≡ places-of ws
     stash-part-length = simp (length-take, length-drop) (omega arith)
 
-    pub key-word-in : {c : ℕ} → KeyWord ws c → In c (key-words ws)
+    key-word-in : {c : ℕ} → KeyWord ws c → In c (key-words ws)
     key-word-in (at-slot v l e) =
         let ks = slot-keys (slots-of ws + slots-of ws) (drop header-length ws) in
-        let i = at-in ks v (omega (arith, slot-keys-length (slots-of ws + slots-of ws) (drop header-length ws))) in
+        let i = getD-in ks v (omega (arith, slot-keys-length (slots-of ws + slots-of ws) (drop header-length ws))) in
         Memᴰ·append-left (stash-part ws) (rw (slots-at v l, e) at i)
     key-word-in (in-stash j l e) =
-        let i = at-in (stash-part ws) j (omega (arith, stash-part-length)) in
+        let i = getD-in (stash-part ws) j (omega (arith, stash-part-length)) in
         Memᴰ·append-right (slot-keys (slots-of ws + slots-of ws) (drop header-length ws)) (rw (stash-part-at j l, e) at i)
 
 -- the set of the keys that stand in given words
 
 module _ (ws : List ℕ) where
-  pub keys-in-asc : Asc (keys-in ws)
+  keys-in-asc : Asc (keys-in ws)
   unfolding keys-in
   keys-in-asc = distinct-sorted-asc (keep (λ w. not (eqb w 0)) (key-words ws))
 
-  pub keys-in-key : {c : ℕ} → In c (keys-in ws) → In c (key-words ws) × (c ≡ 0 → ⊥)
+  keys-in-key : {c : ℕ} → In c (keys-in ws) → In c (key-words ws) × (c ≡ 0 → ⊥)
   unfolding keys-in
   keys-in-key {c} i =
       let k = distinct-sorted-in (keep (λ w. not (eqb w 0)) (key-words ws)) c i in (
@@ -110,7 +111,7 @@ module _ (ws : List ℕ) where
         eqb-false c 0 (not-true (eqb c 0) (keep-test (λ w. not (eqb w 0)) (key-words ws) k)),
       )
 
-  pub key-keys-in : {c : ℕ} → In c (key-words ws) → (c ≡ 0 → ⊥) → In c (keys-in ws)
+  key-keys-in : {c : ℕ} → In c (key-words ws) → (c ≡ 0 → ⊥) → In c (keys-in ws)
   unfolding keys-in
   key-keys-in {c} i n =
       in-distinct-sorted (keep (λ w. not (eqb w 0)) (key-words ws)) c (in-keep (λ w. not (eqb w 0)) (key-words ws) (rw (ne-eqb c 0 n)) i)
@@ -144,7 +145,7 @@ module _ (a b : ℕ → ℕ) {S : List ℕ} (asc : Asc S) where
       ]
 
   -- a slot holds nothing else
-  pub slot-key-in : {c : ℕ} (v : ℕ) → slot-key a b S v ≡ c → (c ≡ 0 → ⊥) → In c S
+  slot-key-in : {c : ℕ} (v : ℕ) → slot-key a b S v ≡ c → (c ≡ 0 → ⊥) → In c S
   unfolding slot-key
   slot-key-in {c} v e n =
       elim (occupant-from a b (seated a b S) v) [
@@ -159,7 +160,7 @@ in-zeros (suc n) (here q) = q
 in-zeros (suc n) (there h) = in-zeros n h
 
 module _ (P : Params) (S : List ℕ) where
-  pub stash-word-in : {c : ℕ} → In c (stash-words P S) → (c ≡ 0 → ⊥) → In c (stash-of P S)
+  stash-word-in : {c : ℕ} → In c (stash-words P S) → (c ≡ 0 → ⊥) → In c (stash-of P S)
   stash-word-in i n =
       elim (List·Memᴰ·append-cases (stash-of P S) i) [ inl k ↦ k | inr k ↦ absurd (n (in-zeros (P .places - length (stash-of P S)) k)) ]
 
@@ -176,11 +177,11 @@ module _ (P : Params) (S : List ℕ) where
       unfolding image
       image-key-in (at-slot v l q) n = slot-key-in (slot-0 (family P)) (slot-1 (family P)) (valid .asc) v (sym (image-key P S v l) ∙ q) n
       image-key-in {c} (in-stash i l q) n =
-          let k = at-in (stash-words P S) i (omega (arith, stash-words-length P S e)) in
+          let k = getD-in (stash-words P S) i (omega (arith, stash-words-length P S e)) in
           stash-sub (slot-0 (family P)) (slot-1 (family P)) S c (stash-word-in (rw (← image-stash-at P S i, q) at k) n)
 
       -- and each of them does.
-      pub image-in-key : 0 < P .slots → {c : ℕ} → In c S → KeyWord (image P S) c
+      image-in-key : 0 < P .slots → {c : ℕ} → In c S → KeyWord (image P S) c
       unfolding image
       image-in-key some {c} i = elim (seen (slot-0 (family P)) (slot-1 (family P)) (valid .asc) i) [
         | table-0 q ↦

@@ -9,7 +9,7 @@ use native.Mathlib.Omega.{arith}
 use borrow.Author.Tests.{eq-eqb, ne-eqb}
 use lib.ListN.{length, getD, set, take, drop, drop-of-length-le}
 use lib.Seq.{take-suc-set, drop-set-lt, drop-cons}
-use Rattle.cuckoo.specs.Sets.{Sub, Asc, asc-ext, eq?}
+use Rattle.cuckoo.specs.Sets.{Sub, Asc, eq?}
 use Rattle.ordered.specs.Keys.{sorted, distinct}
 use Rattle.ordered.specs.Sorting.{Sorted, sorted-sorted, sorted-in, in-sorted}
 
@@ -22,7 +22,7 @@ distinct-new : (x y : ℕ) (ys : List ℕ) → (x ≡ y → ⊥) → distinct (x
 unfolding distinct
 distinct-new x y ys ne = rw (ne-eqb x y ne)
 
-pub distinct-in : (xs : List ℕ) → Sub (distinct xs) xs
+distinct-in : (xs : List ℕ) → Sub (distinct xs) xs
 unfolding distinct
 distinct-in [] d h = h
 distinct-in (x ∷ []) d h = h
@@ -32,7 +32,7 @@ distinct-in (x ∷ y ∷ ys) d h =
       | inr ne ↦ elim (rw (distinct-new x y ys ne) at h) [ here q ↦ here q | there i ↦ there (distinct-in (y ∷ ys) d i) ]
     ]
 
-pub in-distinct : (xs : List ℕ) → Sub xs (distinct xs)
+in-distinct : (xs : List ℕ) → Sub xs (distinct xs)
 unfolding distinct
 in-distinct [] d h = h
 in-distinct (x ∷ []) d h = h
@@ -52,7 +52,7 @@ distinct-length (x ∷ y ∷ ys) =
       | inr ne ↦ rw (distinct-new x y ys ne) (omega (arith, distinct-length (y ∷ ys)))
     ]
 
-pub distinct-asc : {xs : List ℕ} → Sorted xs → Asc (distinct xs)
+distinct-asc : {xs : List ℕ} → Sorted xs → Asc (distinct xs)
 unfolding distinct
 distinct-asc Sorted.none = Asc.none
 distinct-asc (Sorted.some {c = x} {R = []} h k) = Asc.some {c = x} {R = []} (λ d i. elim i [ ]) Asc.none
@@ -74,12 +74,6 @@ distinct-sorted-in xs d h = sorted-in xs d (distinct-in (sorted xs) d h)
 
 pub in-distinct-sorted : (xs : List ℕ) → Sub xs (distinct (sorted xs))
 in-distinct-sorted xs d h = in-distinct (sorted xs) d (in-sorted xs d h)
-
-pub distinct-sorted-only : (xs S : List ℕ) → Asc S → Sub S xs → Sub xs S → distinct (sorted xs) ≡ S
-distinct-sorted-only xs S h s t =
-    asc-ext (distinct (sorted xs)) S (distinct-sorted-asc xs) h
-    (λ d i. t d (distinct-sorted-in xs d i))
-    (λ d i. in-distinct-sorted xs d (s d i))
 
 pub distinct-none : (xs : List ℕ) → length xs ≡ 0 → distinct xs ≡ []
 unfolding distinct

@@ -14,19 +14,19 @@ use lib.Seq.{getD-append-seam, take-append-seam, drop-append-seam, drop-append-a
 use Rattle.cuckoo.specs.Graph.{member, without}
 use Rattle.cuckoo.specs.Sets.{Asc, none, some, asc-ext, asc-keep, asc-out, keep-in, keep-test, in-keep, length-keep}
 use Rattle.cuckoo.specs.Sets.{below, below-in, below-lt, in-below, out-in, out-ne, in-out, in?, eq?, le?, in-member, no-member}
+use Rattle.cuckoo.specs.Lists.{getD-in}
 use Rattle.ordered.specs.Keys.{rank-of, above, with-key}
-use Rattle.ordered.specs.Sorting.{at-in}
 
 -- the larger keys
-pub above-in : (n : ℕ) (R : List ℕ) {d : ℕ} → In d (above n R) → In d R
+above-in : (n : ℕ) (R : List ℕ) {d : ℕ} → In d (above n R) → In d R
 unfolding above
 above-in n R h = keep-in _ R h
 
-pub above-lt : (n : ℕ) (R : List ℕ) {d : ℕ} → In d (above n R) → n < d
+above-lt : (n : ℕ) (R : List ℕ) {d : ℕ} → In d (above n R) → n < d
 unfolding above
 above-lt n R {d} h = ltb-true n d (keep-test _ R h)
 
-pub in-above : (n : ℕ) (R : List ℕ) {d : ℕ} → n < d → In d R → In d (above n R)
+in-above : (n : ℕ) (R : List ℕ) {d : ℕ} → n < d → In d R → In d (above n R)
 unfolding above
 in-above n R {d} l h = in-keep (λ d. ltb n d) R (lt-ltb n d l) h
 
@@ -93,17 +93,8 @@ without-with key S h n =
     ])
     (λ d j. in-out key (with-key key S) (λ e. n (rw e j)) (with-there key S j))
 
-pub with-without : (key : ℕ) (S : List ℕ) → Asc S → In key S → with-key key (without key S) ≡ S
-with-without key S h i =
-    asc-ext (with-key key (without key S)) S (asc-with key (asc-out key h)) h
-    (λ d j. elim (with-cases key (without key S) j) [ inl e ↦ rw e i | inr k ↦ out-in key S k ])
-    (λ d j. elim (eq? key d) [
-      | inl e ↦ rw (sym e) (with-here key (without key S))
-      | inr ne ↦ with-there key (without key S) (in-out key S ne j)
-    ])
-
 -- a set without the key: the smaller keys and the larger keys
-pub without-split : (key : ℕ) (S : List ℕ) → Asc S → without key S ≡ below key S ++ above key S
+without-split : (key : ℕ) (S : List ℕ) → Asc S → without key S ≡ below key S ++ above key S
 without-split key S h =
     asc-ext (without key S) (below key S ++ above key S) (asc-out key h)
     (asc-append (asc-below key h) (asc-above key h) (λ d e i j. omega (arith, below-lt key S i, above-lt key S j)))
@@ -135,8 +126,8 @@ unfolding rank-of below
 rank-le key S = length-keep (λ d. ltb d key) S
 
 -- what stands there is in the set, and a key of the set stands there
-pub found-rank : (key : ℕ) (S : List ℕ) → rank-of S key < length S → getD S (rank-of S key) 0 ≡ key → In key S
-found-rank key S l e = rw e at (at-in S (rank-of S key) l)
+found-rank : (key : ℕ) (S : List ℕ) → rank-of S key < length S → getD S (rank-of S key) 0 ≡ key → In key S
+found-rank key S l e = rw e at (getD-in S (rank-of S key) l)
 
 -- what stands before the rank, at it and behind it
 module _ (key : ℕ) (S : List ℕ) (h : Asc S) where
@@ -188,7 +179,7 @@ pub rank-low : (key : ℕ) {S : List ℕ} → Asc S → (i : ℕ) → i < length
 rank-low key none i l k = absurd (not-suc-le-zero l)
 rank-low key (some {c} {R} g r) zero l k = rw (rank-less key c R k) (omega arith)
 rank-low key (some {c} {R} g r) (suc i) l k =
-    let m = g (getD R i 0) (at-in R i (le-of-suc-le-suc l)) in
+    let m = g (getD R i 0) (getD-in R i (le-of-suc-le-suc l)) in
     rw (rank-less key c R (omega arith)) (suc-le-suc (rank-low key r i (le-of-suc-le-suc l) k))
 
 pub rank-high : (key : ℕ) {S : List ℕ} → Asc S → (i : ℕ) → i < length S → key ≤ getD S i 0 → rank-of S key ≤ i

@@ -35,7 +35,7 @@ module _ {words : List ℕ} {child parent : ℕ} (two : Mergeable words child pa
       getD-set-other (set words child parent) parent child (getD words parent 0 + size-of words child) 0 (two .differ)
       ∙ getD-set-same words child parent 0 (two .one .inside)
 
-  pub linked-parent : getD (linked words child parent) parent 0 ≡ getD words parent 0 + size-of words child
+  linked-parent : getD (linked words child parent) parent 0 ≡ getD words parent 0 + size-of words child
   unfolding linked
   linked-parent =
       getD-set-same (set words child parent) parent (getD words parent 0 + size-of words child) 0 (simp length-set (two .other .inside))

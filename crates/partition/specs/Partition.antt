@@ -11,7 +11,7 @@ use Rattle.cuckoo.specs.Graph.{label}
 use Rattle.cuckoo.specs.Sets.{le?}
 use Rattle.cuckoo.specs.Joined.{Joined, past, along, back, jrefl, more, split}
 use Rattle.partition.specs.Words.{max-slots, max-steps, singletons-of, Representative, walk-stop, rep-of, size-of, Mergeable}
-use Rattle.partition.specs.Tally.{tally, tally-le, tally-pos, tally-two, tally-ext, tally-one}
+use Rattle.partition.specs.Tally.{tally, tally-le, tally-two, tally-ext, tally-one}
 use Rattle.partition.specs.Chain.{Chain, top, chain-rep, chain-walk}
 
 -- how many slots have r for their representative
@@ -43,7 +43,7 @@ module _ (a b : ℕ → ℕ) where
     pub law : (u v : ℕ) → u < n → v < n → (rep-of words u ≡ rep-of words v) ↔ Joined a b R u v
 
 -- a representative is its own
-pub rep-self : (words : List ℕ) {r : ℕ} → Representative words r → rep-of words r ≡ r
+rep-self : (words : List ℕ) {r : ℕ} → Representative words r → rep-of words r ≡ r
 unfolding rep-of
 rep-self words {r} h = walk-stop words max-steps r (h .marked)
 
@@ -72,9 +72,6 @@ module _ {a b : ℕ → ℕ} {R : List ℕ} {n : ℕ} {words : List ℕ} (P : Pa
   pub size-le : {r : ℕ} → Representative words r → size-of words r ≤ n
   size-le {r} h = omega (arith, P .honest r h, tally-le (rep-of words) r (length words), P .long)
 
-  pub size-pos : {r : ℕ} → Representative words r → 0 < size-of words r
-  size-pos {r} h = omega (arith, P .honest r h, tally-pos (rep-of words) r (length words) r (h .inside) (rep-self words h))
-
   is-rep : (v : ℕ) (l : v < n) → Representative words (P .reached v l .rep)
   is-rep v l = chain-rep (P .reached v l .chain) (omega (arith, P .long))
 
@@ -86,12 +83,6 @@ module _ {a b : ℕ → ℕ} {R : List ℕ} {n : ℕ} {words : List ℕ} (P : Pa
 
   pub rep-lt : (v : ℕ) → v < n → rep-of words v < n
   rep-lt v l = omega (arith, rep-marked v l .inside, P .long)
-
-  pub rep-rep : (v : ℕ) → v < n → rep-of words (rep-of words v) ≡ rep-of words v
-  rep-rep v l = rep-self words (rep-marked v l)
-
-  pub rep-joined : (v : ℕ) → v < n → Joined a b R v (rep-of words v)
-  rep-joined v l = P .law v (rep-of words v) l (rep-lt v l) .0 (sym (rep-rep v l))
 
   -- two different representatives may be united
   pub mergeable : {r s : ℕ} → Representative words r → Representative words s → (r ≡ s → ⊥) → Mergeable words r s

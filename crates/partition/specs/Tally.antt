@@ -40,18 +40,6 @@ module _ (f : ℕ → ℕ) (r : ℕ) where
       let ih = tally-le n in
       elim (eq? (f n) r) [ inl e ↦ omega (arith, hit n e) | inr ne ↦ omega (arith, miss n ne) ]
 
-  pub tally-pos : (n v : ℕ) → v < n → f v ≡ r → 0 < tally f r n
-  tally-pos zero v l e = omega arith
-  tally-pos (suc n) v l e =
-      let ih = tally-pos n v in
-      elim (eq? (f n) r) [
-        | inl e′ ↦ omega (arith, hit n e′)
-        | inr ne ↦ elim (eq? v n) [
-          | inl q ↦ absurd (ne (rw (← q) e))
-          | inr nq ↦ let p = ih (omega arith) e in omega (arith, miss n ne)
-        ]
-      ]
-
 -- two different numbers share nothing
 pub tally-two : (f : ℕ → ℕ) (r s n : ℕ) → (r ≡ s → ⊥) → tally f r n + tally f s n ≤ n
 unfolding tally

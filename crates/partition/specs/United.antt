@@ -1,6 +1,6 @@
 -- Union by size keeps the invariant of specs/Partition.antt: a key whose ends have different representatives unites their sets. With it what the
 -- words say afterwards of sizes and representatives. Assumes nothing.
-use Prim.Native.Nat.{ℕ, suc, _+_, _≤_, _<_}
+use Prim.Native.Nat.{ℕ, suc, _≤_, _<_}
 use mathlib.Core.Path.{_≡_, sym, _∙_, ap}
 use mathlib.Core.Logic.{_⊎_, inl, inr}
 use mathlib.Core.List.{List, _∷_}
@@ -173,30 +173,6 @@ module _ {words : List ℕ} {first second : ℕ} (two : Mergeable words first se
         | inl q ↦ moved-other (smaller words first second) (larger words first second) second (λ e. two .differ (sym (e ∙ q .0))) ∙ sym (q .1)
         | inr q ↦ moved-child (smaller words first second) (larger words first second) second (sym (q .0))
       ]
-
-  -- the size of the united set is the sum of the two
-  pub size-united : size-of (united words first second) (larger words first second) ≡ size-of words first + size-of words second
-  unfolding united
-  size-united =
-      size-parent by-size ∙ elim (sorted words first second) [ inl q ↦ rw (q .0, q .1) (omega arith) | inr q ↦ rw (q .0, q .1) (omega arith) ]
-
-  module _ {a b : ℕ → ℕ} {R : List ℕ} {n : ℕ} (P : Partition a b R n words) where
-    -- the slots of both sets have the representative of the larger, and the others keep theirs
-    pub rep-united-first : (v : ℕ) → v < n → rep-of words v ≡ first → rep-of (united words first second) v ≡ larger words first second
-    unfolding united
-    rep-united-first v l e = rep-linked P by-size ordered v l ∙ rw e first-moved
-
-    pub rep-united-second : (v : ℕ) → v < n → rep-of words v ≡ second → rep-of (united words first second) v ≡ larger words first second
-    unfolding united
-    rep-united-second v l e = rep-linked P by-size ordered v l ∙ rw e second-moved
-
-    pub rep-united-other :
-        (v : ℕ) → v < n → (rep-of words v ≡ first → ⊥) → (rep-of words v ≡ second → ⊥) → rep-of (united words first second) v ≡ rep-of words v
-    unfolding united
-    rep-united-other v l nf ns =
-        rep-linked P by-size ordered v l
-        ∙ moved-other (smaller words first second) (larger words first second) (rep-of words v)
-        (λ e. elim (sorted words first second) [ inl q ↦ nf (e ∙ q .0) | inr q ↦ ns (e ∙ q .0) ])
 
 -- a key whose ends have different representatives unites their sets
 pub add-between : {a b : ℕ → ℕ} {R : List ℕ} {n : ℕ} {words : List ℕ} → Partition a b R n words → (c : ℕ) → a c < n → b c < n
