@@ -1,14 +1,14 @@
 -- Whether the held words hold a key, and where. Assumes nothing.
 use Prim.Native.Nat.{ℕ, _<_}
 use mathlib.Core.Path.{_≡_, refl}
-use mathlib.Core.Bool.{true, false, cond}
+use mathlib.Core.Bool.{true, false, cond, or-true}
 use mathlib.Core.Logic.{_⊎_, inl, inr}
 use mathlib.Core.List.{List, List·Memᴰ as In}
 use lib.Dec.{eqb}
 use lib.ListN.{length, getD}
 use borrow.Author.Tests.{eqb-true, eq-eqb, ne-eqb}
 use Rattle.cuckoo.specs.Graph.{occupant}
-use Rattle.cuckoo.specs.Sets.{eq?, or-true}
+use Rattle.cuckoo.specs.Sets.{eq?}
 use Rattle.cuckoo.specs.Joined.{Joined, jrefl}
 use Rattle.cuckoo.specs.Seating.{from-a, from-b}
 use Rattle.forest.specs.Oriented.{Oriented, standing}

@@ -1,4 +1,5 @@
--- The forest of a set of keys. Assumes nothing.
+-- The forest of a set of keys: those that, as keys are laid down from the smallest up, join what was not joined before (Kruskal's rule). It joins what
+-- the set joins and has no cycle, and no key of it is the largest on a cycle. Assumes nothing.
 use Prim.Native.Nat.{ℕ, zero, suc, _<_, _≤_}
 use mathlib.Core.Path.{sym, _∙_}
 use mathlib.Core.Bool.{not, true≢false}

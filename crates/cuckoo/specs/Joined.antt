@@ -1,4 +1,6 @@
--- Joined slots. Assumes nothing.
+-- Joined slots: `joined` of Graph as a statement, `Joined`. It is an equivalence; more keys join more (`mono`), one key more joins in one of three ways
+-- (`split`), and nothing else joins (`least`). So a key on a cycle can be left out (`cut`), and only a component's own keys join it (`confine`).
+-- Assumes nothing.
 use Prim.Native.Nat.{ℕ}
 use mathlib.Core.Path.{_≡_, refl, sym, _∙_, ap}
 use mathlib.Core.Bool.{true, false, not, cond}
@@ -10,6 +12,7 @@ use Rattle.cuckoo.specs.Graph.{label, joined, without}
 use Rattle.cuckoo.specs.Sets.{test, eq?, Sub, in-out, around}
 
 module _ (a b : ℕ → ℕ) where
+  -- u and v have one label
   pub record Joined (R : List ℕ) (u v : ℕ) : Type 0 where
     pub same : label a b R u ≡ label a b R v
 
@@ -35,6 +38,7 @@ module _ (a b : ℕ → ℕ) where
       ]
 
 module _ {a b : ℕ → ℕ} where
+  -- an equivalence
   pub jrefl : {R : List ℕ} {u : ℕ} → Joined a b R u u
   jrefl = record { same = refl }
 
@@ -44,6 +48,7 @@ module _ {a b : ℕ → ℕ} where
   pub jtrans : {R : List ℕ} {u v w : ℕ} → Joined a b R u v → Joined a b R v w → Joined a b R u w
   jtrans j k = record { same = cc }
 
+  -- with one key more, what was joined still is
   pub more : {c : ℕ} {R : List ℕ} {u v : ℕ} → Joined a b R u v → Joined a b (c ∷ R) u v
   unfolding label
   more {c} {R} j = record { same = ap (λ (x : ℕ). cond (eqb x (label a b R (a c))) (label a b R (b c)) x) (j .same) }
@@ -60,6 +65,7 @@ module _ {a b : ℕ → ℕ} where
   edge {c} (here {x = d} {xs = R} e) = rw e edge-head
   edge (there h) = more (edge h)
 
+  -- and nothing is joined but past the new key or along it
   pub split : (c : ℕ) (R : List ℕ) {u v : ℕ} → Joined a b (c ∷ R) u v → Way a b c R u v
   split c R {u} {v} j = go (test (eqb (label a b R u) (label a b R (a c)))) (test (eqb (label a b R v) (label a b R (a c))))
     where
@@ -95,6 +101,7 @@ module _ {a b : ℕ → ℕ} where
   pub within : {R R′ : List ℕ} {u v : ℕ} → ((c : ℕ) → In c R → Joined a b R′ (a c) (b c)) → Joined a b R u v → Joined a b R′ u v
   within {R} {R′} s j = record { same = least (label a b R′) R (λ c i. s c i .same) j }
 
+  -- the definition that computes says the same
   pub joined-true : {R : List ℕ} {u v : ℕ} → joined a b R u v ≡ true → Joined a b R u v
   unfolding joined
   joined-true {R} {u} {v} e = record { same = eqb-true (label a b R u) (label a b R v) e }
@@ -103,21 +110,21 @@ module _ {a b : ℕ → ℕ} where
   unfolding joined
   true-joined {R} {u} {v} j = eq-eqb (label a b R u) (label a b R v) (j .same)
 
-  pub no-joined : {R : List ℕ} {u v : ℕ} → (Joined a b R u v → ⊥) → not (joined a b R u v) ≡ true
+  pub false-joined : {R : List ℕ} {u v : ℕ} → (Joined a b R u v → ⊥) → joined a b R u v ≡ false
   unfolding joined
-  no-joined {R} {u} {v} n = rw (ne-eqb (label a b R u) (label a b R v) (λ e. n (record { same = e })))
+  false-joined {R} {u} {v} n = ne-eqb (label a b R u) (label a b R v) (λ e. n (record { same = e }))
+
+  pub no-joined : {R : List ℕ} {u v : ℕ} → (Joined a b R u v → ⊥) → not (joined a b R u v) ≡ true
+  no-joined n = rw (false-joined n)
 
   -- a key on a cycle joins nothing that the others do not join
   pub cut : (c : ℕ) (R : List ℕ) {u v : ℕ} → Joined a b (without c R) (a c) (b c) → Joined a b R u v → Joined a b (without c R) u v
   cut c R l j =
       within (λ d i. elim (eq? c d) [ inl e ↦ rw (← e) l | inr ne ↦ edge (in-out c R ne i) ]) j
 
+  -- as `split`, for a key of the set
   pub split-out : (c : ℕ) (R : List ℕ) {u v : ℕ} → Joined a b R u v → Way a b c (without c R) u v
   split-out c R j = split c (without c R) (mono (around c R) j)
-
-  pub false-joined : {R : List ℕ} {u v : ℕ} → (Joined a b R u v → ⊥) → joined a b R u v ≡ false
-  unfolding joined
-  false-joined {R} {u} {v} n = ne-eqb (label a b R u) (label a b R v) (λ e. n (record { same = e }))
 
   -- only the keys of its own component join a slot to another: R lies in S, and R′ joins the ends of those keys of R that are in u's component of S
   pub confine : {R R′ : List ℕ} (S : List ℕ) {u v : ℕ} → Sub R S

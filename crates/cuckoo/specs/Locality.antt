@@ -5,7 +5,6 @@ use mathlib.Core.Path.{_≡_, sym, _∙_, ap}
 use mathlib.Core.Bool.{Bool, true, not, _&&_, _||_, and-true as and-right}
 use mathlib.Core.Logic.{inl, inr, _↔_}
 use mathlib.Core.List.{List, List·Memᴰ as In}
-use borrow.Author.Tests.{eqb-true}
 use lib.Dec.{eqb}
 use Rattle.cuckoo.specs.Graph.{joined, member, keep, without, first, onCycle, component, seated, stash, root, sits, occupant, next}
 use Rattle.cuckoo.specs.Sets.{Sub, test, member-in, in-member, out-in, in-out, out-ne, out-sub, below, below-in, below-lt, in-below, below-sub, Asc, asc-ext, and-true}
@@ -13,7 +12,7 @@ use Rattle.cuckoo.specs.Lists.{bool-ext, keep-ext, keep-keep, keep-both}
 use Rattle.cuckoo.specs.Joined.{Joined, jrefl, jsym, jtrans, edge, mono, joined-true, true-joined, cut, confine}
 use Rattle.cuckoo.specs.Forest.{forest, forest-in, forest-no, in-forest}
 use Rattle.cuckoo.specs.Settling.{OnCycle, Cyclic, Spare, onCycle-true, true-onCycle, tree, smallest, seated-sub, seated-joined, cycle-mono, spare-mono, seated-asc, seated-is, is-seated}
-use Rattle.cuckoo.specs.Seating.{ends-near, rooted, occupant-from}
+use Rattle.cuckoo.specs.Seating.{ends-near, ends-of, rooted, occupant-from}
 use Rattle.cuckoo.specs.Components.{in-component, component-in, component-near, asc-component}
 
 module _ (a b : ℕ → ℕ) where
@@ -139,10 +138,7 @@ module _ (a b : ℕ → ℕ) where
         (λ c i e. rw (sits-component k i (jtrans (jsym k) (joined-true e)))))
       where
         at-end : {c : ℕ} → In c S → (eqb u (a c) || eqb u (b c)) ≡ true → Joined a b S v (a c)
-        at-end {c} i e = elim (test (eqb u (a c))) [
-          | inl t ↦ rw (← eqb-true u (a c) t) k
-          | inr t ↦ jtrans (rw (eqb-true u (b c) (rw t at e)) at k) (jsym (edge i))
-        ]
+        at-end {c} i e = jtrans k (ends-near (ends-of a b u c e .1) i)
 
     -- and its keys point to the keys to which they would point
     next-component : {c : ℕ} → Joined a b S v (a c) → next a b S c ≡ next a b C c

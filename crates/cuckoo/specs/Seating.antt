@@ -1,13 +1,14 @@
--- Where the keys that stay sit. Assumes nothing.
+-- Where the keys that stay sit: `sits` and `occupant` of Graph as statements, one key to a slot. `Ends` names the two slots of a key, either first. Where
+-- nothing is spare each key sits in one of its slots, and shows there (`look`). Assumes nothing.
 use Prim.Native.Nat.{ℕ}
 use mathlib.Core.Path.{_≡_, refl, sym, _∙_, ap}
-use mathlib.Core.Bool.{Bool, true, false, _&&_, _||_, true≢false}
+use mathlib.Core.Bool.{Bool, true, false, _&&_, _||_, or-true, true≢false}
 use mathlib.Core.Logic.{_⊎_, inl, inr}
 use mathlib.Core.List.{List, [], _∷_, List·Memᴰ as In, List·Memᴰ·head as here}
 use borrow.Author.Tests.{eqb-true, eqb-false, eq-eqb, ne-eqb, not-true}
 use lib.Dec.{eqb}
 use Rattle.cuckoo.specs.Graph.{joined, keep, without, onCycle, component, root, sits, occupant, first}
-use Rattle.cuckoo.specs.Sets.{keep-in, keep-test, in-keep, test, eq?, Sub, out-in, in-out, outs, first-in, first-two, and-true, or-true}
+use Rattle.cuckoo.specs.Sets.{keep-in, keep-test, in-keep, test, eq?, Sub, out-in, in-out, outs, first-in, first-two, and-true}
 use Rattle.cuckoo.specs.Settling.{OnCycle, Settled, onCycle-true, true-onCycle, onCycle?}
 use Rattle.cuckoo.specs.Joined.{Joined, past, along, back, jrefl, jsym, jtrans, edge, mono, split-out, cut, joined-true, true-joined, no-joined}
 
@@ -85,6 +86,7 @@ module _ {a b : ℕ → ℕ} {X : List ℕ} {p : ℕ} where
         let up : Sub (without c X) X = λ d h. out-in c X h in
         bare c i (jtrans (jsym (mono up j)) (ends-near e i)) (ends-cycle e (jtrans j (jsym k)))
 
+    -- so one end of each key of the component is cut off from p without it
     pub away : {c : ℕ} → In c X → Joined a b X p (a c) → (Joined a b (without c X) (a c) p → ⊥) ⊎ (Joined a b (without c X) (b c) p → ⊥)
     away i j =
         elim (one-near (from-a refl refl) i j) [
@@ -137,11 +139,13 @@ module _ {a b : ℕ → ℕ} {K : List ℕ} {z : ℕ} where
 
 -- the Boolean rule, read as the laws above
 module _ (a b : ℕ → ℕ) where
+  -- z is a key of the component of v, on a cycle if any key there is
   pub record Rooted (K : List ℕ) (v z : ℕ) : Type 0 where
     pub z-in : In z K
     pub near : Joined a b K v (a z)
     pub flat : (OnCycle a b K z → ⊥) → (d : ℕ) → Joined a b K v (a d) → OnCycle a b K d → ⊥
 
+  -- `root` is such a key,
   pub rooted : (K : List ℕ) {v c : ℕ} → In c K → Joined a b K v (a c) → Rooted K v (root a b K v)
   unfolding root component
   rooted K {v} {c} i j =
@@ -162,10 +166,12 @@ module _ (a b : ℕ → ℕ) where
       no-mem : {L : List ℕ} {d : ℕ} → L ≡ [] → In d L → ⊥
       no-mem e h = elim (rw e at h) [ ]
 
+  -- and the same for joined slots
   pub root-same : (K : List ℕ) {u v : ℕ} → Joined a b K u v → root a b K u ≡ root a b K v
   unfolding root component joined
   root-same K j = rw (j .same)
 
+  -- `sits` is `Sat`, seen from the root
   pub sits-true : (K : List ℕ) (v c : ℕ) → sits a b K v c ≡ true → Sat a b K (root a b K (a c)) v c
   unfolding sits
   sits-true K v c e = go (test (eqb c z)) (test (onCycle a b K z))
@@ -189,22 +195,24 @@ module _ (a b : ℕ → ℕ) where
   true-sits K v c (cycle-root l q r) = rw (eq-eqb c (root a b K (a c)) q, true-onCycle l) (eq-eqb v (a (root a b K (a c))) r)
   true-sits K v c (cycle-away l q o) = rw (ne-eqb c (root a b K (a c)) q, true-onCycle l) (no-joined o)
 
+  -- the test for an end
+  pub ends-of : (v c : ℕ) → (eqb v (a c) || eqb v (b c)) ≡ true → (w : ℕ) × Ends a b c v w
+  ends-of v c e =
+      elim (test (eqb v (a c))) [
+        | inl t ↦ (b c, from-a (eqb-true v (a c) t) refl)
+        | inr t ↦ (a c, from-b (eqb-true v (b c) (rw t at e)) refl)
+      ]
+
+  of-ends : {c v w : ℕ} → Ends a b c v w → (eqb v (a c) || eqb v (b c)) ≡ true
+  of-ends {c} {v} (from-a p q) = rw (eq-eqb v (a c) p)
+  of-ends {c} {v} (from-b p q) = rw (eq-eqb v (b c) p, or-true)
+
   -- a slot shows the key that sits there
   module _ (K : List ℕ) (v : ℕ) where
     here-sits : ℕ → Bool
     here-sits c = (eqb v (a c) || eqb v (b c)) && sits a b K v c
 
-    ends-of : (c : ℕ) → (eqb v (a c) || eqb v (b c)) ≡ true → (w : ℕ) × Ends a b c v w
-    ends-of c e =
-        elim (test (eqb v (a c))) [
-          | inl t ↦ (b c, from-a (eqb-true v (a c) t) refl)
-          | inr t ↦ (a c, from-b (eqb-true v (b c) (rw t at e)) refl)
-        ]
-
-    of-ends : {c w : ℕ} → Ends a b c v w → (eqb v (a c) || eqb v (b c)) ≡ true
-    of-ends {c} (from-a p q) = rw (eq-eqb v (a c) p)
-    of-ends {c} (from-b p q) = rw (eq-eqb v (b c) p, or-true)
-
+    -- a key that sits in a slot is its occupant
     pub occupant-is : {c w : ℕ} → In c K → Ends a b c v w → sits a b K v c ≡ true → occupant a b K v ≡ c
     unfolding occupant here-sits
     occupant-is {c} {w} i e t =
@@ -212,7 +220,7 @@ module _ (a b : ℕ → ℕ) where
         let f = first-in (keep here-sits K) ic in
         let d = first (keep here-sits K) in
         let g = and-true (eqb v (a d) || eqb v (b d)) (sits a b K v d) (keep-test here-sits K f) in
-        let x = ends-of d (g .0) in
+        let x = ends-of v d (g .0) in
         let id = keep-in here-sits K f in
         let jc = ends-near e i in
         let jd = ends-near (x .1) id in
@@ -233,7 +241,7 @@ module _ (a b : ℕ → ℕ) where
         go (d ∷ L) e =
             let f : In d (keep here-sits K) = rw e (here refl) in
             let g = and-true (eqb v (a d) || eqb v (b d)) (sits a b K v d) (keep-test here-sits K f) in
-            inr (keep-in here-sits K f, ends-of d (g .0), g .1)
+            inr (keep-in here-sits K f, ends-of v d (g .0), g .1)
 
   -- where nothing is spare each key shows in one of its slots
   pub look : (K : List ℕ) → Settled a b K → (c : ℕ) → In c K → (occupant a b K (a c) ≡ c) ⊎ (occupant a b K (b c) ≡ c)

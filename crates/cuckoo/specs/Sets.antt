@@ -1,7 +1,8 @@
--- Lists of numbers as sets: membership, and what `keep` and `without` keep. Assumes nothing.
+-- Lists of numbers as sets: membership, what `keep` and `without` keep, the smaller members (`below`), and ascending lists, which are equal where their
+-- members are (`asc-ext`). Assumes nothing.
 use Prim.Native.Nat.{ℕ, suc, _<_, _≤_, max, zero-le}
 use mathlib.Core.Path.{_≡_, refl, sym, _∙_}
-use mathlib.Core.Bool.{Bool, true, false, not, cond, _&&_, _||_, true≢false, false≢true}
+use mathlib.Core.Bool.{Bool, true, false, not, cond, _&&_, or-true, true≢false, false≢true}
 use mathlib.Core.Logic.{_⊎_, inl, inr}
 use mathlib.Core.List.{List, [], _∷_, _++_, List·Memᴰ as In, List·Memᴰ·head as here, List·Memᴰ·tail as there}
 use native.Mathlib.Omega.{arith}
@@ -18,14 +19,6 @@ Sub R R′ = (c : ℕ) → In c R → In c R′
 pub test : (t : Bool) → (t ≡ true) ⊎ (t ≡ false)
 test true = inl refl
 test false = inr refl
-
-pub or-true : (t : Bool) → (t || true) ≡ true
-or-true true = refl
-or-true false = refl
-
-pub or-false : (t : Bool) → (t || false) ≡ t
-or-false true = refl
-or-false false = refl
 
 -- what `keep` keeps
 cond-in : (t : Bool) {c d : ℕ} {L : List ℕ} → In c (cond t (d ∷ L) L) → ((t ≡ true) × (c ≡ d)) ⊎ In c L

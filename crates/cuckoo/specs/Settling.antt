@@ -1,4 +1,5 @@
--- What stays when the largest spare keys are taken away. Assumes nothing.
+-- What stays when the largest spare keys are taken away: the forest and, in each component, the smallest key outside it (`seated-is`, `is-seated`). First
+-- `onCycle`, `cyclic` and `spare` of Graph as statements; then one round; then all rounds, `settle`; then the seated keys. Assumes nothing.
 use Prim.Native.Nat.{ℕ, zero, suc, _<_, _≤_}
 use mathlib.Core.Path.{_≡_, refl, sym, _∙_}
 use mathlib.Core.Bool.{true, true≢false}
@@ -13,15 +14,18 @@ use Rattle.cuckoo.specs.Joined.{Joined, past, along, back, jrefl, jsym, 
 use Rattle.cuckoo.specs.Forest.{forest, forest-in, spans, acyclic, not-largest}
 
 module _ (a b : ℕ → ℕ) where
+  -- c lies on a cycle: the other keys join its two slots as well
   pub record OnCycle (R : List ℕ) (c : ℕ) : Type 0 where
     pub on : In c R
     pub closed : Joined a b (without c R) (a c) (b c)
 
+  -- the component of v has a cycle: the key d lies on one
   pub record Cyclic (R : List ℕ) (v : ℕ) : Type 0 where
     pub d : ℕ
     pub cycle : OnCycle R d
     pub near : Joined a b R v (a d)
 
+  -- c lies on a cycle, and without c its component still has one
   pub record Spare (R : List ℕ) (c : ℕ) : Type 0 where
     pub cycle : OnCycle R c
     pub rest : Cyclic (without c R) (a c)
@@ -47,6 +51,7 @@ module _ (a b : ℕ → ℕ) where
     go-on : (c : ℕ) → Goes R c → settle a b (suc n) R ≡ settle a b n (without c R) → Round R n
 
 module _ {a b : ℕ → ℕ} where
+  -- the definitions that compute say the same
   pub onCycle-true : {R : List ℕ} {c : ℕ} → onCycle a b R c ≡ true → OnCycle a b R c
   unfolding onCycle
   onCycle-true {R} {c} e = let p = and-true (member c R) _ e in record { on = member-in c R (p .0); closed = joined-true (p .1) }
@@ -139,6 +144,7 @@ module _ (a b : ℕ → ℕ) where
   cyclic? R v =
       elim (test (cyclic a b R v)) [ inl e ↦ inl (cyclic-true e) | inr e ↦ inr (λ L. true≢false (sym (true-cyclic L) ∙ e)) ]
 
+  -- each round stops or goes on
   pub round : (n : ℕ) {R : List ℕ} → Asc R → Round a b R n
   unfolding settle
   round n {R} h = go (keep (spare a b R) R) refl
@@ -165,6 +171,7 @@ module _ (a b : ℕ → ℕ) where
       go [] h k = k
       go (d ∷ D) h k = h (last (d ∷ D)) k
 
+  -- and keeps the order
   settle-asc : (n : ℕ) {R : List ℕ} → Asc R → Asc (settle a b n R)
   unfolding settle
   settle-asc zero h = h
@@ -194,6 +201,7 @@ module _ (a b : ℕ → ℕ) where
     stays : {R : List ℕ} {c : ℕ} → (In c F → ⊥) → Sub F R → Sub F (without c R)
     stays {R} {c} n s d i = in-out c R (λ q. n (rw (← q) at i)) (s d i)
 
+    -- so the forest stays
     settle-forest : (n : ℕ) {R : List ℕ} → Asc R → Sub R S → Sub F R → Sub F (settle a b n R)
     unfolding settle
     settle-forest zero h s f d i = f d i
@@ -299,6 +307,7 @@ module _ (a b : ℕ → ℕ) where
       smallest : ((x : ℕ) → In x S → (In x F → ⊥) → Joined a b S (a x) (a c) → c ≤ x) → Stays c
 
     module _ (asc : Asc S) where
+      -- all this of the seated keys
       pub seated-sub : Sub (seated a b S) S
       unfolding seated
       seated-sub = settle-sub (length S) S
@@ -327,6 +336,7 @@ module _ (a b : ℕ → ℕ) where
       unfolding seated
       seated-some = settle-some (length S) asc (λ c i. i) (forest-in a b S)
 
+      -- and so they are the keys that stay by the rule above
       pub seated-is : (c : ℕ) → In c (seated a b S) → Stays c
       seated-is c i =
           elim (in? c F) [

@@ -10,7 +10,7 @@
 -- It is a forest with parent pointers, where a key is the pointer, since a key knows its two slots. Assumes nothing.
 use Prim.Native.Nat.{ℕ, zero, suc, _<_, _≤_}
 use mathlib.Core.Path.{_≡_, refl, sym, _∙_, ap}
-use mathlib.Core.Bool.{Bool, true, false, _||_}
+use mathlib.Core.Bool.{Bool, true, false, _||_, or-true}
 use mathlib.Core.Logic.{_⊎_, inl, inr}
 use mathlib.Core.List.{List, _∷_, List·Memᴰ as In, List·Memᴰ·head as here, List·Memᴰ·tail as there}
 use native.Mathlib.Omega.{arith}
@@ -19,7 +19,7 @@ use lib.ListN.{length, getD, set, List·getD-eq-default}
 use lib.Seq.{getD-set-same, getD-set-other, set-out}
 use borrow.Author.Tests.{eq-eqb, ne-eqb}
 use Rattle.cuckoo.specs.Graph.{without}
-use Rattle.cuckoo.specs.Sets.{eq?, le?, Sub, out-in, in-out, out-ne, around, out-sub, out-shorter, in-length, or-true}
+use Rattle.cuckoo.specs.Sets.{eq?, le?, Sub, out-in, in-out, out-ne, around, out-sub, out-shorter, in-length}
 use Rattle.cuckoo.specs.Joined.{Joined, past, along, back, jrefl, jsym, jtrans, edge, mono, split, confine}
 use Rattle.cuckoo.specs.Seating.{Ends, from-a, from-b, ends-edge, ends-cycle, ends-flip, one-near}
 use Rattle.cuckoo.specs.Tree.{Far, far-some}

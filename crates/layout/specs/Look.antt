@@ -2,7 +2,7 @@
 -- ever refused there but for a blank key. Assumes nothing.
 use Prim.Native.Nat.{ℕ, _+_, _-_, _<_}
 use mathlib.Core.Path.{_≡_, refl, sym, _∙_}
-use mathlib.Core.Bool.{Bool, true, false, cond, _||_, false≢true}
+use mathlib.Core.Bool.{Bool, true, false, cond, _||_, or-true, false≢true}
 use mathlib.Core.Logic.{_⊎_, inl, inr}
 use mathlib.Core.List.{List, [], _∷_, List·Memᴰ as In, Memᴰ·append-left}
 use native.Mathlib.Omega.{arith}
@@ -11,7 +11,7 @@ use lib.Dec.{eqb}
 use lib.ListN.{length, getD, replicate}
 use lib.Seq.{take-at}
 use Rattle.cuckoo.specs.Graph.{member, slot-key}
-use Rattle.cuckoo.specs.Sets.{test, or-true, member-in, in-member}
+use Rattle.cuckoo.specs.Sets.{test, member-in, in-member}
 use Rattle.tabulation.specs.Refusal.{done, blank-key}
 use Rattle.tabulation.specs.Hash.{tabulation-length, blank}
 use Rattle.tabulation.specs.Slots.{slot-0, slot-1, slot-0-lt, slot-1-lt}

@@ -1,7 +1,7 @@
 -- `layout::among` meets its contract: the key is found already, or stands in what is left of the words.
 use mathlib.Core.Path.{_≡_, refl, _∙_, sym}
 use mathlib.Core.Logic.{inl, inr}
-use mathlib.Core.Bool.{_||_}
+use mathlib.Core.Bool.{_||_, or-true, or-false}
 use Prim.Native.Nat.{_≤_, _<_, _+_, _-_}
 use native.Mathlib.Numerals.{add-one}
 use native.Mathlib.Omega.{arith}
@@ -10,7 +10,6 @@ use lib.Seq.{drop-cons}
 use borrow.Author.Needs.{needs}
 use borrow.Author.Tests.{eq-eqb, ne-eqb}
 use Rattle.cuckoo.specs.Graph.{member}
-use Rattle.cuckoo.specs.Sets.{or-true, or-false}
 use Rattle.layout.proofs.among.Statement.{statement}
 use Rattle.layout.proofs.among.Tie as tie
 
