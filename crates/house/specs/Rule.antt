@@ -1,5 +1,5 @@
--- The house tabulation's rule, and that all its entries differ: ONE test that goes once through the table, and the law that turns the test
--- into the two statements (document 01: "Entry i is (25,173 × i × i + 13,849) modulo 65,521 .. All entries differ").
+-- The house tabulation: its rule, and that all its entries differ; then ONE test that goes once through the table, and the law that a table that
+-- passes it is as said (document 01: "Entry i is (25,173 × i × i + 13,849) modulo 65,521 .. All entries differ").
 use mathlib.Core.Path.{_≡_, refl, sym, ap, _∙_}
 use mathlib.Core.Bool.{Bool, true, false, not, cond, _&&_, _||_, true≢false, false≢true}
 use mathlib.Core.List.{List, [], _∷_}
@@ -13,6 +13,14 @@ use lib.ListN.{length, getD}
 -- "Entry i is (25,173 × i × i + 13,849) modulo 65,521"
 abbrev pub house-entry : ℕ → ℕ
 house-entry i = (25173 * i * i + 13849) % 65521
+
+-- The house tabulation: 2,048 entries, each as the rule says, and no two equal.
+pub record House (t : List ℕ) : Type 0 where
+  pub long : length t ≡ 2048
+  pub ruled : (i : ℕ) → i < 2048 → getD t i 0 ≡ house-entry i
+  pub distinct : (i j : ℕ) → i < j → j < 2048 → getD t i 0 ≡ getD t j 0 → ⊥
+
+-- The laws: a table that passes the test below is the house tabulation. The test goes through the table once.
 
 -- the entries seen so far, in a binary search tree
 pub data Tree : Type 0 where
@@ -121,12 +129,7 @@ long n i seen [] e = sym (eqb-true n 0 e)
 long zero i seen (x ∷ xs) e = absurd (false≢true e)
 long (suc n) i seen (x ∷ xs) e = ap suc (long n (suc i) (put x seen) xs (entry n i x seen xs e .rest))
 
--- What the test means: 2,048 entries, each as the rule says, and no two equal.
-pub record House (t : List ℕ) : Type 0 where
-  pub long : length t ≡ 2048
-  pub ruled : (i : ℕ) → i < 2048 → getD t i 0 ≡ house-entry i
-  pub distinct : (i j : ℕ) → i < j → j < 2048 → getD t i 0 ≡ getD t j 0 → ⊥
-
+-- the test means just that
 pub house : (t : List ℕ) → house-test t ≡ true → House t
 unfolding house-test
 house t e =

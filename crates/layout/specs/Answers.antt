@@ -65,7 +65,7 @@ fresh-refusal len r s = first-refusal ((wrong-shape, not (sizes-in-range r s && 
 unfoldable pub fresh-words : List ℕ → ℕ → ℕ → List ℕ
 fresh-words ws r s = cond (eqb (fresh-refusal (length ws) r s) done) (r ∷ s ∷ replicate (length ws - 2) 0) ws
 
--- `stands`, test by test
+-- The laws that the code's proofs use: `stands`, test by test.
 module _ (tabulation ws : List ℕ) (key : ℕ) where
   abbrev pub in-table-0 : Bool
   in-table-0 = eqb (getD ws (key-at (slot-0 (record { tabulation = tabulation; slots = slots-of ws }) key)) 0) key

@@ -19,7 +19,7 @@ use Rattle.layout.specs.Standing.{keys-in-valid, keys-in-image}
 unfoldable pub canonical : List ℕ → List ℕ → Bool
 canonical tabulation ws = fits (params-of tabulation ws) (keys-in ws) && same ws (image (params-of tabulation ws) (keys-in ws))
 
--- the same as a statement: the words are the image of S, a set that fits
+-- The laws. First the same as a statement: the words are the image of S, a set that fits.
 pub record ImageOf (P : Params) (S ws : List ℕ) : Type 0 where
   pub valid : ValidSet S
   pub fit : fits P S ≡ true

@@ -25,7 +25,7 @@ offset-out ws = cond (eqb (view-refusal ws) done) (stash-at (slots-of ws)) 0
 unfoldable pub length-out : List ℕ → ℕ
 length-out ws = cond (eqb (view-refusal ws) done) (stash-count ws) 0
 
--- offset and length name the very words that the view is
+-- The laws: offset and length name the very words that the view is
 pub stretch : (ws : List ℕ) → take (length-out ws) (drop (offset-out ws) ws) ≡ view-of ws
 unfolding offset-out length-out view-of
 stretch ws = go (eqb (view-refusal ws) done)

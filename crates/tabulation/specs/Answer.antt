@@ -36,6 +36,8 @@ hashes-values F key = cond (eqb (hashes-refusal F key) done) (hash F 0 key ∷ h
 unfoldable pub written : Family → ℕ → ℕ → ℕ → ℕ
 written F key table old = cond (eqb (hashes-refusal F key) done) (hash F table key) old
 
+-- The laws that the code's proofs use.
+
 module _ (F : Family) (key old : ℕ) where
   -- what the values of an answer say of the out-parameters
   pub written-at : {h0 h1 : ℕ} → h0 ∷ h1 ∷ [] ≡ hashes-values F key → (h0 ≡ written F key 0 old) × (h1 ≡ written F key 1 old)

@@ -20,23 +20,6 @@ max-slots = 1024
 unfoldable pub slots-in-range : ℕ → Bool
 slots-in-range r = leb 1 r && leb r max-slots
 
-and-true : (p q : Bool) → (p && q) ≡ true → (p ≡ true) × (q ≡ true)
-and-true true true e = (e, e)
-and-true true false e = absurd (false≢true e)
-and-true false q e = absurd (false≢true e)
-
-pub in-range-pos : (r : ℕ) → slots-in-range r ≡ true → 0 < r
-unfolding slots-in-range
-in-range-pos r e = leb-true 1 r (and-true (leb 1 r) (leb r max-slots) e .0)
-
-pub in-range-max : (r : ℕ) → slots-in-range r ≡ true → r ≤ max-slots
-unfolding slots-in-range
-in-range-max r e = leb-true r max-slots (and-true (leb 1 r) (leb r max-slots) e .1)
-
-pub range-in : (r : ℕ) → 0 < r → r ≤ max-slots → slots-in-range r ≡ true
-unfolding slots-in-range
-range-in r some most = rw (le-leb 1 r some) (le-leb r max-slots most)
-
 -- "Zero means no card": a blank key is the key of no element
 unfoldable pub blank : ℕ → Bool
 blank key = eqb key 0
@@ -60,6 +43,25 @@ unfoldable pub hash : Family → ℕ → ℕ → ℕ
 hash F table key =
     let e = entry (F .tabulation) table in
     (e 0 (byte 0 key) + e 1 (byte 1 key) + e 2 (byte 2 key) + e 3 (byte 3 key)) % F .slots
+
+-- The laws that callers use.
+
+and-true : (p q : Bool) → (p && q) ≡ true → (p ≡ true) × (q ≡ true)
+and-true true true e = (e, e)
+and-true true false e = absurd (false≢true e)
+and-true false q e = absurd (false≢true e)
+
+pub in-range-pos : (r : ℕ) → slots-in-range r ≡ true → 0 < r
+unfolding slots-in-range
+in-range-pos r e = leb-true 1 r (and-true (leb 1 r) (leb r max-slots) e .0)
+
+pub in-range-max : (r : ℕ) → slots-in-range r ≡ true → r ≤ max-slots
+unfolding slots-in-range
+in-range-max r e = leb-true r max-slots (and-true (leb 1 r) (leb r max-slots) e .1)
+
+pub range-in : (r : ℕ) → 0 < r → r ≤ max-slots → slots-in-range r ≡ true
+unfolding slots-in-range
+range-in r some most = rw (le-leb 1 r some) (le-leb r max-slots most)
 
 -- a hash is a slot of its table
 pub hash-lt : (F : Family) (table key : ℕ) → 0 < F .slots → hash F table key < F .slots

@@ -12,6 +12,8 @@ slot-0 F key = hash F 0 key
 abbrev pub slot-1 : Family → ℕ → ℕ
 slot-1 F key = F .slots + hash F 1 key
 
+-- The laws that callers use.
+
 module _ (F : Family) (some : 0 < F .slots) (key : ℕ) where
   pub slot-0-lt : slot-0 F key < F .slots
   slot-0-lt = hash-lt F 0 key some
