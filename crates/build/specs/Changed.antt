@@ -12,13 +12,24 @@ use Rattle.build.specs.Scratch.{parts-glue, Parts, glue, parts, held-at,
 use Rattle.build.specs.Scratch.{with-held, with-next, with-sets, with-stash, keys-place, held-place, next-place, sets-place, stash-place}
 use Rattle.build.specs.Scratch.{parts-sized, glue-parts}
 
--- what every pass asks: a tabulation and sizes in range, and scratch of enough words
-pub record Room (tabulation : List ℕ) (r s : ℕ) (scratch : List ℕ) : Type 0 where
-  pub hashed : length tabulation ≡ tabulation-length
-  pub some : 0 < r
+-- what every pass asks of scratch: sizes in range, and enough words for the parts
+pub record Enough (r s : ℕ) (scratch : List ℕ) : Type 0 where
   pub most : r ≤ max-slots
   pub few : s ≤ 64
   pub long : used r s ≤ length scratch
+
+-- and a pass that finds the slots of keys: a tabulation, and slots to find
+pub record Room (tabulation : List ℕ) (r s : ℕ) (scratch : List ℕ) : Type 0 where
+  pub hashed : length tabulation ≡ tabulation-length
+  pub some : 0 < r
+  pub enough : Enough r s scratch
+
+-- scratch keeps its length
+pub enough-kept : {r s : ℕ} {xs ys : List ℕ} → Enough r s xs → length ys ≡ length xs → Enough r s ys
+enough-kept E e = record { most = E .most; few = E .few; long = omega (arith, E .long) }
+
+pub room-kept : {tabulation : List ℕ} {r s : ℕ} {xs ys : List ℕ} → Room tabulation r s xs → length ys ≡ length xs → Room tabulation r s ys
+room-kept R e = record { hashed = R .hashed; some = R .some; enough = enough-kept (R .enough) e }
 
 -- the slots that a tabulation gives, with r to a table
 abbrev pub tables : List ℕ → ℕ → Family

@@ -91,7 +91,7 @@ module _ {r s n : ℕ} {tabulation scratch : List ℕ} (B : Buildable r s n tabu
   first-words = take-take n (2 * r + s) scratch (B .keys)
 
   pub room-of : Room tabulation r s scratch
-  room-of = record { hashed = B .full-tabulation; some = B .some; most = B .most; few = B .few; long = B .room }
+  room-of = record { hashed = B .full-tabulation; some = B .some; enough = record { most = B .most; few = B .few; long = B .room } }
 
   pub asc-of : Asc S
   asc-of = rw first-words (B .asc)
@@ -183,9 +183,6 @@ module _ {r s : ℕ} {Q : Parts} (Z : Sized r s Q) {xs : List ℕ} (e : xs ≡ g
   pub passed : {ys : List ℕ} (f : Parts → Parts) → ys ≡ glue (f (parts r s xs)) → ys ≡ glue (f Q)
   passed f g = g ∙ ap (λ (q : Parts). glue (f q)) found
 
-pub room-kept : {tabulation : List ℕ} {r s : ℕ} {xs ys : List ℕ} → Room tabulation r s xs → length ys ≡ length xs → Room tabulation r s ys
-room-kept R l = record { hashed = R .hashed; some = R .some; most = R .most; few = R .few; long = omega (arith, R .long) }
-
 -- steps 1 to 3, call by call
 module _ {r s n : ℕ} {tabulation scratch : List ℕ} (B : Buildable r s n tabulation scratch) {xs ys : List ℕ}
     (linked : xs ≡ linked-words (F B) s n scratch) (labelled : ys ≡ label-words r s xs) where
@@ -225,7 +222,7 @@ module _ {tabulation : List ℕ} {r s : ℕ} {x0 : List ℕ} (R : Room tabulatio
   Q4 = chained-parts T Q3 n
 
   Z1 : Sized r s Q1
-  Z1 = noted-held-sized T (parts-sized r s x0 (R .long)) n
+  Z1 = noted-held-sized T (parts-sized r s x0 (R .enough .long)) n
 
   module _ {x1 x2 : List ℕ} (e1 : x1 ≡ glue Q1) (e2 : x2 ≡ glue (finished-parts T (parts r s x1))) where
     finished-words : x2 ≡ glue Q2

@@ -4,11 +4,11 @@ ghost use mathlib.Core.Path.{_≡_};
 ghost use mathlib.Core.Bool.{cond};
 ghost use Prim.Native.Nat.{_+_, _*_, _≤_, _<_};
 ghost use lib.Dec.{ltb};
-ghost use lib.ListN.{length, replicate};
-ghost use Rattle.tabulation.specs.Hash.{tabulation-length, max-slots};
+ghost use lib.ListN.{replicate};
 ghost use Rattle.forest.specs.Held.{rerooted};
 ghost use Rattle.partition.specs.Words.{Representative, Mergeable, rep-of, size-of, united};
-ghost use Rattle.build.specs.Scratch.{used, parts, glue, with-held, with-sets};
+ghost use Rattle.build.specs.Scratch.{parts, glue, with-held, with-sets};
+ghost use Rattle.build.specs.Changed.{tables, Enough, Room};
 ghost use Rattle.build.specs.Link.{unlinked};
 ghost use Rattle.build.specs.LinkCode.{Found, linking-in, relinked, first-keys, key-words, keys-words, linked-words, label-words, Linkable, Solid};
 use crate::parts::held_start;
@@ -19,7 +19,7 @@ use words::wide;
 
 // The representative of a slot's set.
 fn set_of(scratch: &[u32], r: u32, s: u32, slot: u32) -> u32
-    requires { ⌜ (used r s ≤ length (now scratch)) × (r ≤ max-slots) × (s ≤ 64) × (slot < 2 * r) ⌝ }
+    requires { ⌜ Enough r s (now scratch) × (slot < 2 * r) ⌝ }
     ensures { λ w. ⌜ w ≡ rep-of (parts r s (now (scratch .entry)) .sets) slot ⌝ }
 {
     let start = sets_start(r, s);
@@ -29,7 +29,7 @@ fn set_of(scratch: &[u32], r: u32, s: u32, slot: u32) -> u32
 
 // The number of slots in the set of a representative.
 fn set_size(scratch: &[u32], r: u32, s: u32, rep: u32) -> u32
-    requires { ⌜ (used r s ≤ length (now scratch)) × (r ≤ max-slots) × (s ≤ 64) × Representative (parts r s (now scratch) .sets) rep ⌝ }
+    requires { ⌜ Enough r s (now scratch) × Representative (parts r s (now scratch) .sets) rep ⌝ }
     ensures { λ n. ⌜ n ≡ size-of (parts r s (now (scratch .entry)) .sets) rep ⌝ }
 {
     let start = sets_start(r, s);
@@ -39,7 +39,7 @@ fn set_size(scratch: &[u32], r: u32, s: u32, rep: u32) -> u32
 
 // Two sets become one.
 fn unite_sets(scratch: &mut [u32], r: u32, s: u32, first: u32, second: u32)
-    requires { ⌜ (used r s ≤ length (now scratch)) × (r ≤ max-slots) × (s ≤ 64) × Mergeable (parts r s (now scratch) .sets) first second ⌝ }
+    requires { ⌜ Enough r s (now scratch) × Mergeable (parts r s (now scratch) .sets) first second ⌝ }
     ensures { λ _. ⌜ now (scratch .exit) ≡ glue (with-sets (parts r s (now (scratch .entry))) (united (parts r s (now (scratch .entry)) .sets) first second)) ⌝ }
 {
     let start = sets_start(r, s);
@@ -49,9 +49,9 @@ fn unite_sets(scratch: &mut [u32], r: u32, s: u32, first: u32, second: u32)
 
 // The tree of a slot is re-rooted there, with the key `carry`.
 fn reroot_held(scratch: &mut [u32], tabulation: &[u16], r: u32, s: u32, slot: u32, carry: u32)
-    requires { ⌜ (used r s ≤ length (now scratch)) × (length (now tabulation) ≡ tabulation-length) × (0 < r) × (r ≤ max-slots) × (s ≤ 64) × (slot < 2 * r) ⌝ }
+    requires { ⌜ Room (now tabulation) r s (now scratch) × (slot < 2 * r) ⌝ }
     ensures { λ _. ⌜ now (scratch .exit) ≡ glue (with-held (parts r s (now (scratch .entry)))
-        (rerooted (record { tabulation = now (tabulation .entry); slots = r }) (parts r s (now (scratch .entry)) .held) carry slot)) ⌝ }
+        (rerooted (tables (now (tabulation .entry)) r) (parts r s (now (scratch .entry)) .held) carry slot)) ⌝ }
 {
     let start = held_start(r, s);
     let end = next_start(r, s);
@@ -67,8 +67,8 @@ struct Ends {
 }
 
 fn ends_of(scratch: &[u32], tabulation: &[u16], r: u32, s: u32, key: u32) -> Ends
-    requires { ⌜ (used r s ≤ length (now scratch)) × (length (now tabulation) ≡ tabulation-length) × (0 < r) × (r ≤ max-slots) × (s ≤ 64) ⌝ }
-    ensures { λ e. ⌜ Found (record { tabulation = now (tabulation .entry); slots = r }) (parts r s (now (scratch .entry)) .sets) key
+    requires { ⌜ Room (now tabulation) r s (now scratch) ⌝ }
+    ensures { λ e. ⌜ Found (tables (now (tabulation .entry)) r) (parts r s (now (scratch .entry)) .sets) key
         (e .first) (e .second) (e .one) (e .two) ⌝ }
 {
     let first = tabulation::first_slot(tabulation, r, key);
@@ -85,7 +85,7 @@ fn ends_of(scratch: &[u32], tabulation: &[u16], r: u32, s: u32, key: u32) -> End
 
 // The end of a key in the smaller set.
 fn smaller_end(scratch: &[u32], r: u32, s: u32, ends: Ends) -> u32
-    requires { ⌜ (used r s ≤ length (now scratch)) × (r ≤ max-slots) × (s ≤ 64) × Representative (parts r s (now scratch) .sets) (ends .one)
+    requires { ⌜ Enough r s (now scratch) × Representative (parts r s (now scratch) .sets) (ends .one)
         × Representative (parts r s (now scratch) .sets) (ends .two) ⌝ }
     ensures { λ w. ⌜ w ≡ cond (ltb (size-of (parts r s (now (scratch .entry)) .sets) (ends .one)) (size-of (parts r s (now (scratch .entry)) .sets) (ends .two)))
         (ends .first) (ends .second) ⌝ }
@@ -98,9 +98,8 @@ fn smaller_end(scratch: &[u32], r: u32, s: u32, ends: Ends) -> u32
 
 // One key: passed over where its ends are in one set already; otherwise it links two trees, and two sets become one.
 fn link_key(scratch: &mut [u32], tabulation: &[u16], r: u32, s: u32, key: u32)
-    requires { ⌜ (used r s ≤ length (now scratch)) × (length (now tabulation) ≡ tabulation-length) × (0 < r) × (r ≤ max-slots) × (s ≤ 64)
-        × Linkable (record { tabulation = now tabulation; slots = r }) (linking-in r s (now scratch)) ⌝ }
-    ensures { λ _. ⌜ now (scratch .exit) ≡ key-words (record { tabulation = now (tabulation .entry); slots = r }) s key (now (scratch .entry)) ⌝ }
+    requires { ⌜ Room (now tabulation) r s (now scratch) × Linkable (tables (now tabulation) r) (linking-in r s (now scratch)) ⌝ }
+    ensures { λ _. ⌜ now (scratch .exit) ≡ key-words (tables (now (tabulation .entry)) r) s key (now (scratch .entry)) ⌝ }
 {
     let ends = ends_of(&*scratch, tabulation, r, s, key);
     if ends.one == ends.two {
@@ -113,7 +112,7 @@ fn link_key(scratch: &mut [u32], tabulation: &[u16], r: u32, s: u32, key: u32)
 
 // Every slot bare, and alone in its set.
 fn unlink(scratch: &mut [u32], r: u32, s: u32)
-    requires { ⌜ (used r s ≤ length (now scratch)) × (r ≤ max-slots) × (s ≤ 64) ⌝ }
+    requires { ⌜ Enough r s (now scratch) ⌝ }
     ensures { λ _. ⌜ now (scratch .exit) ≡ relinked r s (now (scratch .entry)) (unlinked (2 * r)) ⌝ }
 {
     let start = held_start(r, s);
@@ -126,10 +125,9 @@ fn unlink(scratch: &mut [u32], r: u32, s: u32)
 
 // The first n keys, ascending.
 fn link_each(scratch: &mut [u32], tabulation: &[u16], r: u32, s: u32, n: usize)
-    requires { ⌜ (used r s ≤ length (now scratch)) × (length (now tabulation) ≡ tabulation-length) × (0 < r) × (r ≤ max-slots) × (s ≤ 64)
-        × (n ≤ 2 * r + s) × Linkable (record { tabulation = now tabulation; slots = r }) (linking-in r s (now scratch))
-        × Solid (first-keys r s n (now scratch)) ⌝ }
-    ensures { λ _. ⌜ now (scratch .exit) ≡ keys-words (record { tabulation = now (tabulation .entry); slots = r }) s n (now (scratch .entry)) ⌝ }
+    requires { ⌜ Room (now tabulation) r s (now scratch) × (n ≤ 2 * r + s)
+        × Linkable (tables (now tabulation) r) (linking-in r s (now scratch)) × Solid (first-keys r s n (now scratch)) ⌝ }
+    ensures { λ _. ⌜ now (scratch .exit) ≡ keys-words (tables (now (tabulation .entry)) r) s n (now (scratch .entry)) ⌝ }
 {
     let mut i = 0;
     while i < n {
@@ -141,9 +139,8 @@ fn link_each(scratch: &mut [u32], tabulation: &[u16], r: u32, s: u32, n: usize)
 
 // Step 1, whatever stood in the held words and the sets.
 pub fn link_keys(scratch: &mut [u32], tabulation: &[u16], r: u32, s: u32, n: usize)
-    requires { ⌜ (used r s ≤ length (now scratch)) × (length (now tabulation) ≡ tabulation-length) × (0 < r) × (r ≤ max-slots) × (s ≤ 64)
-        × (n ≤ 2 * r + s) × Solid (first-keys r s n (now scratch)) ⌝ }
-    ensures { λ _. ⌜ now (scratch .exit) ≡ linked-words (record { tabulation = now (tabulation .entry); slots = r }) s n (now (scratch .entry)) ⌝ }
+    requires { ⌜ Room (now tabulation) r s (now scratch) × (n ≤ 2 * r + s) × Solid (first-keys r s n (now scratch)) ⌝ }
+    ensures { λ _. ⌜ now (scratch .exit) ≡ linked-words (tables (now (tabulation .entry)) r) s n (now (scratch .entry)) ⌝ }
 {
     unlink(&mut *scratch, r, s);
     link_each(&mut *scratch, tabulation, r, s, n);
@@ -151,7 +148,7 @@ pub fn link_keys(scratch: &mut [u32], tabulation: &[u16], r: u32, s: u32, n: usi
 
 // Step 2: the label of each slot, its representative, goes into the slot's next word.
 pub fn label_slots(scratch: &mut [u32], r: u32, s: u32)
-    requires { ⌜ (used r s ≤ length (now scratch)) × (r ≤ max-slots) × (s ≤ 64) ⌝ }
+    requires { ⌜ Enough r s (now scratch) ⌝ }
     ensures { λ _. ⌜ now (scratch .exit) ≡ label-words r s (now (scratch .entry)) ⌝ }
 {
     let start = next_start(r, s);
@@ -167,7 +164,7 @@ pub fn label_slots(scratch: &mut [u32], r: u32, s: u32)
 
 // With the labels made the partition is done with: its words are cleared for the notes.
 pub fn clear_sets(scratch: &mut [u32], r: u32, s: u32)
-    requires { ⌜ (used r s ≤ length (now scratch)) × (r ≤ max-slots) × (s ≤ 64) ⌝ }
+    requires { ⌜ Enough r s (now scratch) ⌝ }
     ensures { λ _. ⌜ now (scratch .exit) ≡ glue (with-sets (parts r s (now (scratch .entry))) (replicate (2 * r) 0)) ⌝ }
 {
     let start = sets_start(r, s);

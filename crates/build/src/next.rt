@@ -2,10 +2,8 @@
 // where the next numbers go: a label is read where its key stands, before it is overwritten. At the end a slot without a key gets 0.
 ghost use mathlib.Core.Path.{_≡_};
 ghost use Prim.Native.Nat.{_+_, _*_, _<_, _≤_};
-ghost use lib.ListN.{length};
-ghost use Rattle.tabulation.specs.Hash.{max-slots};
-ghost use Rattle.build.specs.Scratch.{parts, glue, used};
-ghost use Rattle.build.specs.Changed.{tables, Room, Fit};
+ghost use Rattle.build.specs.Scratch.{parts, glue};
+ghost use Rattle.build.specs.Changed.{tables, Enough, Room, Fit};
 ghost use Rattle.build.specs.Passes.{last-seen-parts, chained-parts, blanked-parts};
 ghost use Rattle.build.specs.NextCode.{seat-in, label-at, Readable, Chainable, key-seen, slot-put, key-put, key-chained};
 use crate::key::is_held;
@@ -64,7 +62,7 @@ fn label_at_seat(scratch: &[u32], tabulation: &[u16], r: u32, s: u32, key: u32) 
 
 // The next number of a slot, if the key stands there.
 fn put_next(scratch: &mut [u32], r: u32, s: u32, key: u32, slot: usize, next: u32)
-    requires { ⌜ (r ≤ max-slots) × (s ≤ 64) × (used r s ≤ length (now scratch)) × (slot < 2 * r) ⌝ }
+    requires { ⌜ Enough r s (now scratch) × (slot < 2 * r) ⌝ }
     ensures { λ _. ⌜ parts r s (now (scratch .exit)) ≡ slot-put (parts r s (now (scratch .entry))) key slot next ⌝ }
 {
     let from = held_start(r, s) + slot;
@@ -114,7 +112,7 @@ pub fn chain_keys(scratch: &mut [u32], tabulation: &[u16], r: u32, s: u32, n: us
 
 // A slot that holds no key has no next: 0 in place of its label.
 pub fn blank_slots(scratch: &mut [u32], r: u32, s: u32)
-    requires { ⌜ (r ≤ max-slots) × (s ≤ 64) × (used r s ≤ length (now scratch)) ⌝ }
+    requires { ⌜ Enough r s (now scratch) ⌝ }
     ensures { λ _. ⌜ now (scratch .exit) ≡ glue (blanked-parts (2 * r) (parts r s (now (scratch .entry)))) ⌝ }
 {
     let held = held_start(r, s);

@@ -1,11 +1,10 @@
 // Step 3: for each label one note, the key that decides how the component sits, in the words of `sets`; and the stash.
 ghost use mathlib.Core.Path.{_≡_};
 ghost use Prim.Native.Nat.{_+_, _*_, _≤_};
-ghost use lib.ListN.{length, replicate};
-ghost use Rattle.tabulation.specs.Hash.{max-slots};
-ghost use Rattle.build.specs.Scratch.{parts, glue, used};
+ghost use lib.ListN.{replicate};
+ghost use Rattle.build.specs.Scratch.{parts, glue};
 ghost use Rattle.build.specs.Notes.{nothing-noted};
-ghost use Rattle.build.specs.Changed.{tables, Room, Fit};
+ghost use Rattle.build.specs.Changed.{tables, Enough, Room, Fit};
 ghost use Rattle.build.specs.Passes.{with-noting, answer, noting-of, noted-parts, noted-held-parts};
 ghost use Rattle.build.specs.NotesCode.{noting-after, key-noted, held-key-noted};
 use crate::key::is_held;
@@ -23,7 +22,7 @@ pub enum StashCount {
 
 // No note, and no key in the stash.
 fn clear_notes(scratch: &mut [u32], r: u32, s: u32)
-    requires { ⌜ (r ≤ max-slots) × (s ≤ 64) × (used r s ≤ length (now scratch)) ⌝ }
+    requires { ⌜ Enough r s (now scratch) ⌝ }
     ensures { λ _. ⌜ parts r s (now (scratch .exit)) ≡ with-noting (parts r s (now (scratch .entry))) (nothing-noted (2 * r) (replicate s 0)) ⌝ }
 {
     let start = sets_start(r, s);

@@ -91,7 +91,7 @@ returns-2 c =
     let new = label-tree F P (a .l) (getD xs (d11 .sets-start .result + a .l) 0) e (d9 .if1 .left) (sym (d5 .is-held .ensures) ∙ d4 .if2 .taken) in
     let lent = lent-held (a .r) (a .s) xs (x .result) (y .result) (x .ensures) (y .ensures) in
     let back = c .before .before .finish-tree in
-    put-held (a .r) (a .s) xs (d14 .pre .0 .long) (x .result) (y .result) (x .ensures) (y .ensures) (back .last .0) (back .kept .0)
+    put-held (a .r) (a .s) xs (d14 .pre .0 .enough .long) (x .result) (y .result) (x .ensures) (y .ensures) (back .last .0) (back .kept .0)
     ∙ ap (with-held P) (back .ensures ∙ rw lent (sym new))
 
 same-length-2 : tie.Need-same-length-2
@@ -116,7 +116,7 @@ returns-3 c =
     let new = label-cycle F P (a .l) (getD xs (d11 .sets-start .result + a .l) 0) e (d9 .if1 .left) (sym (d5 .is-held .ensures) ∙ d4 .if2 .left) in
     let lent = lent-held (a .r) (a .s) xs (x .result) (y .result) (x .ensures) (y .ensures) in
     let back = c .before .before .finish-cycle in
-    put-held (a .r) (a .s) xs (d14 .pre .0 .long) (x .result) (y .result) (x .ensures) (y .ensures) (back .last .0) (back .kept .0)
+    put-held (a .r) (a .s) xs (d14 .pre .0 .enough .long) (x .result) (y .result) (x .ensures) (y .ensures) (back .last .0) (back .kept .0)
     ∙ ap (with-held P) (back .ensures ∙ rw lent (sym new))
 
 pub finish-label-spec : {M : Type 1} → statement M

@@ -5,7 +5,7 @@ use native.Mathlib.Omega.{arith}
 use lib.ListN.{length}
 use borrow.Author.Needs.{needs}
 use Rattle.build.specs.Scratch.{parts}
-use Rattle.build.specs.Changed.{tables, is-glue}
+use Rattle.build.specs.Changed.{tables, room-kept, is-glue}
 use Rattle.build.specs.FinishCode.{FinishedTo, finish-start, finish-turn, finish-done}
 use Rattle.build.proofs.finish.finish_labels.Statement.{statement}
 use Rattle.build.proofs.finish.finish_labels.Tie as tie
@@ -36,7 +36,7 @@ finish-label-requires c κs =
     let d3 = c .before .before .before in
     let d6 = d3 .before .before .before in
     let p = d6 .pre in
-    (record { hashed = p .hashed; some = p .some; most = p .most; few = p .few; long = omega arith }, omega (arith, d3 .wide .ensures))
+    (room-kept p (c .before .before .loop .inv .0), omega (arith, d3 .wide .ensures))
 
 add-l : tie.Need-add-l Inv-loop μ-loop
 add-l c = search needs

@@ -1,7 +1,7 @@
 -- `build::link::ends_of` meets its contract: the slots of a key are slots.
 use native.Mathlib.Omega.{arith}
 use borrow.Author.Needs.{needs}
-use Rattle.tabulation.specs.Hash.{Family}
+use Rattle.build.specs.Changed.{tables}
 use Rattle.forest.specs.Held.{slots-fit}
 use Rattle.build.proofs.link.ends_of.Statement.{statement}
 use Rattle.build.proofs.link.ends_of.Tie as tie
@@ -15,14 +15,14 @@ second-slot-requires c κs = search needs
 set-of-requires : tie.Need-set-of-requires
 set-of-requires c κs =
     let a = c .before .before .before .before .args in
-    let F : Family = record { tabulation = a .tabulation .now; slots = a .r } in
-    (search needs, search needs, search needs, omega (arith, c .before .first-slot .ensures, slots-fit F (omega arith) (a .key) .0))
+    let F = tables (a .tabulation .now) (a .r) in
+    (search needs, omega (arith, c .before .first-slot .ensures, slots-fit F (omega arith) (a .key) .0))
 
 set-of-requires-2 : tie.Need-set-of-requires-2
 set-of-requires-2 c κs =
     let a = c .before .before .before .before .before .args in
-    let F : Family = record { tabulation = a .tabulation .now; slots = a .r } in
-    (search needs, search needs, search needs, omega (arith, c .before .second-slot .ensures, slots-fit F (omega arith) (a .key) .1))
+    let F = tables (a .tabulation .now) (a .r) in
+    (search needs, omega (arith, c .before .second-slot .ensures, slots-fit F (omega arith) (a .key) .1))
 
 returns : tie.Need-returns
 returns c = search needs

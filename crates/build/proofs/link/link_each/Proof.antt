@@ -4,14 +4,14 @@ use mathlib.Core.Path.{_≡_, _∙_}
 use native.Mathlib.Omega.{arith}
 use lib.ListN.{length}
 use borrow.Author.Needs.{needs}
-use Rattle.tabulation.specs.Hash.{Family}
+use Rattle.build.specs.Changed.{tables}
 use Rattle.build.specs.LinkCode.{after-keys, after-none, after-sound, after-more, after-all}
 use Rattle.build.proofs.link.link_each.Statement.{statement}
 use Rattle.build.proofs.link.link_each.Tie as tie
 
 abbrev Inv-loop : tie.InvT-loop
 Inv-loop scratch₀ tabulation r s n i₀ scratch i =
-    (i ≤ n) × (length scratch ≡ length scratch₀) × (scratch ≡ after-keys (record { tabulation = tabulation; slots = r }) s n scratch₀ i)
+    (i ≤ n) × (length scratch ≡ length scratch₀) × (scratch ≡ after-keys (tables tabulation r) s n scratch₀ i)
 
 abbrev μ-loop : tie.MeasureT-loop
 μ-loop scratch₀ tabulation r s n i₀ scratch i = n - i
@@ -20,8 +20,8 @@ loop-holds : tie.Need-loop-holds Inv-loop μ-loop
 loop-holds c =
     let p = c .before .before .pre in
     let a = c .before .before .args in
-    let F : Family = record { tabulation = a .tabulation .now; slots = a .r } in
-    (search needs, search needs, after-none F (p .2) (a .s) (a .scratch .now) (p .0) (a .n) (p .5) (p .6) (p .7))
+    let F = tables (a .tabulation .now) (a .r) in
+    (search needs, search needs, after-none F (p .0 .some) (a .s) (a .scratch .now) (p .0 .enough .long) (a .n) (p .1) (p .2) (p .3))
 
 mul-key : tie.Need-mul-key Inv-loop μ-loop
 mul-key c = search needs
@@ -33,10 +33,10 @@ link-key-requires : tie.Need-link-key-requires Inv-loop μ-loop
 link-key-requires c κs =
     let p = c .before .before .before .before .before .before .pre in
     let a = c .before .before .before .before .before .before .args in
-    let F : Family = record { tabulation = a .tabulation .now; slots = a .r } in
+    let F = tables (a .tabulation .now) (a .r) in
     let l = c .before .before .before .loop in
-    let K = after-sound F (p .2) (a .s) (a .scratch .now) (p .0) (a .n) (p .5) (p .6) (p .7) (l .i) in
-    (search needs, search needs, search needs, search needs, search needs, rw (l .inv .2) K)
+    let K = after-sound F (p .0 .some) (a .s) (a .scratch .now) (p .0 .enough .long) (a .n) (p .1) (p .2) (p .3) (l .i) in
+    (search needs, rw (l .inv .2) K)
 
 add-i : tie.Need-add-i Inv-loop μ-loop
 add-i c = search needs
@@ -48,9 +48,9 @@ loop-again : tie.Need-loop-again Inv-loop μ-loop
 loop-again c =
     let p = c .before .before .before .before .before .before .before .before .before .pre in
     let a = c .before .before .before .before .before .before .before .before .before .args in
-    let F : Family = record { tabulation = a .tabulation .now; slots = a .r } in
+    let F = tables (a .tabulation .now) (a .r) in
     let l = c .before .before .before .before .before .before .loop in
-    let e = after-more F (p .2) (a .s) (a .scratch .now) (p .0) (a .n) (p .5) (p .6) (p .7) (l .i) (omega arith) in
+    let e = after-more F (p .0 .some) (a .s) (a .scratch .now) (p .0 .enough .long) (a .n) (p .1) (p .2) (p .3) (l .i) (omega arith) in
     (search needs, search needs, c .before .before .link-key .ensures ∙ rw (l .inv .2) e)
 
 same-length : tie.Need-same-length Inv-loop μ-loop
@@ -60,10 +60,10 @@ returns : tie.Need-returns Inv-loop μ-loop
 returns c =
     let p = c .before .before .before .before .pre in
     let a = c .before .before .before .before .args in
-    let F : Family = record { tabulation = a .tabulation .now; slots = a .r } in
+    let F = tables (a .tabulation .now) (a .r) in
     let l = c .before .loop in
     let e : l .i ≡ a .n = omega arith in
-    l .inv .2 ∙ rw e (after-all F (p .2) (a .s) (a .scratch .now) (p .0) (a .n) (p .5) (p .6) (p .7))
+    l .inv .2 ∙ rw e (after-all F (p .0 .some) (a .s) (a .scratch .now) (p .0 .enough .long) (a .n) (p .1) (p .2) (p .3))
 
 pub link-each-spec : {M : Type 1} → statement M
 link-each-spec =

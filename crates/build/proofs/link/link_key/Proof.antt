@@ -24,24 +24,24 @@ smaller-end-requires c κs =
     let d = c .before .before .before in
     let a = d .before .before .before .before .args in
     let E = d .ends-of .ensures in
-    let K = d .before .before .before .before .pre .5 in
-    (search needs, search needs, search needs, one-marked E (omega arith) K, two-marked E (omega arith) K)
+    let K = d .before .before .before .before .pre .1 in
+    (search needs, one-marked E (omega arith) K, two-marked E (omega arith) K)
 
 reroot-held-requires : tie.Need-reroot-held-requires
 reroot-held-requires c κs =
     let d = c .before .before .before .before .before in
     let a = d .before .before .before .before .args in
     let E = d .ends-of .ensures in
-    (search needs, search needs, search needs, search needs, search needs, end-fits E _ (c .before .smaller-end .ensures) (omega arith))
+    (search needs, end-fits E _ (c .before .smaller-end .ensures) (omega arith))
 
 unite-sets-requires : tie.Need-unite-sets-requires
 unite-sets-requires c κs =
     let d = c .before .before .before .before .before .before .before .before .before in
     let a = d .before .before .before .before .args in
     let E = d .ends-of .ensures in
-    let K = d .before .before .before .before .pre .5 in
+    let K = d .before .before .before .before .pre .1 in
     let same = turned-sets (a .s) (a .scratch .now) (omega arith) E _ _ (c .before .before .before .reroot-held .ensures) in
-    (search needs, search needs, search needs, rw same (ends-merge E (omega arith) K (c .before .before .before .before .before .before .before .if1 .left)))
+    (search needs, rw same (ends-merge E (omega arith) K (c .before .before .before .before .before .before .before .if1 .left)))
 
 same-length-2 : tie.Need-same-length-2
 same-length-2 c = search needs

@@ -28,7 +28,7 @@ size-requires c κs =
     let d = c .before in
     let a = d .before .before .before .args in
     let lent = sets-lent (a .r) (a .s) (a .scratch .now) (omega arith) (d .before .sets-start .ensures) (d .stash-start .ensures) in
-    (search needs, rw lent (d .before .before .before .pre .3))
+    (search needs, rw lent (d .before .before .before .pre .1))
 
 returns : tie.Need-returns
 returns c =

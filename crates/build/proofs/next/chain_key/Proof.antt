@@ -81,7 +81,7 @@ returns-2 c =
     let at : d7 .sets-start .result + l ≡ sets-at (a .r) (a .s) + l = rw (d7 .sets-start .ensures) in
     let word : getD xs (d7 .sets-start .result + l) 0 ≡ getD (P .sets) l 0 = rw at (read-sets (a .r) (a .s) xs l low) in
     let written : parts (a .r) (a .s) (set xs (d7 .sets-start .result + l) (a .key)) ≡ with-sets P (set (P .sets) l (a .key)) =
-    rw at (write-sets (a .r) (a .s) xs (d13 .pre .0 .long) l (a .key) low) in
+    rw at (write-sets (a .r) (a .s) xs (d13 .pre .0 .enough .long) l (a .key) low) in
     c .before .before .put-nexts .ensures ∙ rw (written, word, chain-held F P (a .key) t, ← d5 .label-at-seat .ensures .0)
 
 pub chain-key-spec : {M : Type 1} → statement M

@@ -5,7 +5,7 @@ use native.Mathlib.Omega.{arith}
 use lib.ListN.{length, getD}
 use borrow.Author.Needs.{needs}
 use Rattle.build.specs.Scratch.{parts, parts-sized}
-use Rattle.build.specs.Changed.{tables, is-glue, read-key}
+use Rattle.build.specs.Changed.{tables, room-kept, is-glue, read-key}
 use Rattle.build.specs.NextCode.{chained-from, chained-start, chained-turn, chained-readable}
 use Rattle.build.proofs.next.chain_keys.Statement.{statement}
 use Rattle.build.proofs.next.chain_keys.Tie as tie
@@ -43,10 +43,10 @@ chain-key-requires c κs =
     let l = d3 .loop in
     let xs = l .scratch in
     let p = d6 .pre in
-    let keys = parts-sized (a .r) (a .s) (a .scratch .now) (p .0 .long) .keys-size in
+    let keys = parts-sized (a .r) (a .s) (a .scratch .now) (p .0 .enough .long) .keys-size in
     let e = l .inv .2 ∙ ap (chained-from F (a .n) P₀) (let k : l .i ≡ l .i - 1 + 1 = omega arith in k) in
     let is = read-key (a .r) (a .s) xs (l .i - 1) (omega arith) in (
-      record { hashed = p .0 .hashed; some = p .0 .some; most = p .0 .most; few = p .0 .few; long = omega arith },
+      room-kept (p .0) (d3 .loop .inv .0),
       chained-readable F (a .n) P₀ (omega arith) (l .i - 1) (omega arith) (getD xs (l .i - 1) 0) (p .0 .some) (p .2) e is,
     )
 
@@ -62,7 +62,7 @@ loop-again c =
     let P₀ = parts (a .r) (a .s) (a .scratch .now) in
     let l = d6 .loop in
     let xs = l .scratch in
-    let keys = parts-sized (a .r) (a .s) (a .scratch .now) (d9 .pre .0 .long) .keys-size in
+    let keys = parts-sized (a .r) (a .s) (a .scratch .now) (d9 .pre .0 .enough .long) .keys-size in
     let e = l .inv .2 ∙ ap (chained-from F (a .n) P₀) (let k : l .i ≡ l .i - 1 + 1 = omega arith in k) in
     let turn = chained-turn F (a .n) P₀ (omega arith) (l .i - 1) (omega arith) (getD xs (l .i - 1) 0) e (read-key (a .r) (a .s) xs (l .i - 1) (omega arith))
     (c .before .before .chain-key .ensures) in

@@ -5,7 +5,7 @@ use native.Mathlib.Omega.{arith}
 use lib.ListN.{length, getD}
 use borrow.Author.Needs.{needs}
 use Rattle.build.specs.Scratch.{Parts, parts, parts-sized}
-use Rattle.build.specs.Changed.{tables, is-glue, read-key}
+use Rattle.build.specs.Changed.{tables, room-kept, is-glue, read-key}
 use Rattle.build.specs.NextCode.{seen-from, seen-start, seen-turn}
 use Rattle.build.proofs.next.last_seen_keys.Statement.{statement}
 use Rattle.build.proofs.next.last_seen_keys.Tie as tie
@@ -39,7 +39,7 @@ see-key-requires c κs =
     let d6 = d3 .before .before .before in
     let p = d6 .pre in
     let e = ap (λ (Z : Parts). Z .next) (d3 .loop .inv .2) in
-    (record { hashed = p .0 .hashed; some = p .0 .some; most = p .0 .most; few = p .0 .few; long = omega arith }, rw e (p .1))
+    (room-kept (p .0) (d3 .loop .inv .0), rw e (p .1))
 
 loop-less : tie.Need-loop-less Inv-loop μ-loop
 loop-less c = search needs
@@ -53,7 +53,7 @@ loop-again c =
     let P₀ = parts (a .r) (a .s) (a .scratch .now) in
     let l = d6 .loop in
     let xs = l .scratch in
-    let keys = parts-sized (a .r) (a .s) (a .scratch .now) (d9 .pre .0 .long) .keys-size in
+    let keys = parts-sized (a .r) (a .s) (a .scratch .now) (d9 .pre .0 .enough .long) .keys-size in
     let e = l .inv .2 ∙ ap (seen-from F (a .n) P₀) (let k : l .i ≡ l .i - 1 + 1 = omega arith in k) in
     let turn = seen-turn F (a .n) P₀ (omega arith) (l .i - 1) (omega arith) (getD xs (l .i - 1) 0) e (read-key (a .r) (a .s) xs (l .i - 1) (omega arith))
     (c .before .before .see-key .ensures) in

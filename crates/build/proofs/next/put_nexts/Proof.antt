@@ -21,7 +21,7 @@ put-next-requires c κs =
     let d5 = c .before .before .before .before .before in
     let a = d5 .args in
     let F = tables (a .tabulation .now) (a .r) in
-    (omega arith, omega arith, omega arith, omega (arith, c .before .wide .ensures, c .before .before .first-slot .ensures, slots-fit F (omega arith) (a .key) .0))
+    (search needs, omega (arith, c .before .wide .ensures, c .before .before .first-slot .ensures, slots-fit F (omega arith) (a .key) .0))
 
 second-slot-requires : tie.Need-second-slot-requires
 second-slot-requires c κs = search needs
@@ -34,7 +34,7 @@ put-next-requires-2 c κs =
     let d11 = c .before .before .before .before .before .before .before .before .before .before .before in
     let a = d11 .args in
     let F = tables (a .tabulation .now) (a .r) in
-    (omega arith, omega arith, omega arith, omega (arith, c .before .wide2 .ensures, c .before .before .second-slot .ensures, slots-fit F (omega arith) (a .key) .1))
+    (search needs, omega (arith, c .before .wide2 .ensures, c .before .before .second-slot .ensures, slots-fit F (omega arith) (a .key) .1))
 
 same-length : tie.Need-same-length
 same-length c = search needs

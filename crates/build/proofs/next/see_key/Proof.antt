@@ -54,7 +54,7 @@ returns-2 c =
     let P = parts (a .r) (a .s) xs in
     let t : holding F (P .held) (a .key) ≡ true = sym (d4 .is-held .ensures) ∙ not-false (d4 .is-held .result) (d3 .if1 .left) in
     rw (see-held F P (a .key) t, ← c .label .ensures .0, c .before .before .sets-start .ensures)
-    (write-sets (a .r) (a .s) xs (d8 .pre .0 .long) (c .label .result) (a .key) (c .label .ensures .1))
+    (write-sets (a .r) (a .s) xs (d8 .pre .0 .enough .long) (c .label .result) (a .key) (c .label .ensures .1))
 
 pub see-key-spec : {M : Type 1} → statement M
 see-key-spec =

@@ -65,7 +65,7 @@ returns-2 c =
     let e = read-sets (a .r) (a .s) (a .scratch .now) l (c .before .before .label .ensures .1) in
     let z : getD (P .sets) l 0 ≡ 0 = sym e ∙ rw (d4 .sets-start .ensures) at (c .if2 .taken) in
     rw (notes-first F P (a .key) t (rw (c .before .before .label .ensures .0) at z), ← c .before .before .label .ensures .0, d4 .sets-start .ensures)
-    (write-sets (a .r) (a .s) (a .scratch .now) (d10 .pre .0 .long) l (a .key) (c .before .before .label .ensures .1))
+    (write-sets (a .r) (a .s) (a .scratch .now) (d10 .pre .0 .enough .long) l (a .key) (c .before .before .label .ensures .1))
 
 same-length-3 : tie.Need-same-length-3
 same-length-3 c = search needs

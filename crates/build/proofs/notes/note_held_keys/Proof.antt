@@ -5,7 +5,7 @@ use native.Mathlib.Omega.{arith}
 use lib.ListN.{length, getD}
 use borrow.Author.Needs.{needs}
 use Rattle.build.specs.Scratch.{parts, parts-sized}
-use Rattle.build.specs.Changed.{tables, is-glue, read-key}
+use Rattle.build.specs.Changed.{tables, room-kept, is-glue, read-key}
 use Rattle.build.specs.NotesCode.{NotesAt, notes-start, notes-labels, notes-turn, notes-done}
 use Rattle.build.proofs.notes.note_held_keys.Statement.{statement}
 use Rattle.build.proofs.notes.note_held_keys.Tie as tie
@@ -22,7 +22,7 @@ abbrev μ-loop : tie.MeasureT-loop
 loop-holds : tie.Need-loop-holds Inv-loop μ-loop
 loop-holds c =
     let a = c .before .before .args in
-    let keys = parts-sized (a .r) (a .s) (a .scratch .now) (c .before .before .pre .0 .long) .keys-size in
+    let keys = parts-sized (a .r) (a .s) (a .scratch .now) (c .before .before .pre .0 .enough .long) .keys-size in
     (refl, search needs, notes-start (tables (a .tabulation .now) (a .r)) (a .n) (parts (a .r) (a .s) (a .scratch .now)) (omega arith))
 
 mul-key : tie.Need-mul-key Inv-loop μ-loop
@@ -38,7 +38,7 @@ note-held-key-requires c κs =
     let a = d6 .args in
     let p = d6 .pre in
     let e = notes-labels (tables (a .tabulation .now) (a .r)) (a .n) (parts (a .r) (a .s) (a .scratch .now)) (d3 .loop .inv .2) in
-    (record { hashed = p .0 .hashed; some = p .0 .some; most = p .0 .most; few = p .0 .few; long = omega arith }, rw e (p .1))
+    (room-kept (p .0) (d3 .loop .inv .0), rw e (p .1))
 
 add-i : tie.Need-add-i Inv-loop μ-loop
 add-i c = search needs

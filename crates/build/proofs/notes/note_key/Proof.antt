@@ -66,7 +66,7 @@ returns-2 c =
     let l = c .before .before .label .result in
     let z : getD (P .sets) l 0 ≡ 0 = sym (read-sets (a .r) (a .s) (a .scratch .now) l (c .before .before .label .ensures .1)) ∙ rw (d4 .sets-start .ensures) at (c .if2 .taken) in
     rw (after-first F P (a .count) (a .key) t (rw (c .before .before .label .ensures .0) at z), ← c .before .before .label .ensures .0, d4 .sets-start .ensures)
-    (write-sets (a .r) (a .s) (a .scratch .now) (d10 .pre .0 .long) l (a .key) (c .before .before .label .ensures .1), refl)
+    (write-sets (a .r) (a .s) (a .scratch .now) (d10 .pre .0 .enough .long) l (a .key) (c .before .before .label .ensures .1), refl)
 
 same-length-3 : tie.Need-same-length-3
 same-length-3 c = search needs
@@ -85,7 +85,7 @@ returns-3 c =
     let l = d3 .label .result in
     let e = read-sets (a .r) (a .s) (a .scratch .now) l (d3 .label .ensures .1) in
     let z : getD (P .sets) l 0 ≡ 0 → ⊥ = λ q. (rw (d5 .sets-start .ensures) at (c .before .if2 .left)) (e ∙ q) in
-    let k : length (P .stash) ≤ a .count = omega (arith, parts-sized (a .r) (a .s) (a .scratch .now) (d11 .pre .0 .long) .stash-size) in
+    let k : length (P .stash) ≤ a .count = omega (arith, parts-sized (a .r) (a .s) (a .scratch .now) (d11 .pre .0 .enough .long) .stash-size) in
     rw (after-full F P (a .count) (a .key) t (rw (d3 .label .ensures .0) at z) k) (refl, refl)
 
 stash-start-requires : tie.Need-stash-start-requires
@@ -124,9 +124,9 @@ returns-4 c =
     let l = d5 .label .result in
     let e = read-sets (a .r) (a .s) (a .scratch .now) l (d5 .label .ensures .1) in
     let z : getD (P .sets) l 0 ≡ 0 → ⊥ = λ q. (rw (d7 .sets-start .ensures) at (d3 .if2 .left)) (e ∙ q) in
-    let k : a .count < length (P .stash) = omega (arith, parts-sized (a .r) (a .s) (a .scratch .now) (d13 .pre .0 .long) .stash-size) in
+    let k : a .count < length (P .stash) = omega (arith, parts-sized (a .r) (a .s) (a .scratch .now) (d13 .pre .0 .enough .long) .stash-size) in
     rw (after-stash F P (a .count) (a .key) t (rw (d5 .label .ensures .0) at z) k, c .before .stash-start .ensures, c .wide .ensures)
-    (write-stash (a .r) (a .s) (a .scratch .now) (d13 .pre .0 .long) (a .count) (a .key) (omega arith), rw (add-one (a .count)))
+    (write-stash (a .r) (a .s) (a .scratch .now) (d13 .pre .0 .enough .long) (a .count) (a .key) (omega arith), rw (add-one (a .count)))
 
 pub note-key-spec : {M : Type 1} → statement M
 note-key-spec =

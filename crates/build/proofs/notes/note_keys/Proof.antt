@@ -5,7 +5,7 @@ use Rattle.build.specs.declared.notes.StashCount.the-variants.{Keys, Ove
 use mathlib.Core.Path.{ap}
 use lib.ListN.{getD}
 use Rattle.build.specs.Scratch.{Parts, parts-sized}
-use Rattle.build.specs.Changed.{tables, is-glue, read-key}
+use Rattle.build.specs.Changed.{tables, room-kept, is-glue, read-key}
 use Rattle.build.specs.NotesCode.{noting-all}
 use Prim.Native.Nat.{_-_, _≤_}
 use mathlib.Core.Path.{_≡_, sym, _∙_}
@@ -55,7 +55,7 @@ note-key-requires c κs =
     let p = d10 .pre in
     let e = noting-labels F (a .n) (parts (a .r) (a .s) (d6 .clear-notes .last .0)) (d3 .loop .inv .3) in
     let cleared = ap (λ (Q : Parts). Q .next) (d6 .clear-notes .ensures) in
-    (record { hashed = p .0 .hashed; some = p .0 .some; most = p .0 .most; few = p .0 .few; long = d3 .loop .inv .1 }, rw (e, cleared) (p .1))
+    (room-kept (p .0) (d3 .loop .inv .0 ∙ d6 .clear-notes .kept .0), rw (e, cleared) (p .1))
 
 enum-known-noted : tie.Need-enum-known-noted Inv-loop μ-loop
 enum-known-noted c = c .match .keys1
