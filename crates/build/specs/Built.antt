@@ -4,12 +4,12 @@ use mathlib.Core.Path.{_≡_}
 use mathlib.Core.Bool.{cond}
 use mathlib.Core.List.{List, _++_, List·Memᴰ as In}
 use native.Mathlib.Omega.{arith}
-use lib.Dec.{eqb, ltb}
+use lib.Dec.{ltb}
 use lib.ListN.{length, drop, replicate, length-replicate}
 use borrow.Author.Tests.{lt-ltb, le-ltb}
 use Rattle.tabulation.specs.Hash.{Family, max-slots as table-slots}
 use Rattle.tabulation.specs.Slots.{slot-0, slot-1, slots-apart}
-use Rattle.cuckoo.specs.Graph.{seated, stash, occupant, next}
+use Rattle.cuckoo.specs.Graph.{seated, stash, slot-key, slot-next}
 use Rattle.cuckoo.specs.Sets.{Asc}
 use Rattle.cuckoo.specs.Seating.{Ends}
 use Rattle.cuckoo.specs.Forest.{forest}
@@ -62,15 +62,11 @@ module _ (a b : ℕ → ℕ) (other : ℕ → ℕ → ℕ) (m : ℕ) (S : List �
       built = cond (noting .overflow) overflow (made held nexts (noting .stash) (noting .count))
 
 module _ (a b : ℕ → ℕ) (S : List ℕ) where
-  -- the next word of slot v
-  unfoldable pub next-at : ℕ → ℕ
-  next-at v = let k = occupant a b (seated a b S) v in cond (eqb k 0) 0 (next a b (seated a b S) k)
-
-  -- What the definitions say, for m slots and s stash words: each slot's occupant, that key's next, and the stash, filled up with zeros.
+  -- What the definitions say, for m slots and s stash words: each slot's key and next, and the stash, filled up with zeros.
   unfoldable pub canonical : ℕ → ℕ → Built
   canonical m s =
       let D = stash a b S in
-      cond (ltb s (length D)) overflow (made (listed (occupant a b (seated a b S)) m 0) (listed next-at m 0) (D ++ replicate (s - length D) 0) (length D))
+      cond (ltb s (length D)) overflow (made (listed (slot-key a b S) m 0) (listed (slot-next a b S) m 0) (D ++ replicate (s - length D) 0) (length D))
 
 drop-zeros : (k s : ℕ) → drop {A = ℕ} k (replicate s 0) ≡ replicate (s - k) 0
 drop-zeros zero s = let e : s - 0 ≡ s = omega arith in rw e
@@ -95,27 +91,27 @@ module _ {a b : ℕ → ℕ} {other : ℕ → ℕ → ℕ} (turn : (c v w : ℕ)
 
       module _ (two : (c : ℕ) → a c ≡ b c → ⊥) where
         module _ (M : Marks a b S (labels a b other m S words) (notes a b other m S words s)) (long : length (notes a b other m S words s) ≡ m) where
-          pub held-is : Occupied a b (seated a b S) m (held a b other m S words s)
+          held-is : Occupied a b (seated a b S) m (held a b other m S words s)
           unfolding held
           held-is = finish-all turn m fits two asc solid (linking-is .whole) (suc m) (omega (arith, forest-few asc linking-is)) labels-is M (linking-is .size)
 
-          nexts-is : nexts a b other m S words s ≡ listed (next-at a b S) m 0
-          unfolding nexts next-at
+          nexts-is : nexts a b other m S words s ≡ listed (slot-next a b S) m 0
+          unfolding nexts slot-next slot-key
           nexts-is =
               let N = next-all m fits asc solid held-is labels-is (notes a b other m S words s) long in
-              is-listed (next-at a b S) m (nexts a b other m S words s) (N .0) (N .1)
+              is-listed (slot-next a b S) m (nexts a b other m S words s) (N .0) (N .1)
 
         -- Theorem: the build gives what the definitions say. It is overflow exactly if the stash has more than s keys; otherwise the held, next and stash
         -- words are exactly those of the canonical image, whatever stood in the scratch.
         pub built-is : built a b other m S words s ≡ canonical a b S m s
-        unfolding built canonical notes
+        unfolding built canonical notes slot-key
         built-is =
             let zeros : length {A = ℕ} (replicate s 0) ≡ s = length-replicate s 0 in
             elim noting-is [
               | over l e ↦ rw (e, lt-ltb s (length (stash a b S)) (omega arith))
               | fit l e k t long M ↦
                   let O = held-is M long in
-                  let h = is-listed (occupant a b (seated a b S)) m (held a b other m S words s) (O .size) (O .is) in
+                  let h = is-listed (slot-key a b S) m (held a b other m S words s) (O .size) (O .is) in
                   rw (e, le-ltb s (length (stash a b S)) (omega arith), k, t, drop-zeros (length (stash a b S)) s, nexts-is M long, h)
             ]
 
@@ -124,14 +120,3 @@ module _ (F : Family) (some : 0 < F .slots) (few : F .slots ≤ table-slots) {S 
   pub built-tables : (words : List ℕ) → length words ≡ slot-count F → (s : ℕ)
       → built (slot-0 F) (slot-1 F) (other F) (slot-count F) S words s ≡ canonical (slot-0 F) (slot-1 F) S (slot-count F) s
   built-tables words size s = built-is (other-end F some) (omega arith) (slots-fit F some) asc solid words size s (λ c. slots-apart F some c c)
-
--- the two cases
-module _ (a b : ℕ → ℕ) (S : List ℕ) (m s : ℕ) where
-  pub canonical-over : s < length (stash a b S) → canonical a b S m s ≡ overflow
-  unfolding canonical
-  canonical-over l = rw (lt-ltb s (length (stash a b S)) l)
-
-  pub canonical-made : length (stash a b S) ≤ s → canonical a b S m s ≡ made (listed (occupant a b (seated a b S)) m 0) (listed (next-at a b S) m 0)
-      (stash a b S ++ replicate (s - length (stash a b S)) 0) (length (stash a b S))
-  unfolding canonical
-  canonical-made l = rw (le-ltb s (length (stash a b S)) l)

@@ -1,16 +1,16 @@
--- The parts of scratch after code changed one of them: a word written in a part, or a part lent and back. Each law says that the parts are
--- as they were but for that one, so that the passes are followed part by part. Assumes nothing.
+-- What a pass asks of scratch, and the parts of scratch as code reads, writes and lends them. Each law says that the parts are as they were but for one,
+-- so that the passes are followed part by part. Assumes nothing.
 use Prim.Native.Nat.{ℕ, _+_, _*_, _-_, _≤_, _<_}
 use mathlib.Core.Path.{_≡_, sym, _∙_, ap}
-use mathlib.Core.List.{List, _++_, append-assoc}
+use mathlib.Core.List.{List}
 use native.Mathlib.Omega.{arith}
-use lib.ListN.{length, getD, set, take, drop, length-append, length-set}
-use lib.Seq.{getD-take, getD-drop, drop-at, take-take}
+use lib.ListN.{length, getD, set, length-set}
+use lib.Seq.{getD-take}
 use borrow.Rule.Slice.PartMut.{midOf, putMid}
 use Rattle.tabulation.specs.Hash.{Family, tabulation-length, max-slots}
-use Rattle.build.specs.Scratch.{parts-glue, Parts, glue, parts, held-at, next-at, sets-at, stash-at, used, Sized, Place, place-part, place-put, place-set}
-use Rattle.build.specs.Scratch.{with-held, with-next, with-sets, with-stash, keys-place, held-place, next-place, sets-place, stash-place}
-use Rattle.build.specs.Scratch.{parts-sized, glue-parts}
+use Rattle.build.specs.Scratch.{Parts, glue, parts, held-at, next-at, sets-at, stash-at, used, Sized, Place, place-word, place-part, place-put, place-set}
+use Rattle.build.specs.Scratch.{with-held, with-next, with-sets, with-stash, held-place, next-place, sets-place, stash-place}
+use Rattle.build.specs.Scratch.{parts-sized, glue-parts, parts-glue}
 
 -- what every pass asks of scratch: sizes in range, and enough words for the parts
 pub record Enough (r s : ℕ) (scratch : List ℕ) : Type 0 where
@@ -39,10 +39,6 @@ tables tabulation r = record { tabulation = tabulation; slots = r }
 pub record Fit (m : ℕ) (labels : List ℕ) : Type 0 where
   pub fit : (v : ℕ) → v < m → getD labels v 0 < m
 
--- so words are known by their parts
-pub is-glue : (r s : ℕ) {xs : List ℕ} {P : Parts} → used r s ≤ length xs → parts r s xs ≡ P → xs ≡ glue P
-is-glue r s {xs} long e = sym (glue-parts r s xs long) ∙ ap glue e
-
 -- the sizes with another part in the place of one
 module _ {r s : ℕ} {P : Parts} (Z : Sized r s P) (ys : List ℕ) where
   pub held-sized : length ys ≡ 2 * r → Sized r s (with-held P ys)
@@ -57,80 +53,78 @@ module _ {r s : ℕ} {P : Parts} (Z : Sized r s P) (ys : List ℕ) where
   pub stash-sized : length ys ≡ s → Sized r s (with-stash P ys)
   stash-sized e = record { keys-size = Z .keys-size; held-size = Z .held-size; next-size = Z .next-size; sets-size = Z .sets-size; stash-size = e }
 
--- one law for every part: `new ys` are the parts with ys in its place, and the words are glued of them at X, which has n words
-module _ {r s at n : ℕ} {xs : List ℕ} (new : List ℕ → Parts) (X : List ℕ) (L : Place at (λ ys. glue (new ys))) (whole : glue (new X) ≡ xs)
-    (size : length X ≡ n) (sized : (ys : List ℕ) → length ys ≡ n → Sized r s (new ys)) where
-  written : (v x : ℕ) → v < n → parts r s (set xs (at + v) x) ≡ new (set X v x)
-  written v x l =
-      ap (λ (ys : List ℕ). parts r s (set ys (at + v) x)) (sym whole) ∙ ap (parts r s) (place-set L X v x (omega arith))
-      ∙ parts-glue (sized (set X v x) (length-set X v x ∙ size))
+-- a part of the words xs: n words X, from `at` to `end`; `new ys` are the parts of scratch with ys in its place
+pub record Part (r s : ℕ) (xs : List ℕ) (at end n : ℕ) (X : List ℕ) (new : List ℕ → Parts) : Type 0 where
+  pub place : Place at (λ ys. glue (new ys))
+  pub whole : glue (new X) ≡ xs
+  pub size : length X ≡ n
+  pub ends : end ≡ at + n
+  pub sized : (ys : List ℕ) → length ys ≡ n → Sized r s (new ys)
 
-  put : (ys : List ℕ) → length ys ≡ n → parts r s (putMid at n xs ys) ≡ new ys
-  put ys e = ap (λ (zs : List ℕ). parts r s (putMid at n zs ys)) (sym whole) ∙ ap (parts r s) (place-put L X n size ys) ∙ parts-glue (sized ys e)
+module _ {r s : ℕ} {xs : List ℕ} (E : Enough r s xs) where
+  abbrev P : Parts
+  P = parts r s xs
 
-module _ (r s : ℕ) (xs : List ℕ) where
-  -- a word of a part is read
-  module _ (v : ℕ) where
-    pub read-key : v < 2 * r + s → getD xs v 0 ≡ getD (parts r s xs .keys) v 0
-    unfolding parts
-    read-key l = sym (getD-take (2 * r + s) xs v 0 l)
+  pub parts-fit : Sized r s P
+  parts-fit = parts-sized r s xs (E .long)
 
-    pub read-held : v < 2 * r → getD xs (held-at r s + v) 0 ≡ getD (parts r s xs .held) v 0
-    unfolding parts
-    read-held l = sym (getD-take (2 * r) (drop (held-at r s) xs) v 0 l ∙ getD-drop (held-at r s) xs v 0)
+  pub parts-whole : glue P ≡ xs
+  parts-whole = glue-parts r s xs (E .long)
 
-    pub read-next : v < 2 * r → getD xs (next-at r s + v) 0 ≡ getD (parts r s xs .next) v 0
-    unfolding parts
-    read-next l = sym (getD-take (2 * r) (drop (next-at r s) xs) v 0 l ∙ getD-drop (next-at r s) xs v 0)
+  -- words are known by their parts
+  pub is-glue : {Q : Parts} → P ≡ Q → xs ≡ glue Q
+  is-glue e = sym parts-whole ∙ ap glue e
 
-    pub read-sets : v < 2 * r → getD xs (sets-at r s + v) 0 ≡ getD (parts r s xs .sets) v 0
-    unfolding parts
-    read-sets l = sym (getD-take (2 * r) (drop (sets-at r s) xs) v 0 l ∙ getD-drop (sets-at r s) xs v 0)
-
-  -- the first n keys are the first n words
-  pub first-keys : (n : ℕ) → n ≤ 2 * r + s → take n (parts r s xs .keys) ≡ take n xs
+  -- the i-th key is the i-th word
+  pub read-key : (i : ℕ) → i < 2 * r + s → getD xs i 0 ≡ getD (P .keys) i 0
   unfolding parts
-  first-keys n l = take-take n (2 * r + s) xs l
+  read-key i l = sym (getD-take (2 * r + s) xs i 0 l)
 
-  -- the held words, lent from a to e
-  pub lent-held : (a e : ℕ) → a ≡ held-at r s → e ≡ next-at r s → midOf a (e - a) xs ≡ parts r s xs .held
-  unfolding parts
-  lent-held a e p q = let k : e - a ≡ 2 * r = omega arith in rw (k, p)
+  -- the other parts
+  pub held-part : Part r s xs (held-at r s) (next-at r s) (2 * r) (P .held) (with-held P)
+  held-part = record { place = held-place parts-fit; whole = parts-whole; size = parts-fit .held-size; ends = omega arith; sized = held-sized parts-fit }
 
-  module _ (long : used r s ≤ length xs) where
-    abbrev Z : Sized r s (parts r s xs)
-    Z = parts-sized r s xs long
+  pub next-part : Part r s xs (next-at r s) (sets-at r s) (2 * r) (P .next) (with-next P)
+  next-part = record { place = next-place parts-fit; whole = parts-whole; size = parts-fit .next-size; ends = omega arith; sized = next-sized parts-fit }
 
-    abbrev G : glue (parts r s xs) ≡ xs
-    G = glue-parts r s xs long
+  pub sets-part : Part r s xs (sets-at r s) (stash-at r s) (2 * r) (P .sets) (with-sets P)
+  sets-part = record { place = sets-place parts-fit; whole = parts-whole; size = parts-fit .sets-size; ends = omega arith; sized = sets-sized parts-fit }
 
-    -- a word of a part is written
-    pub write-next : (v x : ℕ) → v < 2 * r → parts r s (set xs (next-at r s + v) x) ≡ with-next (parts r s xs) (set (parts r s xs .next) v x)
-    write-next = written (with-next (parts r s xs)) (parts r s xs .next) (next-place Z) G (Z .next-size) (next-sized Z)
+  pub stash-part : Part r s xs (stash-at r s) (used r s) s (P .stash) (with-stash P)
+  stash-part = record { place = stash-place parts-fit; whole = parts-whole; size = parts-fit .stash-size; ends = omega arith; sized = stash-sized parts-fit }
 
-    pub write-sets : (v x : ℕ) → v < 2 * r → parts r s (set xs (sets-at r s + v) x) ≡ with-sets (parts r s xs) (set (parts r s xs .sets) v x)
-    write-sets = written (with-sets (parts r s xs)) (parts r s xs .sets) (sets-place Z) G (Z .sets-size) (sets-sized Z)
+module _ {r s at end n : ℕ} {xs X : List ℕ} {new : List ℕ → Parts} (Q : Part r s xs at end n X new) where
+  -- the word at i, which is the word v of the part: read, and written
+  module _ {i v : ℕ} (is : i ≡ at + v) (low : v < n) where
+    pub part-word : getD xs i 0 ≡ getD X v 0
+    part-word = rw (is, ← Q .whole) (place-word (Q .place) X v (omega (arith, Q .size)))
 
-    pub write-stash : (v x : ℕ) → v < s → parts r s (set xs (stash-at r s + v) x) ≡ with-stash (parts r s xs) (set (parts r s xs .stash) v x)
-    write-stash = written (with-stash (parts r s xs)) (parts r s xs .stash) (stash-place Z) G (Z .stash-size) (stash-sized Z)
+    pub part-set : (x : ℕ) → parts r s (set xs i x) ≡ new (set X v x)
+    part-set x =
+        rw (is, ← Q .whole, place-set (Q .place) X v x (omega (arith, Q .size))) (parts-glue (Q .sized (set X v x) (length-set X v x ∙ Q .size)))
 
-    -- a part, lent from a to e, comes back with other words
-    module _ (a e : ℕ) where
-      pub put-held : a ≡ held-at r s → e ≡ next-at r s → (ys : List ℕ) → length ys ≡ length (midOf a (e - a) xs)
-          → parts r s (putMid a (e - a) xs ys) ≡ with-held (parts r s xs) ys
-      put-held p q ys t =
-          let k : e - a ≡ 2 * r = omega arith in
-          let size : length ys ≡ 2 * r = t ∙ ap length (lent-held a e p q) ∙ Z .held-size in
-          rw (k, p) (put (with-held (parts r s xs)) (parts r s xs .held) (held-place Z) G (Z .held-size) (held-sized Z) ys size)
+  -- the part, lent from a to e
+  module _ {a e : ℕ} (start : a ≡ at) (stop : e ≡ end) where
+    count : e - a ≡ n
+    count = omega (arith, Q .ends)
 
-      pub put-sets : a ≡ sets-at r s → e ≡ stash-at r s → (ys : List ℕ) → length ys ≡ 2 * r
-          → parts r s (putMid a (e - a) xs ys) ≡ with-sets (parts r s xs) ys
-      put-sets p q =
-          let k : e - a ≡ 2 * r = omega arith in
-          rw (k, p) (put (with-sets (parts r s xs)) (parts r s xs .sets) (sets-place Z) G (Z .sets-size) (sets-sized Z))
+    pub part-lent : midOf a (e - a) xs ≡ X
+    part-lent = rw (count, start, ← Q .whole) (place-part (Q .place) X n (Q .size))
 
-      pub put-stash : a ≡ stash-at r s → e ≡ used r s → (ys : List ℕ) → length ys ≡ s
-          → parts r s (putMid a (e - a) xs ys) ≡ with-stash (parts r s xs) ys
-      put-stash p q =
-          let k : e - a ≡ s = omega arith in
-          rw (k, p) (put (with-stash (parts r s xs)) (parts r s xs .stash) (stash-place Z) G (Z .stash-size) (stash-sized Z))
+    pub part-long : length (midOf a (e - a) xs) ≡ n
+    part-long = ap length part-lent ∙ Q .size
+
+    -- back with other words, ys: all words, and the parts
+    pub part-back : (ys : List ℕ) → putMid a (e - a) xs ys ≡ glue (new ys)
+    part-back ys = rw (count, start, ← Q .whole) (place-put (Q .place) X n (Q .size) ys)
+
+    pub part-put : (ys : List ℕ) → length ys ≡ n → parts r s (putMid a (e - a) xs ys) ≡ new ys
+    part-put ys l = ap (parts r s) (part-back ys) ∙ parts-glue (Q .sized ys l)
+
+    -- the words that came back are a change f of those that were lent
+    module _ (f : List ℕ → List ℕ) {ys : List ℕ} (is : ys ≡ f (midOf a (e - a) xs)) where
+      pub part-changed : putMid a (e - a) xs ys ≡ glue (new (f X))
+      part-changed = part-back ys ∙ ap (λ (zs : List ℕ). glue (new zs)) (is ∙ ap f part-lent)
+
+      pub part-renewed : length ys ≡ length (midOf a (e - a) xs) → parts r s (putMid a (e - a) xs ys) ≡ new (f X)
+      part-renewed l = part-put ys (l ∙ part-long) ∙ ap new (is ∙ ap f part-lent)

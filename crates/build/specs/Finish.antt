@@ -1,7 +1,7 @@
 -- Step 4 of the build: each component, told by its label, is brought to its seats from the key that is noted there. Assumes nothing.
 use Prim.Native.Nat.{ℕ, zero, suc, _+_, _<_, _≤_}
 use mathlib.Core.Path.{_≡_, refl, sym, _∙_, ap}
-use mathlib.Core.Bool.{cond}
+use mathlib.Core.Bool.{true, false, cond}
 use mathlib.Core.Logic.{inl, inr}
 use mathlib.Core.List.{List, List·Memᴰ as In}
 use native.Mathlib.Omega.{arith}
@@ -9,13 +9,13 @@ use lib.Dec.{eqb, ltb}
 use lib.ListN.{length, getD}
 use borrow.Author.Tests.{eq-eqb, ne-eqb, lt-ltb, ltb-true}
 use Rattle.cuckoo.specs.Graph.{seated, occupant}
-use Rattle.cuckoo.specs.Sets.{eq?, in?, Asc, below-in, below-lt, in-below}
+use Rattle.cuckoo.specs.Sets.{test, eq?, in?, Asc, below-in, below-lt, in-below}
 use Rattle.cuckoo.specs.Joined.{Joined, jrefl, jsym, edge, mono, least}
 use Rattle.cuckoo.specs.Forest.{forest, forest-in, spans, spans-key, acyclic}
 use Rattle.cuckoo.specs.Settling.{seated-asc, seated-sub, seated-forest, seated-stops, is-seated, smallest, one}
 use Rattle.cuckoo.specs.Seating.{Ends, occupant-from}
 use Rattle.forest.specs.Oriented.{OrientedForest, Oriented, end-near, recast, standing}
-use Rattle.forest.specs.Finish.{Finished, Spanned, TreeComponent, CycleComponent, finish-tree, finish-cycle, finishes-tree, finishes-cycle}
+use Rattle.forest.specs.Finish.{Finished, Spanned, TreeComponent, CycleComponent, finish-tree, finish-cycle, finishes-tree, finishes-cycle, length-finish-tree, length-finish-cycle}
 use Rattle.build.specs.Held.{Occupied, standing-tree, standing-off}
 use Rattle.build.specs.Labels.{Labels, same-label}
 use Rattle.build.specs.Notes.{Marks, cycle, no-cycle}
@@ -32,14 +32,39 @@ module _ (a b : ℕ → ℕ) (other : ℕ → ℕ → ℕ) (fuel : ℕ) (notes :
   finished zero l held = held
   finished (suc n) l held = finished n (suc l) (finish-label l held)
 
+-- the cases of a label
+module _ (a b : ℕ → ℕ) (other : ℕ → ℕ → ℕ) (fuel : ℕ) (notes : List ℕ) (l : ℕ) (held : List ℕ) where
+  pub finish-label-none : getD notes l 0 ≡ 0 → finish-label a b other fuel notes l held ≡ held
+  unfolding finish-label
+  finish-label-none z = rw (eq-eqb (getD notes l 0) 0 z)
+
+  pub finish-label-tree : (getD notes l 0 ≡ 0 → ⊥) → standing a b held (getD notes l 0) ≡ true
+      → finish-label a b other fuel notes l held ≡ finish-tree a b other fuel held (getD notes l 0)
+  unfolding finish-label
+  finish-label-tree n t = rw (ne-eqb (getD notes l 0) 0 n, t)
+
+  pub finish-label-cycle : (getD notes l 0 ≡ 0 → ⊥) → standing a b held (getD notes l 0) ≡ false
+      → finish-label a b other fuel notes l held ≡ finish-cycle a b other fuel held (getD notes l 0)
+  unfolding finish-label
+  finish-label-cycle n t = rw (ne-eqb (getD notes l 0) 0 n, t)
+
+  pub finish-label-length : length (finish-label a b other fuel notes l held) ≡ length held
+  finish-label-length = elim (eq? (getD notes l 0) 0) [
+    | inl z ↦ rw (finish-label-none z)
+    | inr n ↦ elim (test (standing a b held (getD notes l 0))) [
+      | inl t ↦ rw (finish-label-tree n t) (length-finish-tree a b other fuel held (getD notes l 0))
+      | inr t ↦ rw (finish-label-cycle n t) (length-finish-cycle a b other fuel held (getD notes l 0))
+    ]
+  ]
+
 -- slots are joined to slots
-pub joined-fit : {a b : ℕ → ℕ} (m : ℕ) → ((c : ℕ) → (a c < m) × (b c < m)) → (R : List ℕ) {u v : ℕ} → Joined a b R u v → u < m → v < m
+joined-fit : {a b : ℕ → ℕ} (m : ℕ) → ((c : ℕ) → (a c < m) × (b c < m)) → (R : List ℕ) {u v : ℕ} → Joined a b R u v → u < m → v < m
 joined-fit {a} {b} m fits R {u} {v} j l =
     ltb-true v m (sym (least (λ x. ltb x m) R (λ c i. lt-ltb (a c) m (fits c .0) ∙ sym (lt-ltb (b c) m (fits c .1))) j) ∙ lt-ltb u m l)
 
 -- the seated keys and the forest that spans them
 module _ (a b : ℕ → ℕ) (S : List ℕ) (asc : Asc S) where
-  pub spanned : ((c : ℕ) → In c S → c ≡ 0 → ⊥) → Spanned a b (seated a b S) (forest a b S)
+  spanned : ((c : ℕ) → In c S → c ≡ 0 → ⊥) → Spanned a b (seated a b S) (forest a b S)
   spanned solid = record {
     asc = seated-asc a b S asc;
     forest = record { acyclic = λ c i. acyclic S i; solid = λ c i. solid c (forest-in a b S c i) };

@@ -3,17 +3,16 @@
 use Prim.Native.Nat.{ℕ, suc, _<_, _≤_}
 use mathlib.Core.Path.{_≡_, refl, _∙_}
 use mathlib.Core.Bool.{cond}
-use mathlib.Core.Logic.{inl, inr, _↔_}
+use mathlib.Core.Logic.{inl, inr}
 use mathlib.Core.List.{List, [], _∷_, List·Memᴰ as In, List·Memᴰ·head as here, List·Memᴰ·tail as there}
 use native.Mathlib.Omega.{arith}
 use lib.Dec.{eqb, ltb}
 use lib.ListN.{length, replicate, length-replicate}
 use borrow.Author.Tests.{eq-eqb, ne-eqb}
-use Rattle.cuckoo.specs.Graph.{joined}
-use Rattle.cuckoo.specs.Sets.{test, Sub, Asc, none, some}
+use Rattle.cuckoo.specs.Sets.{test, Sub, Asc}
 use Rattle.cuckoo.specs.Joined.{Joined, joined?, jrefl, edge, mono}
 use Rattle.cuckoo.specs.Seating.{Ends, from-a, from-b}
-use Rattle.cuckoo.specs.Forest.{forest, forest-in, spans}
+use Rattle.cuckoo.specs.Forest.{forest}
 use Rattle.forest.specs.Oriented.{OrientedForest, forest-sub, recast}
 use Rattle.forest.specs.Reroot.{reroot, length-reroot}
 use Rattle.forest.specs.Link.{forest-none, grow, grow-none, grow-pass, grow-link, grow-is, links, forest-fits, Once, no-key, one-more, keys-fit}
@@ -133,15 +132,8 @@ module _ {a b : ℕ → ℕ} {other : ℕ → ℕ → ℕ} (turn : (c v w : ℕ)
   ]
 
   module _ (few : m ≤ max-slots) {S : List ℕ} (asc : Asc S) (solid : (c : ℕ) → In c S → c ≡ 0 → ⊥) where
-    -- Law of step 1: the held words are an oriented forest of Kruskal's forest of S,
+    -- Law of step 1: the held words are an oriented forest of Kruskal's forest of S, and the sets are its trees.
     pub link-all : Linked a b m (forest a b S) (link-keys a b other (suc m) S (unlinked m))
     link-all =
         let g = grow-is a b asc in
         linked-same (g .0) (g .1) (link-grow S solid (linked-none few) no-key)
-
-    -- and two slots have one representative exactly if S joins them.
-    pub link-joined : (u v : ℕ) → u < m → v < m
-        → let sets = link-keys a b other (suc m) S (unlinked m) .sets in (rep-of sets u ≡ rep-of sets v) ↔ Joined a b S u v
-    link-joined u v lu lv =
-        let law = link-all .parts .law u v lu lv in
-        (λ e. mono (forest-in a b S) (law .0 e), λ j. law .1 (spans S j))

@@ -9,23 +9,26 @@ use native.Mathlib.Omega.{arith}
 use native.Mathlib.Nat.{le-refl}
 use native.Mathlib.Numerals.{add-one}
 use lib.Dec.{ltb}
-use lib.ListN.{length, getD, replicate, take, drop, length-replicate, set, length-set, take-append-drop, List·getD-append}
+use lib.ListN.{length, getD, replicate, take, drop, length-replicate, set, take-append-drop, List·getD-append}
 use lib.Seq.{length-take-le, getD-take, take-suc, take-take}
-use borrow.Author.Tests.{ne-eqb}
-use Rattle.tabulation.specs.Hash.{Family, max-slots as table-slots}
+use borrow.Author.Tests.{eq-eqb, ne-eqb}
+use Rattle.tabulation.specs.Hash.{Family}
 use Rattle.tabulation.specs.Slots.{slot-0, slot-1}
 use Rattle.cuckoo.specs.Sets.{test}
 use Rattle.forest.specs.Reroot.{length-reroot}
 use Rattle.forest.specs.Held.{other, slot-count, budget, rerooted, other-end, slots-fit}
 use Rattle.partition.specs.Words.{Representative, Mergeable, rep-of, size-of, united, singletons-of}
 use Rattle.partition.specs.Partition.{rep-marked, mergeable}
-use Rattle.build.specs.Scratch.{Parts, glue, next-at, used, parts, parts-sized, glue-parts, parts-glue}
-use Rattle.build.specs.Scratch.{with-held, with-next, with-sets, place-set, next-place}
+use Rattle.build.specs.Scratch.{Parts, glue, next-at, parts, parts-glue, with-held, with-next, with-sets}
+use Rattle.build.specs.Changed.{Enough, Room, tables, parts-fit, parts-whole, held-sized, sets-sized, next-part, part-set}
 use Rattle.build.specs.Link.{Linking, smaller-end, link-key, link-keys, unlinked, Sound, sound-start, sound-key}
 use Rattle.build.specs.Labels.{relabel, labelled}
-use Rattle.build.specs.Steps.{link-key-within, label-step}
-use Rattle.build.specs.Slots.{each-slot, each-slot-none}
+use Rattle.build.specs.Slots.{each-slot, each-slot-none, each-slot-step}
 use Rattle.build.specs.Built.{linking}
+
+-- the parts with other held words and sets
+abbrev pub with-linking : Parts → Linking → Parts
+with-linking P L = with-sets (with-held P (L .held)) (L .sets)
 
 -- the held words and the sets that stand in scratch, and scratch with others
 module _ (r s : ℕ) (xs : List ℕ) where
@@ -33,19 +36,17 @@ module _ (r s : ℕ) (xs : List ℕ) where
   linking-in = record { held = parts r s xs .held; sets = parts r s xs .sets }
 
   abbrev pub relinked : Linking → List ℕ
-  relinked L =
-      let P = parts r s xs in
-      glue (record { keys = P .keys; held = L .held; next = P .next; sets = L .sets; stash = P .stash; rest = P .rest })
+  relinked L = glue (with-linking (parts r s xs) L)
 
 -- at the slots that a tabulation gives: one key, several keys, all keys from the start, and what has to hold before each
 module _ (F : Family) where
-  abbrev pub key-linked : ℕ → Linking → Linking
+  abbrev key-linked : ℕ → Linking → Linking
   key-linked key L = link-key (slot-0 F) (slot-1 F) (other F) (budget F) key L
 
-  abbrev pub keys-linked : List ℕ → Linking → Linking
+  abbrev keys-linked : List ℕ → Linking → Linking
   keys-linked S L = link-keys (slot-0 F) (slot-1 F) (other F) (budget F) S L
 
-  abbrev pub all-linked : List ℕ → Linking
+  abbrev all-linked : List ℕ → Linking
   all-linked S = linking (slot-0 F) (slot-1 F) (other F) (slot-count F) S
 
   abbrev pub Linkable : Linking → Type 0
@@ -77,18 +78,9 @@ abbrev pub Solid : List ℕ → Type 0
 Solid S = (c : ℕ) → In c S → c ≡ 0 → ⊥
 
 -- Other held words and sets, of the right sizes, are what scratch then has, and its other parts are as they were.
-module _ (r s : ℕ) (xs : List ℕ) (long : used r s ≤ length xs) (L : Linking) (held-size : length (L .held) ≡ 2 * r) (sets-size : length (L .sets) ≡ 2 * r) where
-  pub parts-linking : parts r s (relinked r s xs L)
-      ≡ (let P = parts r s xs in record { keys = P .keys; held = L .held; next = P .next; sets = L .sets; stash = P .stash; rest = P .rest })
-  parts-linking =
-      let Z = parts-sized r s xs long in
-      parts-glue (record { keys-size = Z .keys-size; held-size = held-size; next-size = Z .next-size; sets-size = sets-size; stash-size = Z .stash-size })
-
-  pub linking-back : linking-in r s (relinked r s xs L) ≡ L
-  linking-back = rw parts-linking
-
-  pub relinked-again : (M : Linking) → relinked r s (relinked r s xs L) M ≡ relinked r s xs M
-  relinked-again M = rw parts-linking
+module _ {r s : ℕ} {xs : List ℕ} (E : Enough r s xs) (L : Linking) (held-size : length (L .held) ≡ 2 * r) (sets-size : length (L .sets) ≡ 2 * r) where
+  parts-linking : parts r s (relinked r s xs L) ≡ with-linking (parts r s xs) L
+  parts-linking = parts-glue (sets-sized (held-sized (parts-fit E) (L .held) held-size) (L .sets) sets-size)
 
 -- what code has found of a key: its two slots and their representatives
 pub record Found (F : Family) (sets : List ℕ) (key first second one two : ℕ) : Type 0 where
@@ -132,48 +124,44 @@ module _ {F : Family} {L : Linking} {key first second one two : ℕ} (E : Found 
   ends-merge n = mergeable (K .linked .parts) one-marked two-marked n
 
 -- The two ends in one set: nothing is to be done. In two sets: the held words have the tree re-rooted, then the sets are united.
-module _ {F : Family} (s : ℕ) (xs : List ℕ) (long : used (F .slots) s ≤ length xs) {key first second one two : ℕ}
-    (E : Found F (parts (F .slots) s xs .sets) key first second one two) where
+module _ {T : List ℕ} {r s : ℕ} {xs : List ℕ} (R : Room T r s xs) {key first second one two : ℕ}
+    (K : Found (tables T r) (parts r s xs .sets) key first second one two) where
   abbrev P : Parts
-  P = parts (F .slots) s xs
+  P = parts r s xs
 
-  pub within-sets : one ≡ two → xs ≡ key-words F s key xs
+  pub within-sets : one ≡ two → xs ≡ key-words (tables T r) s key xs
+  unfolding link-key
   within-sets e =
-      let q : rep-of (P .sets) (slot-0 F key) ≡ rep-of (P .sets) (slot-1 F key) = sym (first-set E) ∙ e ∙ second-set E in
-      rw (link-key-within (slot-0 F) (slot-1 F) (other F) (budget F) key (linking-in (F .slots) s xs) q) (sym (glue-parts (F .slots) s xs long))
+      rw (eq-eqb (rep-of (P .sets) (slot-0 (tables T r) key)) (rep-of (P .sets) (slot-1 (tables T r) key)) (sym (first-set K) ∙ e ∙ second-set K)) (sym (parts-whole (R .enough)))
 
-  module _ (end : ℕ) (xs₁ : List ℕ) (turned : xs₁ ≡ glue (with-held P (rerooted F (P .held) key end))) where
-    turned-parts : parts (F .slots) s xs₁ ≡ with-held P (rerooted F (P .held) key end)
+  module _ (end : ℕ) {xs₁ : List ℕ} (turned : xs₁ ≡ glue (with-held P (rerooted (tables T r) (P .held) key end))) where
+    turned-parts : parts r s xs₁ ≡ with-held P (rerooted (tables T r) (P .held) key end)
     turned-parts =
-        let Z = parts-sized (F .slots) s xs long in
-        let L : Linking = record { held = rerooted F (P .held) key end; sets = P .sets } in
-        rw turned (parts-linking (F .slots) s xs long L (length-reroot (other F) (budget F) (P .held) key end ∙ Z .held-size) (Z .sets-size))
+        let size = length-reroot (other (tables T r)) (budget (tables T r)) (P .held) key end ∙ parts-fit (R .enough) .held-size in
+        rw turned (parts-glue (held-sized (parts-fit (R .enough)) (rerooted (tables T r) (P .held) key end) size))
 
-    pub turned-sets : parts (F .slots) s xs₁ .sets ≡ P .sets
+    pub turned-sets : parts r s xs₁ .sets ≡ P .sets
     turned-sets = ap (λ (Q : Parts). Q .sets) turned-parts
 
     pub between-sets : (one ≡ two → ⊥) → end ≡ cond (ltb (size-of (P .sets) one) (size-of (P .sets) two)) first second
-        → glue (with-sets (parts (F .slots) s xs₁) (united (parts (F .slots) s xs₁ .sets) one two))
-        ≡ key-words F s key xs
+        → glue (with-sets (parts r s xs₁) (united (parts r s xs₁ .sets) one two))
+        ≡ key-words (tables T r) s key xs
     unfolding link-key
     between-sets n e =
         rw (
-          ne-eqb (rep-of (P .sets) (slot-0 F key)) (rep-of (P .sets) (slot-1 F key)) (found-apart E n),
+          ne-eqb (rep-of (P .sets) (slot-0 (tables T r) key)) (rep-of (P .sets) (slot-1 (tables T r) key)) (found-apart K n),
           turned-parts,
-          found-end E end e,
-          first-set E,
-          second-set E,
+          found-end K end e,
+          first-set K,
+          second-set K,
         )
 
 -- Before the first key: the held words cleared, then each slot alone in its set.
-module _ (r s : ℕ) (xs : List ℕ) (long : used r s ≤ length xs) where
-  pub start-words : (xs₁ ys zs : List ℕ) → xs₁ ≡ glue (with-held (parts r s xs) ys) → ys ≡ replicate (2 * r) 0 → zs ≡ singletons-of (2 * r)
-      → glue (with-sets (parts r s xs₁) zs) ≡ relinked r s xs (unlinked (2 * r))
-  unfolding unlinked
-  start-words xs₁ ys zs e h q =
-      let L : Linking = record { held = replicate (2 * r) 0; sets = parts r s xs .sets } in
-      let p = parts-linking r s xs long L (length-replicate (2 * r) 0) (parts-sized r s xs long .sets-size) in
-      rw (e, h, q, p)
+pub start-words : {r s : ℕ} {xs xs₁ ys zs : List ℕ} → Enough r s xs → xs₁ ≡ glue (with-held (parts r s xs) ys) → ys ≡ replicate (2 * r) 0
+    → zs ≡ singletons-of (2 * r) → glue (with-sets (parts r s xs₁) zs) ≡ relinked r s xs (unlinked (2 * r))
+unfolding unlinked
+start-words {r} E e h q =
+    rw (e, h, q, parts-glue (held-sized (parts-fit E) (replicate (2 * r) 0) (length-replicate (2 * r) 0)))
 
 -- key by key
 module _ (F : Family) where
@@ -188,74 +176,62 @@ module _ (F : Family) where
   keys-sound some (c ∷ R) solid L K =
       keys-sound some R (λ d i. solid d (there i)) (key-linked F c L) (sound-key (other-end F some) (slot-count F) (slots-fit F some) c (solid c (here refl)) K)
 
-module _ (F : Family) (some : 0 < F .slots) (s : ℕ) (xs : List ℕ) (long : used (F .slots) s ≤ length xs) (n : ℕ) (few : n ≤ 2 * F .slots + s)
-    (K : Linkable F (linking-in (F .slots) s xs)) (solid : Solid (first-keys (F .slots) s n xs)) where
+module _ {T : List ℕ} {r s : ℕ} {xs : List ℕ} (R : Room T r s xs) {n : ℕ} (few : n ≤ 2 * r + s) (K : Linkable (tables T r) (linking-in r s xs))
+    (solid : Solid (first-keys r s n xs)) where
+  abbrev F : Family
+  F = tables T r
+
   abbrev S : List ℕ
-  S = first-keys (F .slots) s n xs
+  S = first-keys r s n xs
 
   abbrev linked-by : ℕ → Linking
-  linked-by i = keys-linked F (take i S) (linking-in (F .slots) s xs)
+  linked-by i = keys-linked F (take i S) (linking-in r s xs)
 
   S-long : length S ≡ n
-  S-long = length-take-le n (parts (F .slots) s xs .keys) (rw (parts-sized (F .slots) s xs long .keys-size) few)
+  S-long = length-take-le n (parts r s xs .keys) (rw (parts-fit (R .enough) .keys-size) few)
 
   sound-by : (i : ℕ) → Linkable F (linked-by i)
   sound-by i =
-      keys-sound F some (take i S) (λ c m. solid c (subst (λ (R : List ℕ). In c R) (take-append-drop i S) (Memᴰ·append-left (drop i S) m)))
-      (linking-in (F .slots) s xs) K
+      keys-sound F (R .some) (take i S) (λ c m. solid c (subst (λ (Z : List ℕ). In c Z) (take-append-drop i S) (Memᴰ·append-left (drop i S) m)))
+      (linking-in r s xs) K
 
-  back-by : (i : ℕ) → linking-in (F .slots) s (after-keys F s n xs i) ≡ linked-by i
-  back-by i = let Q = sound-by i .linked in linking-back (F .slots) s xs long (linked-by i) (Q .size) (Q .parts .long)
+  parts-by : (i : ℕ) → parts r s (after-keys F s n xs i) ≡ with-linking (parts r s xs) (linked-by i)
+  parts-by i = let Q = sound-by i .linked in parts-linking (R .enough) (linked-by i) (Q .size) (Q .parts .long)
 
   -- what has to hold before the next key, the next key, and what it leads to
-  pub after-sound : (i : ℕ) → Linkable F (linking-in (F .slots) s (after-keys F s n xs i))
-  after-sound i = rw (back-by i) (sound-by i)
+  pub after-sound : (i : ℕ) → Linkable F (linking-in r s (after-keys F s n xs i))
+  after-sound i = rw (parts-by i) (sound-by i)
 
   after-at : (i : ℕ) → i < n → getD (after-keys F s n xs i) i 0 ≡ getD S i 0
   after-at i l =
-      let Z = parts-sized (F .slots) s xs long in
-      List·getD-append (parts (F .slots) s xs .keys) _ 0 i (rw (Z .keys-size) (omega arith)) ∙ sym (getD-take n (parts (F .slots) s xs .keys) i 0 l)
+      List·getD-append (parts r s xs .keys) _ 0 i (rw (parts-fit (R .enough) .keys-size) (omega arith)) ∙ sym (getD-take n (parts r s xs .keys) i 0 l)
 
   pub after-more : (i : ℕ) → i < n
       → key-words F s (getD (after-keys F s n xs i) i 0) (after-keys F s n xs i) ≡ after-keys F s n xs (i + 1)
-  after-more i l =
-      let Q = sound-by i .linked in
-      rw (
-        add-one,
-        after-at i l,
-        back-by i,
-        relinked-again (F .slots) s xs long (linked-by i) (Q .size) (Q .parts .long),
-        take-suc S i 0 (rw S-long l),
-        keys-then F (take i S) (getD S i 0),
-      )
+  after-more i l = rw (add-one, after-at i l, parts-by i, take-suc S i 0 (rw S-long l), keys-then F (take i S) (getD S i 0))
 
   pub after-none : xs ≡ after-keys F s n xs 0
   unfolding link-keys
-  after-none = sym (glue-parts (F .slots) s xs long)
+  after-none = sym (parts-whole (R .enough))
 
   pub after-all : after-keys F s n xs n ≡ keys-words F s n xs
-  after-all = rw (take-take n n (parts (F .slots) s xs .keys) (le-refl n))
+  after-all = rw (take-take n n (parts r s xs .keys) (le-refl n))
 
 -- All keys, from the start.
-module _ (F : Family) (few : F .slots ≤ table-slots) (s : ℕ) (xs : List ℕ) (long : used (F .slots) s ≤ length xs) (ys : List ℕ)
-    (start : ys ≡ relinked (F .slots) s xs (unlinked (2 * F .slots))) where
-  unlinked-sound : Linkable F (unlinked (2 * F .slots))
-  unlinked-sound = sound-start (omega arith)
+module _ {T : List ℕ} {r s : ℕ} {xs ys : List ℕ} (R : Room T r s xs) (start : ys ≡ relinked r s xs (unlinked (2 * r))) where
+  unlinked-sound : Linkable (tables T r) (unlinked (2 * r))
+  unlinked-sound = sound-start (omega (arith, R .enough .most))
 
-  start-parts : parts (F .slots) s ys ≡ (
-      let P = parts (F .slots) s xs in
-      let L = unlinked (2 * F .slots) in
-      record { keys = P .keys; held = L .held; next = P .next; sets = L .sets; stash = P .stash; rest = P .rest }
-      )
-  start-parts = let K = unlinked-sound .linked in rw start (parts-linking (F .slots) s xs long (unlinked (2 * F .slots)) (K .size) (K .parts .long))
+  start-parts : parts r s ys ≡ with-linking (parts r s xs) (unlinked (2 * r))
+  start-parts = let K = unlinked-sound .linked in rw start (parts-linking (R .enough) (unlinked (2 * r)) (K .size) (K .parts .long))
 
-  pub start-sound : Linkable F (linking-in (F .slots) s ys)
+  pub start-sound : Linkable (tables T r) (linking-in r s ys)
   start-sound = rw start-parts unlinked-sound
 
-  pub start-keys : parts (F .slots) s ys .keys ≡ parts (F .slots) s xs .keys
+  pub start-keys : parts r s ys .keys ≡ parts r s xs .keys
   start-keys = ap (λ (P : Parts). P .keys) start-parts
 
-  pub all-words : (n : ℕ) → keys-words F s n ys ≡ linked-words F s n xs
+  pub all-words : (n : ℕ) → keys-words (tables T r) s n ys ≡ linked-words (tables T r) s n xs
   unfolding linking
   all-words n = rw start-parts
 
@@ -263,7 +239,7 @@ module _ (F : Family) (few : F .slots ≤ table-slots) (s : ℕ) (xs : List ℕ)
 abbrev pub labels-from : (r s v : ℕ) → List ℕ → List ℕ
 labels-from r s v xs = let P = parts r s xs in glue (with-next P (each-slot (relabel (P .sets)) (2 * r - v) v (P .next)))
 
-module _ (r s : ℕ) (xs : List ℕ) (long : used r s ≤ length xs) where
+module _ {r s : ℕ} {xs : List ℕ} (E : Enough r s xs) where
   abbrev Q : Parts
   Q = parts r s xs
 
@@ -272,24 +248,10 @@ module _ (r s : ℕ) (xs : List ℕ) (long : used r s ≤ length xs) where
   labels-none = let e : 2 * r - 0 ≡ 2 * r = omega arith in rw e
 
   pub labels-done : (v : ℕ) → 2 * r ≤ v → labels-from r s v xs ≡ xs
-  labels-done v l = let e : 2 * r - v ≡ 0 = omega arith in rw (e, each-slot-none (relabel (Q .sets)) v (Q .next)) (glue-parts r s xs long)
+  labels-done v l = let e : 2 * r - v ≡ 0 = omega arith in rw (e, each-slot-none (relabel (Q .sets)) v (Q .next)) (parts-whole E)
 
-  -- a next word written
-  next-written : (v x : ℕ) → v < 2 * r → parts r s (set xs (next-at r s + v) x) ≡ with-next Q (set (Q .next) v x)
-  next-written v x l =
-      let Z = parts-sized r s xs long in
-      let e = place-set (next-place Z) (Q .next) v x (rw (Z .next-size) l) in
-      let w : set xs (next-at r s + v) x ≡ glue (with-next Q (set (Q .next) v x)) =
-      ap (λ (zs : List ℕ). set zs (next-at r s + v) x) (sym (glue-parts r s xs long)) ∙ e in
-      rw w (parts-glue (record {
-        keys-size = Z .keys-size;
-        held-size = Z .held-size;
-        next-size = length-set (Q .next) v x ∙ Z .next-size;
-        sets-size = Z .sets-size;
-        stash-size = Z .stash-size;
-      }))
-
-  pub labels-more : (v : ℕ) → v < 2 * r → labels-from r s v xs ≡ labels-from r s (v + 1) (set xs (next-at r s + v) (rep-of (Q .sets) v))
-  labels-more v l =
+  -- the label of slot v is written at i
+  pub labels-more : {i v x : ℕ} → i ≡ next-at r s + v → v < 2 * r → x ≡ rep-of (Q .sets) v → labels-from r s v xs ≡ labels-from r s (v + 1) (set xs i x)
+  labels-more {v = v} at l is =
       let e : 2 * r - v ≡ suc (2 * r - suc v) = omega arith in
-      rw (add-one, next-written v (rep-of (Q .sets) v) l, e, label-step (Q .sets) (2 * r - suc v) v (Q .next))
+      rw (is, add-one, part-set (next-part E) at l (rep-of (Q .sets) v), e, each-slot-step (relabel (Q .sets)) (2 * r - suc v) v (Q .next))

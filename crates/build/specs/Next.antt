@@ -12,7 +12,7 @@ use lib.ListN.{length, getD, set, length-set, List·getD-eq-default}
 use lib.Seq.{getD-set-same, getD-set-other}
 use borrow.Author.Tests.{eq-eqb, ne-eqb}
 use Rattle.cuckoo.specs.Graph.{seated, occupant, next}
-use Rattle.cuckoo.specs.Sets.{test, eq?, le?, Sub, Asc, none, some}
+use Rattle.cuckoo.specs.Sets.{test, eq?, le?, Sub, Asc, some}
 use Rattle.cuckoo.specs.Joined.{Joined, jsym, edge}
 use Rattle.cuckoo.specs.Settling.{seated-asc, seated-sub, seated-stops}
 use Rattle.cuckoo.specs.Seating.{from-a, from-b, occupant-from, look}
@@ -127,7 +127,7 @@ module _ (a b : ℕ → ℕ) (held : List ℕ) where
       ]
 
   -- the word of a slot stays until its key has its turn
-  pub chained-still : (R : List ℕ) (P : Passing) (v : ℕ) → (In (getD held v 0) R → ⊥) → getD (chained a b held R P .next) v 0 ≡ getD (P .next) v 0
+  chained-still : (R : List ℕ) (P : Passing) (v : ℕ) → (In (getD held v 0) R → ⊥) → getD (chained a b held R P .next) v 0 ≡ getD (P .next) v 0
   unfolding chained
   chained-still [] P v n = refl
   chained-still (c ∷ R) P v n =

@@ -6,16 +6,17 @@ use mathlib.Core.Bool.{true, false, cond}
 use mathlib.Core.List.{List, [], _∷_, List·Memᴰ as In, List·Memᴰ·head as here, List·Memᴰ·tail as there}
 use native.Mathlib.Omega.{arith}
 use lib.ListN.{length, getD, set, take, drop}
+use lib.Seq.{set-getD}
+use borrow.Author.Tests.{eq-eqb, ne-eqb}
 use Rattle.tabulation.specs.Hash.{Family}
 use Rattle.tabulation.specs.Slots.{slot-0, slot-1}
 use Rattle.cuckoo.specs.Sets.{Asc, none, some}
 use Rattle.forest.specs.Oriented.{standing}
 use Rattle.forest.specs.Held.{holding, slot-count, slots-fit}
 use Rattle.build.specs.Held.{seat}
-use Rattle.build.specs.Slots.{each-slot, each-slot-none}
+use Rattle.build.specs.Slots.{each-slot, each-slot-none, each-slot-step}
 use Rattle.build.specs.Labels.{Labels, label-of, label-fit}
 use Rattle.build.specs.Next.{Passing, last-seen, put-at, put-next, chained, blank, blanked, label-read}
-use Rattle.build.specs.Steps.{last-seen-none, chained-none, blank-empty, blank-filled}
 use Rattle.build.specs.Scratch.{Parts, with-sets, with-next}
 use Rattle.build.specs.Passes.{with-passing, blanked-parts}
 use Rattle.build.specs.NotesCode.{next-key, no-key}
@@ -31,6 +32,14 @@ module _ (a b : ℕ → ℕ) (held : List ℕ) where
       let l = getD (Q .next) (seat a b held c) 0 in
       cond (standing a b held c) (record { last = set (Q .last) l c; next = put-next a b held (Q .next) c (getD (Q .last) l 0) }) Q
 
+  last-seen-none : (labels last : List ℕ) → last-seen a b held labels [] last ≡ last
+  unfolding last-seen
+  last-seen-none labels last = refl
+
+  chained-none : (P : Passing) → chained a b held [] P ≡ P
+  unfolding chained
+  chained-none P = refl
+
   last-seen-on : (labels : List ℕ) (c : ℕ) (R last : List ℕ) → last-seen a b held labels (c ∷ R) last ≡ see-key labels c (last-seen a b held labels R last)
   unfolding last-seen see-key
   last-seen-on labels c R last = refl
@@ -40,7 +49,7 @@ module _ (a b : ℕ → ℕ) (held : List ℕ) where
   chained-on c R P = refl
 
 -- the passing whose words are in the parts
-abbrev pub passing-in : Parts → Passing
+abbrev passing-in : Parts → Passing
 passing-in P = record { last = P .sets; next = P .next }
 
 -- the parts with the next number x at the slot v, if the key c stands there
@@ -54,10 +63,10 @@ pub record Chainable (F : Family) (n : ℕ) (P : Parts) : Type 0 where
 
 module _ (F : Family) (P : Parts) (c : ℕ) where
   -- the words last seen, and the passing, after one key more
-  abbrev pub last-after : List ℕ
+  abbrev last-after : List ℕ
   last-after = see-key (slot-0 F) (slot-1 F) (P .held) (P .next) c (P .sets)
 
-  abbrev pub passing-after : Passing
+  abbrev passing-after : Passing
   passing-after = chain-key (slot-0 F) (slot-1 F) (P .held) c (passing-in P)
 
   -- the parts then
@@ -79,7 +88,6 @@ module _ (F : Family) (P : Parts) (c : ℕ) where
   label-at = getD (P .next) seat-in 0
 
   -- that word is still a label
-
   pub record Readable : Type 0 where
     pub fit : holding F (P .held) c ≡ true → label-at < slot-count F
 
@@ -163,6 +171,14 @@ module _ (F : Family) (n : ℕ) (P₀ : Parts) where
               (label-fit (C .labels) (slots-fit F pos) c);
         })
 
+-- one slot of the last loop: it holds no key, or it holds one
+module _ (held : List ℕ) (n v : ℕ) (words : List ℕ) where
+  blank-empty : getD held v 0 ≡ 0 → each-slot (blank held) (suc n) v words ≡ each-slot (blank held) n (suc v) (set words v 0)
+  blank-empty e = rw (each-slot-step (blank held) n v words, eq-eqb (getD held v 0) 0 e)
+
+  blank-filled : (getD held v 0 ≡ 0 → ⊥) → each-slot (blank held) (suc n) v words ≡ each-slot (blank held) n (suc v) words
+  blank-filled e = rw (each-slot-step (blank held) n v words, ne-eqb (getD held v 0) 0 e, set-getD words v 0)
+
 -- the slots below v are blanked where they hold no key
 module _ (m : ℕ) (P₀ : Parts) where
   abbrev blank-ahead : ℕ → List ℕ → List ℕ
@@ -198,7 +214,7 @@ module _ (m : ℕ) (P₀ : Parts) where
     still = ap (λ (Z : Parts). getD (Z .held) v 0) (K .kept)
 
     pub blank-turn : v < m → getD (P .held) v 0 ≡ 0 → {Q : Parts} → Q ≡ with-next P (set (P .next) v 0) → BlankedTo Q (v + 1)
-    blank-turn l z turn = step l (set (P .next) v 0) turn (blank-empty (λ c. c) (λ c. c) (P₀ .held) (m - (v + 1)) v (P .next) (sym still ∙ z))
+    blank-turn l z turn = step l (set (P .next) v 0) turn (blank-empty (P₀ .held) (m - (v + 1)) v (P .next) (sym still ∙ z))
 
     pub blank-pass : v < m → (getD (P .held) v 0 ≡ 0 → ⊥) → BlankedTo P (v + 1)
-    blank-pass l nz = step l (P .next) refl (blank-filled (λ c. c) (λ c. c) (P₀ .held) (m - (v + 1)) v (P .next) (λ z. nz (still ∙ z)))
+    blank-pass l nz = step l (P .next) refl (blank-filled (P₀ .held) (m - (v + 1)) v (P .next) (λ z. nz (still ∙ z)))

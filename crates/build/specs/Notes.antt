@@ -12,7 +12,7 @@ use lib.ListN.{length, getD, set, length-set, drop, replicate, length-replicate}
 use lib.Seq.{sets, sets-eq, getD-set-same, getD-set-other}
 use borrow.Author.Tests.{eq-eqb, ne-eqb, lt-ltb, le-ltb}
 use Rattle.cuckoo.specs.Graph.{seated, stash, member, keep}
-use Rattle.cuckoo.specs.Sets.{eq?, le?, in?, Sub, Asc, none, some, in-member, no-member}
+use Rattle.cuckoo.specs.Sets.{eq?, le?, in?, Sub, Asc, some, in-member, no-member}
 use Rattle.cuckoo.specs.Joined.{edge}
 use Rattle.cuckoo.specs.Forest.{forest, spans}
 use Rattle.cuckoo.specs.Settling.{seated-forest, seated-is, is-seated, tree, smallest}

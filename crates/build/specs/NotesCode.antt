@@ -15,7 +15,6 @@ use Rattle.tabulation.specs.Slots.{slot-0, slot-1}
 use Rattle.forest.specs.Oriented.{standing}
 use Rattle.build.specs.Labels.{label-of}
 use Rattle.build.specs.Notes.{Noting, nothing-noted, note-at, stash-key, overflowed, noted, noted-held}
-use Rattle.build.specs.Steps.{noted-none, noted-held-none}
 use Rattle.build.specs.Scratch.{Parts, with-sets}
 use Rattle.build.specs.Passes.{with-noting, answer, noting-of, noted-parts, noted-held-parts}
 use Rattle.build.specs.declared.notes.StashCount.{StashCount}
@@ -34,7 +33,7 @@ module _ (a b : ℕ → ℕ) (held labels : List ℕ) where
   note-held-key c notes = let l = label-of a labels c in cond (standing a b held c) (cond (eqb (getD notes l 0) 0) (set notes l c) notes) notes
 
 -- the noting whose words are in the parts, with k keys in the stash
-abbrev pub noting-in : Parts → ℕ → Noting
+abbrev noting-in : Parts → ℕ → Noting
 noting-in P k = record { notes = P .sets; stash = P .stash; count = k; overflow = false }
 
 -- the noting after one key more
@@ -42,7 +41,7 @@ abbrev pub noting-after : Family → Parts → ℕ → ℕ → Noting
 noting-after F P k c = note-key (slot-0 F) (slot-1 F) (P .held) (P .next) c (noting-in P k)
 
 -- and the notes after one held key more
-abbrev pub notes-after : Family → Parts → ℕ → List ℕ
+abbrev notes-after : Family → Parts → ℕ → List ℕ
 notes-after F P c = note-held-key (slot-0 F) (slot-1 F) (P .held) (P .next) c (P .sets)
 
 -- the parts then
@@ -51,6 +50,15 @@ key-noted F P k c = with-noting P (noting-after F P k c)
 
 abbrev pub held-key-noted : Family → Parts → ℕ → Parts
 held-key-noted F P c = with-sets P (notes-after F P c)
+
+module _ (a b : ℕ → ℕ) (held labels : List ℕ) where
+  noted-none : (N : Noting) → noted a b held labels [] N ≡ N
+  unfolding noted
+  noted-none N = refl
+
+  noted-held-none : (notes : List ℕ) → noted-held a b held labels [] notes ≡ notes
+  unfolding noted-held
+  noted-held-none notes = refl
 
 module _ (a b : ℕ → ℕ) (held labels : List ℕ) (c : ℕ) (R : List ℕ) where
   -- the pass goes on after a key, or ends there
@@ -71,27 +79,27 @@ module _ (a b : ℕ → ℕ) (held labels : List ℕ) (c : ℕ) (R : List ℕ) w
       go false false true = rw e
       go false false false = refl
 
-  pub noted-on : (N : Noting) → N .overflow ≡ false → note-key a b held labels c N .overflow ≡ false
+  noted-on : (N : Noting) → N .overflow ≡ false → note-key a b held labels c N .overflow ≡ false
       → noted a b held labels (c ∷ R) N ≡ noted a b held labels R (note-key a b held labels c N)
   noted-on N e f = noted-either N e ∙ rw f
 
-  pub noted-ends : (N : Noting) → N .overflow ≡ false → note-key a b held labels c N .overflow ≡ true
+  noted-ends : (N : Noting) → N .overflow ≡ false → note-key a b held labels c N .overflow ≡ true
       → noted a b held labels (c ∷ R) N ≡ note-key a b held labels c N
   noted-ends N e f = noted-either N e ∙ rw f
 
-  pub noted-held-on : (notes : List ℕ) → noted-held a b held labels (c ∷ R) notes ≡ noted-held a b held labels R (note-held-key a b held labels c notes)
+  noted-held-on : (notes : List ℕ) → noted-held a b held labels (c ∷ R) notes ≡ noted-held a b held labels R (note-held-key a b held labels c notes)
   unfolding noted-held note-held-key
   noted-held-on notes = refl
 
 -- what the answer says of a noting
-pub answer-keys : (N : Noting) {k : ℕ} → Keys k ≡ answer N → (N .overflow ≡ false) × (N .count ≡ k)
+answer-keys : (N : Noting) {k : ℕ} → Keys k ≡ answer N → (N .overflow ≡ false) × (N .count ≡ k)
 answer-keys N {k} = go (N .overflow)
   where
     go : (t : Bool) → Keys k ≡ cond t Overflow (Keys (N .count)) → (t ≡ false) × (N .count ≡ k)
     go true e = absurd (let z : _≡_ {A = ℕ} 0 1 = cc in omega arith)
     go false e = (refl, cc)
 
-pub answer-overflow : (N : Noting) → Overflow ≡ answer N → N .overflow ≡ true
+answer-overflow : (N : Noting) → Overflow ≡ answer N → N .overflow ≡ true
 answer-overflow N = go (N .overflow)
   where
     go : (t : Bool) → Overflow ≡ cond t Overflow (Keys (N .count)) → t ≡ true
@@ -164,7 +172,7 @@ module _ (F : Family) (n : ℕ) (P₀ : Parts) where
   noting-start l = record { long = l; kept = refl; same = refl }
 
   module _ {P : Parts} {i k : ℕ} (K : NotingAt P i k) where
-    pub noting-keys : P .keys ≡ P₀ .keys
+    noting-keys : P .keys ≡ P₀ .keys
     noting-keys = ap (λ (Q : Parts). Q .keys) (K .kept)
 
     pub noting-labels : P .next ≡ P₀ .next

@@ -5,9 +5,8 @@ use mathlib.Core.List.{List, _++_, List·Memᴰ as In}
 use lib.ListN.{length, take, replicate}
 use Rattle.tabulation.specs.Hash.{Family, tabulation-length, max-slots}
 use Rattle.tabulation.specs.Slots.{slot-0, slot-1}
-use Rattle.cuckoo.specs.Graph.{seated, stash, occupant}
+use Rattle.cuckoo.specs.Graph.{stash, slot-key, slot-next}
 use Rattle.build.specs.Slots.{listed}
-use Rattle.build.specs.Built.{next-at}
 use Rattle.cuckoo.specs.Sets.{Asc}
 use Rattle.build.specs.Scratch.{parts, used}
 use Rattle.build.specs.declared.notes.StashCount.{StashCount}
@@ -17,10 +16,10 @@ use Rattle.build.specs.declared.notes.StashCount.the-variants.{Keys, Ove
 abbrev pub stash-keys : Family → List ℕ → List ℕ
 stash-keys F S = stash (slot-0 F) (slot-1 F) S
 
--- The image of the set S stands in scratch: in each slot its occupant and that key's next number, and the stash, filled up with zeros.
+-- The image of the set S stands in scratch: in each slot its key and its next number, and the stash, filled up with zeros.
 pub record Standing (F : Family) (s : ℕ) (S scratch : List ℕ) : Type 0 where
-  pub held : parts (F .slots) s scratch .held ≡ listed (occupant (slot-0 F) (slot-1 F) (seated (slot-0 F) (slot-1 F) S)) (2 * F .slots) 0
-  pub next : parts (F .slots) s scratch .next ≡ listed (next-at (slot-0 F) (slot-1 F) S) (2 * F .slots) 0
+  pub held : parts (F .slots) s scratch .held ≡ listed (slot-key (slot-0 F) (slot-1 F) S) (2 * F .slots) 0
+  pub next : parts (F .slots) s scratch .next ≡ listed (slot-next (slot-0 F) (slot-1 F) S) (2 * F .slots) 0
   pub stashed : parts (F .slots) s scratch .stash ≡ stash-keys F S ++ replicate (s - length (stash-keys F S)) 0
 
 -- The build of the set S: there is no room for its stash, or its image stands in scratch. The words of the keys stay.

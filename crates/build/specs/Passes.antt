@@ -14,21 +14,20 @@ use Rattle.forest.specs.Held.{other, slot-count, budget}
 use Rattle.forest.specs.Oriented.{standing}
 use Rattle.build.specs.Labels.{Labels, label-of}
 use Rattle.build.specs.Notes.{Noting, nothing-noted, note-at, stash-key, noted, noted-held}
-use Rattle.build.specs.Finish.{finish-label, finished}
-use Rattle.build.specs.Steps.{finish-label-length}
+use Rattle.build.specs.Finish.{finish-label, finished, finish-label-length}
 use Rattle.build.specs.Slots.{each-slot-length}
 use Rattle.build.specs.Next.{Passing, last-seen, chained, blank, blanked, last-seen-length, chained-length}
-use Rattle.build.specs.Scratch.{Parts, Sized, with-held, with-next, with-sets}
+use Rattle.build.specs.Scratch.{Parts, Sized, with-held, with-next, with-sets, with-stash}
 use Rattle.build.specs.Changed.{Fit, held-sized, next-sized, sets-sized, stash-sized}
 use Rattle.build.specs.declared.notes.StashCount.{StashCount}
 use Rattle.build.specs.declared.notes.StashCount.the-variants.{Keys, Overflow}
 
 -- the parts with the words of a noting, and of a passing
 abbrev pub with-noting : Parts → Noting → Parts
-with-noting P N = record { keys = P .keys; held = P .held; next = P .next; sets = N .notes; stash = N .stash; rest = P .rest }
+with-noting P N = with-stash (with-sets P (N .notes)) (N .stash)
 
 abbrev pub with-passing : Parts → Passing → Parts
-with-passing P Q = record { keys = P .keys; held = P .held; next = Q .next; sets = Q .last; stash = P .stash; rest = P .rest }
+with-passing P Q = with-sets (with-next P (Q .next)) (Q .last)
 
 -- what the first pass of step 3 answers
 abbrev pub answer : Noting → StashCount

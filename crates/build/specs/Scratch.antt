@@ -2,11 +2,11 @@
 -- stash (s words), then words that the build never touches. `sets` serves the partition first, then the notes, then the last key seen of each
 -- label; `next` has the labels first. Each law is one about a part in the middle of words, at a place.
 use Prim.Native.Nat.{ℕ, _+_, _*_, _≤_, _<_}
-use mathlib.Core.Path.{_≡_, refl, sym, _∙_, ap}
-use mathlib.Core.List.{List, [], _++_, append-assoc}
+use mathlib.Core.Path.{_≡_, refl, sym, _∙_}
+use mathlib.Core.List.{List, _++_, append-assoc}
 use native.Mathlib.Omega.{arith}
 use lib.ListN.{length, getD, set, take, drop, length-append, length-take, length-drop, List·getD-append, take-append-drop}
-use lib.Seq.{getD-append-add, set-append-left, drop-append-seam, take-append-seam, take-at, drop-at, drop-drop}
+use lib.Seq.{getD-append-add, take-at, drop-at, drop-drop}
 use borrow.Rule.Slice.PartMut.{midOf, putMid, set-mid-at}
 
 pub record Parts : Type 0 where
@@ -84,9 +84,6 @@ module _ {at : ℕ} {of : List ℕ → List ℕ} (L : Place at of) (X : List ℕ
       sym (set-mid-at at (length X) v (of X) x (rw p l)) ∙ (rw p (place-put (length X) refl (set X v x)))
 
 -- the parts with another one of them
-abbrev pub with-keys : Parts → List ℕ → Parts
-with-keys P ys = record { keys = ys; held = P .held; next = P .next; sets = P .sets; stash = P .stash; rest = P .rest }
-
 abbrev pub with-held : Parts → List ℕ → Parts
 with-held P ys = record { keys = P .keys; held = ys; next = P .next; sets = P .sets; stash = P .stash; rest = P .rest }
 
@@ -99,11 +96,8 @@ with-sets P ys = record { keys = P .keys; held = P .held; next = P .next; sets =
 abbrev pub with-stash : Parts → List ℕ → Parts
 with-stash P ys = record { keys = P .keys; held = P .held; next = P .next; sets = P .sets; stash = ys; rest = P .rest }
 
--- the place of each part
+-- the place of each of these
 module _ {r s : ℕ} {P : Parts} (Z : Sized r s P) where
-  pub keys-place : Place 0 (λ ys. glue (with-keys P ys))
-  keys-place = record { front = []; back = P .held ++ (P .next ++ (P .sets ++ (P .stash ++ P .rest))); long = refl; is = λ ys. refl }
-
   pub held-place : Place (held-at r s) (λ ys. glue (with-held P ys))
   held-place = record { front = P .keys; back = P .next ++ (P .sets ++ (P .stash ++ P .rest)); long = Z .keys-size; is = λ ys. refl }
 

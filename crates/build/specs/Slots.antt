@@ -33,7 +33,7 @@ each-slot-before f (suc n) v words u l =
     let x = f v (getD words v 0) in
     each-slot-before f n (suc v) (set words v x) u (omega arith) ∙ getD-set-other words v u x 0 (omega arith)
 
-pub each-slot-at : (f : ℕ → ℕ → ℕ) (n v : ℕ) (words : List ℕ) (u : ℕ) → v ≤ u → u < v + n → v + n ≤ length words
+each-slot-at : (f : ℕ → ℕ → ℕ) (n v : ℕ) (words : List ℕ) (u : ℕ) → v ≤ u → u < v + n → v + n ≤ length words
     → getD (each-slot f n v words) u 0 ≡ f u (getD words u 0)
 unfolding each-slot
 each-slot-at f zero v words u l k fit = absurd (omega arith)
@@ -54,18 +54,18 @@ unfoldable pub listed : (ℕ → ℕ) → ℕ → ℕ → List ℕ
 listed f zero v = []
 listed f (suc n) v = f v ∷ listed f n (suc v)
 
-pub listed-length : (f : ℕ → ℕ) (n v : ℕ) → length (listed f n v) ≡ n
+listed-length : (f : ℕ → ℕ) (n v : ℕ) → length (listed f n v) ≡ n
 unfolding listed
 listed-length f zero v = refl
 listed-length f (suc n) v = ap suc (listed-length f n (suc v))
 
-pub listed-at : (f : ℕ → ℕ) (n v i : ℕ) → i < n → getD (listed f n v) i 0 ≡ f (v + i)
+listed-at : (f : ℕ → ℕ) (n v i : ℕ) → i < n → getD (listed f n v) i 0 ≡ f (v + i)
 unfolding listed
 listed-at f zero v i l = absurd (omega arith)
 listed-at f (suc n) v zero l = let e : v + 0 ≡ v = omega arith in rw e
 listed-at f (suc n) v (suc i) l = let e : v + suc i ≡ suc v + i = omega arith in rw e (listed-at f n (suc v) i (omega arith))
 
-pub listed-slot : (f : ℕ → ℕ) (m v : ℕ) → v < m → getD (listed f m 0) v 0 ≡ f v
+listed-slot : (f : ℕ → ℕ) (m v : ℕ) → v < m → getD (listed f m 0) v 0 ≡ f v
 listed-slot f m v l = let e : 0 + v ≡ v = omega arith in rw (listed-at f m 0 v l, e)
 
 -- a list of m words is the list of what they are

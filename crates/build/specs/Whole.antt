@@ -2,44 +2,40 @@
 use Prim.Native.Nat.{ℕ, _+_, _-_, _*_, _≤_, _<_}
 use mathlib.Core.Path.{_≡_, refl, sym, _∙_, ap}
 use mathlib.Core.Bool.{Bool, true, false, cond}
-use mathlib.Core.Logic.{inl, inr}
 use mathlib.Core.List.{List, _++_, List·Memᴰ as In}
 use native.Mathlib.Omega.{arith}
 use borrow.Author.Tests.{ltb-true, ltb-false}
 use lib.Dec.{ltb}
 use lib.ListN.{length, take, replicate}
 use lib.Seq.{take-take, take-at}
-use Rattle.tabulation.specs.Hash.{Family, tabulation-length, max-slots}
+use Rattle.tabulation.specs.Hash.{Family}
 use Rattle.tabulation.specs.Slots.{slot-0, slot-1}
-use Rattle.cuckoo.specs.Graph.{seated, stash, occupant}
-use Rattle.cuckoo.specs.Sets.{Asc, test}
+use Rattle.cuckoo.specs.Graph.{slot-key, slot-next}
+use Rattle.cuckoo.specs.Sets.{Asc}
 use Rattle.forest.specs.Held.{other, slot-count, other-end, slots-fit}
 use Rattle.build.specs.Slots.{listed}
-use Rattle.build.specs.Link.{Linking}
 use Rattle.build.specs.Labels as Labels-of
 use Rattle.build.specs.Labels.{Labels, labelled}
-use Rattle.build.specs.LinkCode.{linked-words, label-words}
+use Rattle.build.specs.LinkCode.{with-linking, linked-words, label-words}
 use Rattle.build.specs.NextCode.{Chainable}
 use Rattle.build.specs.Notes.{Noting}
 use Rattle.build.specs.Built as Passes-of
-use Rattle.build.specs.Built.{linking, labels, noting, notes, held, nexts, built, canonical, next-at, linking-is, labels-is, built-tables}
-use Rattle.build.specs.Scratch.{Parts, Sized, parts, glue, used, with-next, parts-sized, parts-glue}
-use Rattle.build.specs.Changed.{Room, Fit, next-sized}
+use Rattle.build.specs.Built.{linking, labels, noting, notes, held, nexts, built, canonical, linking-is, labels-is, built-tables}
+use Rattle.build.specs.Scratch.{Parts, Sized, parts, glue, with-next, parts-sized, parts-glue}
+use Rattle.build.specs.Changed.{Room, Fit, parts-fit, held-sized, next-sized, sets-sized}
 use Rattle.build.specs.Passes.{answer, noting-of, noted-parts, noted-held-parts, finished-parts, last-seen-parts, chained-parts, blanked-parts}
 use Rattle.build.specs.Passes.{noted-sized, noted-held-sized, finished-sized, last-seen-sized, chained-sized, blanked-sized, labels-fit}
-use Rattle.build.specs.Outcome.{Buildable, Build, full, made, Built, Standing, stash-keys}
+use Rattle.build.specs.Outcome.{Buildable, Build, full, made, Built, stash-keys}
 use Rattle.build.specs.declared.notes.StashCount.{StashCount}
 use Rattle.build.specs.declared.notes.StashCount.the-variants.{Keys, Overflow}
 
 module _ (F : Family) (s n : ℕ) (P : Parts) where
   -- step 1
-  abbrev pub linked-from : Parts
-  linked-from =
-      let L = linking (slot-0 F) (slot-1 F) (other F) (slot-count F) (take n (P .keys)) in
-      record { keys = P .keys; held = L .held; next = P .next; sets = L .sets; stash = P .stash; rest = P .rest }
+  abbrev linked-from : Parts
+  linked-from = with-linking P (linking (slot-0 F) (slot-1 F) (other F) (slot-count F) (take n (P .keys)))
 
   -- step 2
-  abbrev pub labelled-from : Parts
+  abbrev labelled-from : Parts
   labelled-from = with-next linked-from (labelled (linked-from .sets) (2 * F .slots) (P .next))
 
   -- step 3, as far as the stash
@@ -58,7 +54,7 @@ zero-one : _≡_ {A = ℕ} 0 1 → ⊥
 zero-one e = omega arith
 
 -- What the theorem says of the passes, case by case.
-pub data Verdict (overflow : Bool) (s : ℕ) (D occupants nexts : List ℕ) (held next aside : List ℕ) (count : ℕ) : Type 0 where
+data Verdict (overflow : Bool) (s : ℕ) (D occupants nexts : List ℕ) (held next aside : List ℕ) (count : ℕ) : Type 0 where
   over : overflow ≡ true → s < length D → Verdict overflow s D occupants nexts held next aside count
   fit : overflow ≡ false → length D ≤ s → held ≡ occupants → next ≡ nexts → aside ≡ D ++ replicate (s - length D) 0 → count ≡ length D
       → Verdict overflow s D occupants nexts held next aside count
@@ -83,24 +79,24 @@ module _ {r s n : ℕ} {tabulation scratch : List ℕ} (B : Buildable r s n tabu
   abbrev S : List ℕ
   S = take n (P .keys)
 
-  pub parts-of : Sized r s P
+  parts-of : Sized r s P
   parts-of = parts-sized r s scratch (B .room)
 
-  pub first-words : S ≡ take n scratch
+  first-words : S ≡ take n scratch
   unfolding parts
   first-words = take-take n (2 * r + s) scratch (B .keys)
 
   pub room-of : Room tabulation r s scratch
   room-of = record { hashed = B .full-tabulation; some = B .some; enough = record { most = B .most; few = B .few; long = B .room } }
 
-  pub asc-of : Asc S
+  asc-of : Asc S
   asc-of = rw first-words (B .asc)
 
   pub solid-of : (c : ℕ) → In c S → c ≡ 0 → ⊥
   solid-of c i = B .solid c (rw first-words at i)
 
   -- the labels of the second step
-  pub labels-of : Labels (slot-0 F) (slot-1 F) S (2 * r) (labelled-from F s n P .next)
+  labels-of : Labels (slot-0 F) (slot-1 F) S (2 * r) (labelled-from F s n P .next)
   unfolding labels
   labels-of = labels-is (other-end F (B .some)) (omega (arith, B .most)) (slots-fit F (B .some)) asc-of solid-of (P .next) (parts-of .next-size)
 
@@ -111,29 +107,22 @@ module _ {r s n : ℕ} {tabulation scratch : List ℕ} (B : Buildable r s n tabu
   unfolding built noting notes held nexts labels
   whole = built-tables F (B .some) (B .most) asc-of solid-of (P .next) (parts-of .next-size) s
 
-  decided : Verdict (whole-noting F s n P .overflow) s (stash-keys F S) (listed (occupant (slot-0 F) (slot-1 F) (seated (slot-0 F) (slot-1 F) S)) (slot-count F) 0)
-      (listed (next-at (slot-0 F) (slot-1 F) S) (slot-count F) 0) (seated-from F n (noted-from F s n P) .held) (seated-from F n (noted-from F s n P) .next)
+  decided : Verdict (whole-noting F s n P .overflow) s (stash-keys F S) (listed (slot-key (slot-0 F) (slot-1 F) S) (slot-count F) 0)
+      (listed (slot-next (slot-0 F) (slot-1 F) S) (slot-count F) 0) (seated-from F n (noted-from F s n P) .held) (seated-from F n (noted-from F s n P) .next)
       (whole-noting F s n P .stash) (whole-noting F s n P .count)
   unfolding canonical
   decided = verdict (whole-noting F s n P .overflow) (ltb s (length (stash-keys F S))) refl whole
 
   -- the sizes stay
-  pub linked-sized : Sized r s (linked-from F s n P)
+  linked-sized : Sized r s (linked-from F s n P)
   linked-sized =
       let L = linking-is (other-end F (B .some)) (omega (arith, B .most)) (slots-fit F (B .some)) asc-of solid-of in
-      let Z = parts-of in
-      record {
-        keys-size = Z .keys-size;
-        held-size = L .size;
-        next-size = Z .next-size;
-        sets-size = L .parts .long;
-        stash-size = Z .stash-size;
-      }
+      sets-sized (held-sized parts-of (linked-from F s n P .held) (L .size)) (linked-from F s n P .sets) (L .parts .long)
 
-  pub labelled-sized : Sized r s (labelled-from F s n P)
+  labelled-sized : Sized r s (labelled-from F s n P)
   labelled-sized = next-sized linked-sized (labelled-from F s n P .next) (labels-of .size)
 
-  pub noted-from-sized : Sized r s (noted-from F s n P)
+  noted-from-sized : Sized r s (noted-from F s n P)
   noted-from-sized = noted-sized F labelled-sized n
 
   seated-from-sized : Sized r s (seated-from F n (noted-from F s n P))
@@ -177,10 +166,10 @@ module _ {r s n : ℕ} {tabulation scratch : List ℕ} (B : Buildable r s n tabu
 
 -- From call to call: what one leaves is what the next finds.
 module _ {r s : ℕ} {Q : Parts} (Z : Sized r s Q) {xs : List ℕ} (e : xs ≡ glue Q) where
-  pub found : parts r s xs ≡ Q
+  found : parts r s xs ≡ Q
   found = rw e (parts-glue Z)
 
-  pub passed : {ys : List ℕ} (f : Parts → Parts) → ys ≡ glue (f (parts r s xs)) → ys ≡ glue (f Q)
+  passed : {ys : List ℕ} (f : Parts → Parts) → ys ≡ glue (f (parts r s xs)) → ys ≡ glue (f Q)
   passed f g = g ∙ ap (λ (q : Parts). glue (f q)) found
 
 -- steps 1 to 3, call by call
@@ -218,11 +207,8 @@ module _ {tabulation : List ℕ} {r s : ℕ} {x0 : List ℕ} (R : Room tabulatio
   abbrev Q3 : Parts
   Q3 = last-seen-parts T Q2 n
 
-  abbrev Q4 : Parts
-  Q4 = chained-parts T Q3 n
-
   Z1 : Sized r s Q1
-  Z1 = noted-held-sized T (parts-sized r s x0 (R .enough .long)) n
+  Z1 = noted-held-sized T (parts-fit (R .enough)) n
 
   module _ {x1 x2 : List ℕ} (e1 : x1 ≡ glue Q1) (e2 : x2 ≡ glue (finished-parts T (parts r s x1))) where
     finished-words : x2 ≡ glue Q2

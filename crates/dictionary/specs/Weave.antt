@@ -11,13 +11,12 @@ use borrow.Rule.Slice.PartMut.{midOf, postOf, putMid, post-is}
 use lib.Dec.{eqb}
 use lib.ListN.{length, getD, set, take, drop, replicate, length-append, length-take, length-drop, take-append-drop, drop-of-length-le}
 use lib.Seq.{drop-cons, take-all, take-at, paste-suc}
-use Rattle.cuckoo.specs.Graph.{seated, stash, occupant, slot-key, slot-next}
+use Rattle.cuckoo.specs.Graph.{stash, slot-key, slot-next}
 use Rattle.cuckoo.specs.Lists.{same}
 use Rattle.tabulation.specs.Slots.{slot-0, slot-1}
 use Rattle.layout.specs.Layout.{Params, family, header-length, words-length, stash-at, slots-of, places-of, stash-of, slot-words, image}
 use Rattle.layout.specs.Shape.{Shaped, Sized}
 use Rattle.build.specs.Slots.{listed}
-use Rattle.build.specs.Built.{next-at}
 use Rattle.build.specs.Scratch.{Parts, parts, used}
 use Rattle.build.specs.Scratch as Scratch
 use Rattle.dictionary.specs.Assembled.{woven, assembled}
@@ -237,15 +236,15 @@ module _ {r s : ℕ} {ws scratch : List ℕ} (W : Writable r s ws scratch) (keys
 -- the parts that the definitions give for a set assemble to its image
 
 module _ (P : Params) (S : List ℕ) where
-  woven-slots : (v n : ℕ) → woven (listed (occupant (slot-0 (family P)) (slot-1 (family P)) (seated (slot-0 (family P)) (slot-1 (family P)) S)) n v)
-      (listed (next-at (slot-0 (family P)) (slot-1 (family P)) S) n v) ≡ slot-words P S v n
-  unfolding woven listed slot-words slot-key slot-next next-at
+  woven-slots : (v n : ℕ) → woven (listed (slot-key (slot-0 (family P)) (slot-1 (family P)) S) n v)
+      (listed (slot-next (slot-0 (family P)) (slot-1 (family P)) S) n v) ≡ slot-words P S v n
+  unfolding woven listed slot-words
   woven-slots v zero = refl
   woven-slots v (suc n) = rw (woven-slots (suc v) n)
 
   pub assembled-image : assembled (P .slots) (P .places) (length S) (length (stash-of P S))
-      (listed (occupant (slot-0 (family P)) (slot-1 (family P)) (seated (slot-0 (family P)) (slot-1 (family P)) S)) (2 * P .slots) 0)
-      (listed (next-at (slot-0 (family P)) (slot-1 (family P)) S) (2 * P .slots) 0)
+      (listed (slot-key (slot-0 (family P)) (slot-1 (family P)) S) (2 * P .slots) 0)
+      (listed (slot-next (slot-0 (family P)) (slot-1 (family P)) S) (2 * P .slots) 0)
       (stash (slot-0 (family P)) (slot-1 (family P)) S ++ replicate (P .places - length (stash (slot-0 (family P)) (slot-1 (family P)) S)) 0)
       ≡ image P S
   unfolding assembled image

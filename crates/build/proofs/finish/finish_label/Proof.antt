@@ -1,12 +1,12 @@
 -- `finish::finish_label` meets its contract: each way through is one of the three cases of a label.
-use Rattle.build.specs.FinishCode.{label-none, label-tree, label-cycle}
-use Prim.Native.Nat.{_+_}
+use Prim.Native.Nat.{ℕ, _+_}
 use mathlib.Core.Path.{sym, _∙_, ap}
-use native.Mathlib.Omega.{arith}
 use lib.ListN.{getD}
+use Rattle.forest.specs.Held.{finished-tree, finished-cycle}
 use Rattle.build.specs.Scratch.{parts, with-held}
-use Rattle.build.specs.Changed.{tables, read-sets, lent-held, put-held}
+use Rattle.build.specs.Changed.{tables, held-part, sets-part, part-word, part-renewed}
 use borrow.Author.Needs.{needs}
+use Rattle.build.specs.FinishCode.{label-none, label-tree, label-cycle}
 use Rattle.build.proofs.finish.finish_label.Statement.{statement}
 use Rattle.build.proofs.finish.finish_label.Tie as tie
 
@@ -24,11 +24,11 @@ slice-read-key c = search needs
 
 returns : tie.Need-returns
 returns c =
-    let d5 = c .before .before .before .before .before in
-    let a = d5 .args in
-    let xs = a .scratch .now in
-    let e = rw (← c .before .before .sets-start .ensures) at (read-sets (a .r) (a .s) xs (a .l) (omega arith)) in
-    rw (label-none (tables (a .tabulation .now) (a .r)) (parts (a .r) (a .s) xs) (a .l) (getD xs (c .before .before .sets-start .result + a .l) 0) e (c .if1 .taken))
+    let d = c .before .before in
+    let p = d .before .before .before in
+    let a = p .args in
+    let e = part-word (sets-part (p .pre .0 .enough)) (ap (λ (b : ℕ). b + a .l) (d .sets-start .ensures)) (p .pre .1) in
+    rw (label-none (tables (a .tabulation .now) (a .r)) (parts (a .r) (a .s) (a .scratch .now)) (a .l) _ e (c .if1 .taken))
 
 held-start-requires : tie.Need-held-start-requires
 held-start-requires c κs = search needs
@@ -75,24 +75,20 @@ same-length c = search needs
 returns-2 : tie.Need-returns-2
 returns-2 c =
     let d4 = c .before .before .before .before in
-    let d5 = d4 .before in
-    let d7 = d5 .before .before in
+    let d7 = d4 .before .before .before in
     let d9 = d7 .before .before in
     let d11 = d9 .before .before in
-    let d14 = d11 .before .before .before in
-    let d = d7 in
-    let a = d14 .args in
+    let p = d11 .before .before .before in
+    let a = p .args in
+    let E = p .pre .0 .enough in
     let F = tables (a .tabulation .now) (a .r) in
-    let xs = a .scratch .now in
-    let P = parts (a .r) (a .s) xs in
-    let x = d .before .held-start in
-    let y = d .next-start in
-    let e = rw (← d11 .sets-start .ensures) at (read-sets (a .r) (a .s) xs (a .l) (omega arith)) in
-    let new = label-tree F P (a .l) (getD xs (d11 .sets-start .result + a .l) 0) e (d9 .if1 .left) (sym (d5 .is-held .ensures) ∙ d4 .if2 .taken) in
-    let lent = lent-held (a .r) (a .s) xs (x .result) (y .result) (x .ensures) (y .ensures) in
+    let P = parts (a .r) (a .s) (a .scratch .now) in
+    let e = part-word (sets-part E) (ap (λ (b : ℕ). b + a .l) (d11 .sets-start .ensures)) (p .pre .1) in
+    let y = getD (a .scratch .now) (d11 .sets-start .result + a .l) 0 in
+    let new = label-tree F P (a .l) y e (d9 .if1 .left) (sym (d4 .before .is-held .ensures) ∙ d4 .if2 .taken) in
     let back = c .before .before .finish-tree in
-    put-held (a .r) (a .s) xs (d14 .pre .0 .enough .long) (x .result) (y .result) (x .ensures) (y .ensures) (back .last .0) (back .kept .0)
-    ∙ ap (with-held P) (back .ensures ∙ rw lent (sym new))
+    part-renewed (held-part E) (d7 .before .held-start .ensures) (d7 .next-start .ensures) (λ held. finished-tree F held y) (back .ensures) (back .kept .0)
+    ∙ ap (with-held P) (sym new)
 
 same-length-2 : tie.Need-same-length-2
 same-length-2 c = search needs
@@ -100,24 +96,20 @@ same-length-2 c = search needs
 returns-3 : tie.Need-returns-3
 returns-3 c =
     let d4 = c .before .before .before .before in
-    let d5 = d4 .before in
-    let d7 = d5 .before .before in
+    let d7 = d4 .before .before .before in
     let d9 = d7 .before .before in
     let d11 = d9 .before .before in
-    let d14 = d11 .before .before .before in
-    let d = d7 in
-    let a = d14 .args in
+    let p = d11 .before .before .before in
+    let a = p .args in
+    let E = p .pre .0 .enough in
     let F = tables (a .tabulation .now) (a .r) in
-    let xs = a .scratch .now in
-    let P = parts (a .r) (a .s) xs in
-    let x = d .before .held-start in
-    let y = d .next-start in
-    let e = rw (← d11 .sets-start .ensures) at (read-sets (a .r) (a .s) xs (a .l) (omega arith)) in
-    let new = label-cycle F P (a .l) (getD xs (d11 .sets-start .result + a .l) 0) e (d9 .if1 .left) (sym (d5 .is-held .ensures) ∙ d4 .if2 .left) in
-    let lent = lent-held (a .r) (a .s) xs (x .result) (y .result) (x .ensures) (y .ensures) in
+    let P = parts (a .r) (a .s) (a .scratch .now) in
+    let e = part-word (sets-part E) (ap (λ (b : ℕ). b + a .l) (d11 .sets-start .ensures)) (p .pre .1) in
+    let y = getD (a .scratch .now) (d11 .sets-start .result + a .l) 0 in
+    let new = label-cycle F P (a .l) y e (d9 .if1 .left) (sym (d4 .before .is-held .ensures) ∙ d4 .if2 .left) in
     let back = c .before .before .finish-cycle in
-    put-held (a .r) (a .s) xs (d14 .pre .0 .enough .long) (x .result) (y .result) (x .ensures) (y .ensures) (back .last .0) (back .kept .0)
-    ∙ ap (with-held P) (back .ensures ∙ rw lent (sym new))
+    part-renewed (held-part E) (d7 .before .held-start .ensures) (d7 .next-start .ensures) (λ held. finished-cycle F held y) (back .ensures) (back .kept .0)
+    ∙ ap (with-held P) (sym new)
 
 pub finish-label-spec : {M : Type 1} → statement M
 finish-label-spec =

@@ -5,7 +5,7 @@ use native.Mathlib.Omega.{arith}
 use lib.ListN.{length}
 use borrow.Author.Needs.{needs}
 use Rattle.build.specs.Scratch.{parts}
-use Rattle.build.specs.Changed.{tables, room-kept, is-glue}
+use Rattle.build.specs.Changed.{tables, enough-kept, room-kept, is-glue}
 use Rattle.build.specs.FinishCode.{FinishedTo, finish-start, finish-turn, finish-done}
 use Rattle.build.proofs.finish.finish_labels.Statement.{statement}
 use Rattle.build.proofs.finish.finish_labels.Tie as tie
@@ -62,7 +62,7 @@ returns : tie.Need-returns Inv-loop μ-loop
 returns c =
     let d5 = c .before .before .before .before .before in
     let a = d5 .args in
-    is-glue (a .r) (a .s) (omega arith)
+    is-glue (enough-kept (d5 .pre .enough) (c .before .loop .inv .0))
     (finish-done (tables (a .tabulation .now) (a .r)) (parts (a .r) (a .s) (a .scratch .now)) (c .before .loop .inv .2) (omega (arith, c .before .before .wide .ensures)))
 
 pub finish-labels-spec : {M : Type 1} → statement M

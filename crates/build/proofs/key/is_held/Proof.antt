@@ -1,5 +1,6 @@
 -- `key::is_held` meets its contract, which is that of the one call on the held words.
-use Rattle.build.specs.Changed.{lent-held}
+use mathlib.Core.Path.{_∙_}
+use Rattle.build.specs.Changed.{held-part, part-lent}
 use borrow.Author.Needs.{needs}
 use Rattle.build.proofs.key.is_held.Statement.{statement}
 use Rattle.build.proofs.key.is_held.Tie as tie
@@ -27,11 +28,9 @@ holds-requires c κs = search needs
 
 returns : tie.Need-returns
 returns c =
-    let d3 = c .before .before .before in
-    let d6 = d3 .before .before .before in
-    let a = d6 .args in
-    rw (← lent-held (a .r) (a .s) (a .scratch .now) (d3 .held-start .result) (c .before .before .next-start .result) (d3 .held-start .ensures) (c .before .before .next-start .ensures))
-    (c .holds .ensures)
+    let d = c .before .before in
+    let E = d .before .before .before .before .pre .enough in
+    c .holds .ensures ∙ rw (part-lent (held-part E) (d .before .held-start .ensures) (d .next-start .ensures))
 
 pub is-held-spec : {M : Type 1} → statement M
 is-held-spec =

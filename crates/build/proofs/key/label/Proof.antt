@@ -6,7 +6,7 @@ use lib.ListN.{getD}
 use Rattle.tabulation.specs.Slots.{slot-0}
 use Rattle.forest.specs.Held.{slots-fit}
 use Rattle.build.specs.Scratch.{parts, next-at}
-use Rattle.build.specs.Changed.{tables, read-next}
+use Rattle.build.specs.Changed.{tables, next-part, part-word}
 use borrow.Author.Needs.{needs}
 use Rattle.build.proofs.key.label.Statement.{statement}
 use Rattle.build.proofs.key.label.Tie as tie
@@ -47,7 +47,7 @@ returns c =
     let at : d .before .before .next-start .result + d .wide .result ≡ next-at (a .r) (a .s) + v =
     rw (d .before .before .next-start .ensures, d .wide .ensures, d .before .first-slot .ensures) in
     let e : c .wide2 .result ≡ getD (parts (a .r) (a .s) (a .scratch .now) .next) v 0 =
-    c .wide2 .ensures ∙ rw at (read-next (a .r) (a .s) (a .scratch .now) v l) in
+    c .wide2 .ensures ∙ part-word (next-part (d7 .pre .0 .enough)) at l in
     (e, omega (arith, d7 .pre .1 .fit v l))
 
 pub label-spec : {M : Type 1} → statement M

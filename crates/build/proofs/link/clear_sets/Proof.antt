@@ -1,11 +1,7 @@
 -- `build::link::clear_sets` meets its contract: the sets are lent whole, and filled.
-use Prim.Native.Nat.{_≤_}
 use mathlib.Core.Path.{_∙_}
-use native.Mathlib.Omega.{arith}
-use lib.ListN.{length}
 use borrow.Author.Needs.{needs}
-use Rattle.build.specs.Scratch.{used}
-use Rattle.build.specs.Lent.{sets-long, sets-back}
+use Rattle.build.specs.Changed.{sets-part, part-long, part-back}
 use Rattle.build.proofs.link.clear_sets.Statement.{statement}
 use Rattle.build.proofs.link.clear_sets.Tie as tie
 
@@ -36,12 +32,10 @@ same-length c = search needs
 returns : tie.Need-returns
 returns c =
     let d = c .before .before .before .before in
-    let a = d .before .before .before .args in
+    let E = d .before .before .before .pre in
     let p = d .before .sets-start .ensures in
     let q = d .stash-start .ensures in
-    let long : used (a .r) (a .s) ≤ length (a .scratch .now) = omega arith in
-    let xs = a .scratch .now in
-    sets-back (a .r) (a .s) xs long p q (c .before .before .fill .last .0) ∙ rw (c .before .before .fill .ensures, sets-long (a .r) (a .s) xs long p q)
+    part-back (sets-part E) p q (c .before .before .fill .last .0) ∙ rw (c .before .before .fill .ensures, part-long (sets-part E) p q)
 
 pub clear-sets-spec : {M : Type 1} → statement M
 clear-sets-spec =

@@ -1,9 +1,11 @@
 -- `build::link::label_slots` meets its contract: each turn is a step of `labelled`, and the labels from v on are still to come.
-use Prim.Native.Nat.{_≤_, _*_, _-_}
+use Prim.Native.Nat.{_+_, _≤_, _*_, _-_}
 use mathlib.Core.Path.{_≡_, sym, _∙_}
 use native.Mathlib.Omega.{arith}
 use lib.ListN.{length}
 use borrow.Author.Needs.{needs}
+use Rattle.build.specs.Scratch.{next-at}
+use Rattle.build.specs.Changed.{enough-kept}
 use Rattle.build.specs.LinkCode.{label-words, labels-from, labels-none, labels-more, labels-done}
 use Rattle.build.proofs.link.label_slots.Statement.{statement}
 use Rattle.build.proofs.link.label_slots.Tie as tie
@@ -25,8 +27,7 @@ mul-slots c = search needs
 
 loop-holds : tie.Need-loop-holds Inv-loop μ-loop
 loop-holds c =
-    let a = c .before .before .args in
-    (search needs, search needs, labels-none (a .r) (a .s) (a .scratch .now) (omega arith))
+    (search needs, search needs, labels-none (c .before .before .pre))
 
 set-of-requires : tie.Need-set-of-requires Inv-loop μ-loop
 set-of-requires c κs = search needs
@@ -52,12 +53,11 @@ loop-less c = search needs
 loop-again : tie.Need-loop-again Inv-loop μ-loop
 loop-again c =
     let l = c .before .before .before .before .loop in
-    let a = c .before .before .before .before .before .before .before .args in
-    let e = labels-more (a .r) (a .s) (l .scratch) (omega arith) (l .v) (omega arith) in (
-      search needs,
-      search needs,
-      l .inv .2 ∙ rw (c .before .before .before .before .before .next-start .ensures, c .wide .ensures, c .before .set-of .ensures) e,
-    )
+    let d5 = c .before .before .before .before .before in
+    let p = d5 .before .before in
+    let E = enough-kept (p .pre) (l .inv .1) in
+    let at : d5 .next-start .result + c .wide .result ≡ next-at (p .args .r) (p .args .s) + l .v = rw (d5 .next-start .ensures, c .wide .ensures) in
+    (search needs, search needs, l .inv .2 ∙ labels-more E at (omega arith) (c .before .set-of .ensures))
 
 same-length : tie.Need-same-length Inv-loop μ-loop
 same-length c = search needs
@@ -65,8 +65,8 @@ same-length c = search needs
 returns : tie.Need-returns Inv-loop μ-loop
 returns c =
     let l = c .before .loop in
-    let a = c .before .before .before .before .args in
-    sym (l .inv .2 ∙ labels-done (a .r) (a .s) (l .scratch) (omega arith) (l .v) (omega arith))
+    let E = enough-kept (c .before .before .before .before .pre) (l .inv .1) in
+    sym (l .inv .2 ∙ labels-done E (l .v) (omega arith))
 
 pub label-slots-spec : {M : Type 1} → statement M
 label-slots-spec =

@@ -19,9 +19,7 @@ abbrev μ-loop : tie.MeasureT-loop
 loop-holds : tie.Need-loop-holds Inv-loop μ-loop
 loop-holds c =
     let p = c .before .before .pre in
-    let a = c .before .before .args in
-    let F = tables (a .tabulation .now) (a .r) in
-    (search needs, search needs, after-none F (p .0 .some) (a .s) (a .scratch .now) (p .0 .enough .long) (a .n) (p .1) (p .2) (p .3))
+    (search needs, search needs, after-none (p .0) (p .1) (p .2) (p .3))
 
 mul-key : tie.Need-mul-key Inv-loop μ-loop
 mul-key c = search needs
@@ -32,10 +30,8 @@ slice-read-key c = search needs
 link-key-requires : tie.Need-link-key-requires Inv-loop μ-loop
 link-key-requires c κs =
     let p = c .before .before .before .before .before .before .pre in
-    let a = c .before .before .before .before .before .before .args in
-    let F = tables (a .tabulation .now) (a .r) in
     let l = c .before .before .before .loop in
-    let K = after-sound F (p .0 .some) (a .s) (a .scratch .now) (p .0 .enough .long) (a .n) (p .1) (p .2) (p .3) (l .i) in
+    let K = after-sound (p .0) (p .1) (p .2) (p .3) (l .i) in
     (search needs, rw (l .inv .2) K)
 
 add-i : tie.Need-add-i Inv-loop μ-loop
@@ -47,10 +43,8 @@ loop-less c = search needs
 loop-again : tie.Need-loop-again Inv-loop μ-loop
 loop-again c =
     let p = c .before .before .before .before .before .before .before .before .before .pre in
-    let a = c .before .before .before .before .before .before .before .before .before .args in
-    let F = tables (a .tabulation .now) (a .r) in
     let l = c .before .before .before .before .before .before .loop in
-    let e = after-more F (p .0 .some) (a .s) (a .scratch .now) (p .0 .enough .long) (a .n) (p .1) (p .2) (p .3) (l .i) (omega arith) in
+    let e = after-more (p .0) (p .1) (p .2) (p .3) (l .i) (omega arith) in
     (search needs, search needs, c .before .before .link-key .ensures ∙ rw (l .inv .2) e)
 
 same-length : tie.Need-same-length Inv-loop μ-loop
@@ -60,10 +54,9 @@ returns : tie.Need-returns Inv-loop μ-loop
 returns c =
     let p = c .before .before .before .before .pre in
     let a = c .before .before .before .before .args in
-    let F = tables (a .tabulation .now) (a .r) in
     let l = c .before .loop in
     let e : l .i ≡ a .n = omega arith in
-    l .inv .2 ∙ rw e (after-all F (p .0 .some) (a .s) (a .scratch .now) (p .0 .enough .long) (a .n) (p .1) (p .2) (p .3))
+    l .inv .2 ∙ rw e (after-all (p .0) (p .1) (p .2) (p .3))
 
 pub link-each-spec : {M : Type 1} → statement M
 link-each-spec =

@@ -1,8 +1,7 @@
 -- `build::link::reroot_held` meets its contract: the held words are lent whole, and come back re-rooted.
-use mathlib.Core.Path.{_∙_}
-use native.Mathlib.Omega.{arith}
 use borrow.Author.Needs.{needs}
-use Rattle.build.specs.Lent.{held-lent, held-back}
+use Rattle.forest.specs.Held.{rerooted}
+use Rattle.build.specs.Changed.{tables, held-part, part-changed}
 use Rattle.build.proofs.link.reroot_held.Statement.{statement}
 use Rattle.build.proofs.link.reroot_held.Tie as tie
 
@@ -33,11 +32,10 @@ same-length c = search needs
 returns : tie.Need-returns
 returns c =
     let d = c .before .before .before .before in
-    let a = d .before .before .before .before .args in
-    let p = d .before .held-start .ensures in
-    let q = d .next-start .ensures in
-    let lent = held-lent (a .r) (a .s) (a .scratch .now) (omega arith) p q in
-    held-back (a .r) (a .s) (a .scratch .now) (omega arith) p q (c .before .before .reroot .last .0) ∙ rw (c .before .before .reroot .ensures, lent)
+    let p = d .before .before .before .before in
+    let a = p .args in
+    part-changed (held-part (p .pre .0 .enough)) (d .before .held-start .ensures) (d .next-start .ensures)
+    (λ held. rerooted (tables (a .tabulation .now) (a .r)) held (a .carry) (a .slot)) (c .before .before .reroot .ensures)
 
 pub reroot-held-spec : {M : Type 1} → statement M
 reroot-held-spec =

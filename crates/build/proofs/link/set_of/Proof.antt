@@ -1,7 +1,6 @@
 -- `build::link::set_of` meets its contract: the sets are lent whole.
-use native.Mathlib.Omega.{arith}
 use borrow.Author.Needs.{needs}
-use Rattle.build.specs.Lent.{sets-lent}
+use Rattle.build.specs.Changed.{sets-part, part-lent}
 use Rattle.build.proofs.link.set_of.Statement.{statement}
 use Rattle.build.proofs.link.set_of.Tie as tie
 
@@ -29,8 +28,8 @@ representative-requires c κs = search needs
 returns : tie.Need-returns
 returns c =
     let d = c .before .before in
-    let a = d .before .before .before .args in
-    cc (c .representative .ensures, sets-lent (a .r) (a .s) (a .scratch .now) (omega arith) (d .before .sets-start .ensures) (d .stash-start .ensures))
+    let p = d .before .before .before in
+    cc (c .representative .ensures, part-lent (sets-part (p .pre .0)) (d .before .sets-start .ensures) (d .stash-start .ensures))
 
 pub set-of-spec : {M : Type 1} → statement M
 set-of-spec =

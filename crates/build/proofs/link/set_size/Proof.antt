@@ -1,7 +1,6 @@
 -- `build::link::set_size` meets its contract: the sets are lent whole.
-use native.Mathlib.Omega.{arith}
 use borrow.Author.Needs.{needs}
-use Rattle.build.specs.Lent.{sets-lent}
+use Rattle.build.specs.Changed.{sets-part, part-lent}
 use Rattle.build.proofs.link.set_size.Statement.{statement}
 use Rattle.build.proofs.link.set_size.Tie as tie
 
@@ -26,15 +25,14 @@ part-size-end c = search needs
 size-requires : tie.Need-size-requires
 size-requires c κs =
     let d = c .before in
-    let a = d .before .before .before .args in
-    let lent = sets-lent (a .r) (a .s) (a .scratch .now) (omega arith) (d .before .sets-start .ensures) (d .stash-start .ensures) in
-    (search needs, rw lent (d .before .before .before .pre .1))
+    let p = d .before .before .before in
+    (search needs, rw (part-lent (sets-part (p .pre .0)) (d .before .sets-start .ensures) (d .stash-start .ensures)) (p .pre .1))
 
 returns : tie.Need-returns
 returns c =
     let d = c .before .before in
-    let a = d .before .before .before .args in
-    cc (c .size .ensures, sets-lent (a .r) (a .s) (a .scratch .now) (omega arith) (d .before .sets-start .ensures) (d .stash-start .ensures))
+    let p = d .before .before .before in
+    cc (c .size .ensures, part-lent (sets-part (p .pre .0)) (d .before .sets-start .ensures) (d .stash-start .ensures))
 
 pub set-size-spec : {M : Type 1} → statement M
 set-size-spec =

@@ -1,8 +1,7 @@
 -- `build::link::unite_sets` meets its contract: the sets are lent whole, and come back united.
-use mathlib.Core.Path.{_∙_}
-use native.Mathlib.Omega.{arith}
 use borrow.Author.Needs.{needs}
-use Rattle.build.specs.Lent.{sets-lent, sets-back}
+use Rattle.partition.specs.Words.{united}
+use Rattle.build.specs.Changed.{sets-part, part-lent, part-changed}
 use Rattle.build.proofs.link.unite_sets.Statement.{statement}
 use Rattle.build.proofs.link.unite_sets.Tie as tie
 
@@ -27,9 +26,8 @@ part-unite-end c = search needs
 unite-requires : tie.Need-unite-requires
 unite-requires c κs =
     let d = c .before in
-    let a = d .before .before .before .args in
-    let lent = sets-lent (a .r) (a .s) (a .scratch .now) (omega arith) (d .before .sets-start .ensures) (d .stash-start .ensures) in
-    (search needs, rw lent (d .before .before .before .pre .1))
+    let p = d .before .before .before in
+    (search needs, rw (part-lent (sets-part (p .pre .0)) (d .before .sets-start .ensures) (d .stash-start .ensures)) (p .pre .1))
 
 same-length : tie.Need-same-length
 same-length c = search needs
@@ -37,11 +35,9 @@ same-length c = search needs
 returns : tie.Need-returns
 returns c =
     let d = c .before .before .before .before in
-    let a = d .before .before .before .args in
-    let p = d .before .sets-start .ensures in
-    let q = d .stash-start .ensures in
-    let lent = sets-lent (a .r) (a .s) (a .scratch .now) (omega arith) p q in
-    sets-back (a .r) (a .s) (a .scratch .now) (omega arith) p q (c .before .before .unite .last .0) ∙ rw (c .before .before .unite .ensures, lent)
+    let p = d .before .before .before in
+    part-changed (sets-part (p .pre .0)) (d .before .sets-start .ensures) (d .stash-start .ensures)
+    (λ sets. united sets (p .args .first) (p .args .second)) (c .before .before .unite .ensures)
 
 pub unite-sets-spec : {M : Type 1} → statement M
 unite-sets-spec =

@@ -1,13 +1,12 @@
 -- `build::link::unlink` meets its contract: the held words are lent and filled, then the sets.
-use Prim.Native.Nat.{ℕ, _-_, _≤_}
+use Prim.Native.Nat.{ℕ, _-_}
 use mathlib.Core.Path.{_∙_, ap}
 use native.Mathlib.Omega.{arith}
-use lib.ListN.{length, replicate}
+use lib.ListN.{replicate}
 use borrow.Rule.Slice.PartMut.{putMid}
 use borrow.Author.Needs.{needs}
 use Rattle.partition.specs.Words.{singletons-of}
-use Rattle.build.specs.Scratch.{used}
-use Rattle.build.specs.Lent.{held-long, sets-long, held-back, sets-back}
+use Rattle.build.specs.Changed.{Enough, enough-kept, held-part, sets-part, part-long, part-back}
 use Rattle.build.specs.LinkCode.{start-words}
 use Rattle.build.proofs.link.unlink.Statement.{statement}
 use Rattle.build.proofs.link.unlink.Tie as tie
@@ -59,22 +58,21 @@ same-length c = search needs
 
 returns : tie.Need-returns
 returns c =
-    let a = c .before .before .before .before .before .before .before .before .before .before .before .before .before .args in
-    let xs = a .scratch .now in
-    let h = c .before .before .before .before .before .before .before .before .before .before .before .held-start .result in
-    let zeros = c .before .before .before .before .before .before .before .before .fill .last .0 in
-    let alone = c .before .before .singletons .last .0 in
-    let ys = putMid h (c .before .before .before .before .before .before .before .before .before .before .next-start .result - h) xs zeros in
-    let long : used (a .r) (a .s) ≤ length xs = omega arith in
-    let same : used (a .r) (a .s) ≤ length ys = omega arith in
-    let p = c .before .before .before .before .before .before .before .before .before .before .before .held-start .ensures in
-    let q = c .before .before .before .before .before .before .before .before .before .before .next-start .ensures in
-    let p′ = c .before .before .before .before .before .sets-start .ensures in
-    let q′ = c .before .before .before .before .stash-start .ensures in
-    sets-back (a .r) (a .s) ys same p′ q′ alone
-    ∙ start-words (a .r) (a .s) xs long ys zeros alone (held-back (a .r) (a .s) xs long p q zeros)
-    (c .before .before .before .before .before .before .before .before .fill .ensures ∙ ap (λ (n : ℕ). replicate n 0) (held-long (a .r) (a .s) xs long p q))
-    (c .before .before .singletons .ensures ∙ ap singletons-of (sets-long (a .r) (a .s) ys same p′ q′))
+    let d8 = c .before .before .before .before .before .before .before .before in
+    let d4 = c .before .before .before .before in
+    let d10 = d8 .before .before in
+    let p = d10 .before .before .before in
+    let E = p .pre in
+    let x = d10 .before .held-start in
+    let y = d10 .next-start in
+    let zeros = d8 .fill .last .0 in
+    let E₁ : Enough (p .args .r) (p .args .s) (putMid (x .result) (y .result - x .result) (p .args .scratch .now) zeros) = enough-kept E (omega arith) in
+    let u = d4 .before .sets-start .ensures in
+    let v = d4 .stash-start .ensures in
+    part-back (sets-part E₁) u v (c .before .before .singletons .last .0)
+    ∙ start-words E (part-back (held-part E) (x .ensures) (y .ensures) zeros)
+    (d8 .fill .ensures ∙ ap (λ (n : ℕ). replicate n 0) (part-long (held-part E) (x .ensures) (y .ensures)))
+    (c .before .before .singletons .ensures ∙ ap singletons-of (part-long (sets-part E₁) u v))
 
 pub unlink-spec : {M : Type 1} → statement M
 unlink-spec =

@@ -1,12 +1,12 @@
 -- `next::blank_slots` meets its contract: each turn of the loop is a slot of `blanked`.
-use Prim.Native.Nat.{_+_, _*_, _-_, _≤_, _<_}
-use mathlib.Core.Path.{_≡_, refl, sym, _∙_}
+use Prim.Native.Nat.{ℕ, _+_, _*_, _-_, _≤_, _<_}
+use mathlib.Core.Path.{_≡_, refl, sym, _∙_, ap}
 use mathlib.Core.Logic.{inl, inr}
 use native.Mathlib.Omega.{arith}
-use lib.ListN.{length, getD, set, length-set}
+use lib.ListN.{length, length-set}
 use borrow.Author.Needs.{needs}
-use Rattle.build.specs.Scratch.{parts, with-next}
-use Rattle.build.specs.Changed.{is-glue, read-held, write-next}
+use Rattle.build.specs.Scratch.{parts}
+use Rattle.build.specs.Changed.{enough-kept, is-glue, held-part, next-part, part-word, part-set}
 use Rattle.build.specs.NextCode.{BlankedTo, blank-start, blank-turn, blank-pass, blank-done}
 use Rattle.build.proofs.next.blank_slots.Statement.{statement}
 use Rattle.build.proofs.next.blank_slots.Tie as tie
@@ -66,21 +66,19 @@ loop-again : tie.Need-loop-again Inv-loop μ-loop
 loop-again c =
     let d3 = c .before .before .before in
     let d4 = d3 .before in
-    let d5 = d4 .before in
-    let d6 = d5 .before in
+    let d6 = d4 .before .before in
     let d8 = d6 .before .before in
     let a = d8 .args in
     let l = d3 .loop in
     let xs = l .scratch in
     let P₀ = parts (a .r) (a .s) (a .scratch .now) in
+    let E = enough-kept (d8 .pre) (l .inv .0) in
     let low : l .v < 2 * a .r = omega (arith, d4 .wide .ensures) in
-    let word : getD xs (d6 .held-start .result + l .v) 0 ≡ getD (parts (a .r) (a .s) xs .held) (l .v) 0 =
-    rw (d6 .held-start .ensures) (read-held (a .r) (a .s) xs (l .v) low) in
+    let word = part-word (held-part E) (ap (λ (b : ℕ). b + l .v) (d6 .held-start .ensures)) low in
     elim (c .if1 .came) [
       | inl w ↦
-          let new : parts (a .r) (a .s) (c .if1 .scratch) ≡ with-next (parts (a .r) (a .s) xs) (set (parts (a .r) (a .s) xs .next) (l .v) 0) =
-          rw (w .1, d5 .next-start .ensures) (write-next (a .r) (a .s) xs (omega arith) (l .v) 0 low) in
-          (rw (w .1) (length-set xs (d5 .next-start .result + l .v) 0 ∙ l .inv .0), omega arith, blank-turn (2 * a .r) P₀ (l .inv .2) low (sym word ∙ w .0 .taken) new)
+          let new = part-set (next-part E) (ap (λ (b : ℕ). b + l .v) (d4 .before .next-start .ensures)) low 0 in
+          rw (w .1) (length-set xs (d4 .before .next-start .result + l .v) 0 ∙ l .inv .0, omega arith, blank-turn (2 * a .r) P₀ (l .inv .2) low (sym word ∙ w .0 .taken) new)
       | inr w ↦ rw (w .1) (l .inv .0, omega arith, blank-pass (2 * a .r) P₀ (l .inv .2) low (λ z. w .0 .left (word ∙ z)))
     ]
 
@@ -91,8 +89,9 @@ returns : tie.Need-returns Inv-loop μ-loop
 returns c =
     let d6 = c .before .before .before .before .before .before in
     let a = d6 .args in
-    is-glue (a .r) (a .s) (omega arith)
-    (blank-done (2 * a .r) (parts (a .r) (a .s) (a .scratch .now)) (c .before .loop .inv .2) (omega (arith, c .before .before .wide .ensures)))
+    let l = c .before .loop in
+    is-glue (enough-kept (d6 .pre) (l .inv .0))
+    (blank-done (2 * a .r) (parts (a .r) (a .s) (a .scratch .now)) (l .inv .2) (omega (arith, c .before .before .wide .ensures)))
 
 pub blank-slots-spec : {M : Type 1} → statement M
 blank-slots-spec =

@@ -1,12 +1,12 @@
 -- `next::chain_key` meets its contract: each way through is one of the two cases of a key.
 use Prim.Native.Nat.{_+_, _*_, _<_}
-use mathlib.Core.Path.{_≡_, sym, _∙_}
+use mathlib.Core.Path.{_≡_, refl, sym, _∙_}
 use mathlib.Core.Bool.{true}
 use lib.ListN.{getD, set, length-set}
 use borrow.Author.Tests.{not-true, not-false}
 use Rattle.forest.specs.Held.{holding}
 use Rattle.build.specs.Scratch.{parts, sets-at, with-sets}
-use Rattle.build.specs.Changed.{tables, read-sets, write-sets}
+use Rattle.build.specs.Changed.{tables, sets-part, part-word, part-set}
 use Rattle.build.specs.NextCode.{chain-passed, chain-held}
 use borrow.Author.Needs.{needs}
 use Rattle.build.proofs.next.chain_key.Statement.{statement}
@@ -79,9 +79,9 @@ returns-2 c =
     let l = d5 .label-at-seat .result in
     let low : l < 2 * a .r = d5 .label-at-seat .ensures .1 in
     let at : d7 .sets-start .result + l ≡ sets-at (a .r) (a .s) + l = rw (d7 .sets-start .ensures) in
-    let word : getD xs (d7 .sets-start .result + l) 0 ≡ getD (P .sets) l 0 = rw at (read-sets (a .r) (a .s) xs l low) in
+    let word : getD xs (d7 .sets-start .result + l) 0 ≡ getD (P .sets) l 0 = rw at (part-word (sets-part (d13 .pre .0 .enough)) refl low) in
     let written : parts (a .r) (a .s) (set xs (d7 .sets-start .result + l) (a .key)) ≡ with-sets P (set (P .sets) l (a .key)) =
-    rw at (write-sets (a .r) (a .s) xs (d13 .pre .0 .enough .long) l (a .key) low) in
+    rw at (part-set (sets-part (d13 .pre .0 .enough)) refl low (a .key)) in
     c .before .before .put-nexts .ensures ∙ rw (written, word, chain-held F P (a .key) t, ← d5 .label-at-seat .ensures .0)
 
 pub chain-key-spec : {M : Type 1} → statement M

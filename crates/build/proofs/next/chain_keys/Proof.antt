@@ -4,8 +4,8 @@ use mathlib.Core.Path.{_≡_, refl, _∙_, ap}
 use native.Mathlib.Omega.{arith}
 use lib.ListN.{length, getD}
 use borrow.Author.Needs.{needs}
-use Rattle.build.specs.Scratch.{parts, parts-sized}
-use Rattle.build.specs.Changed.{tables, room-kept, is-glue, read-key}
+use Rattle.build.specs.Scratch.{parts}
+use Rattle.build.specs.Changed.{tables, enough-kept, room-kept, parts-fit, is-glue, read-key}
 use Rattle.build.specs.NextCode.{chained-from, chained-start, chained-turn, chained-readable}
 use Rattle.build.proofs.next.chain_keys.Statement.{statement}
 use Rattle.build.proofs.next.chain_keys.Tie as tie
@@ -43,9 +43,9 @@ chain-key-requires c κs =
     let l = d3 .loop in
     let xs = l .scratch in
     let p = d6 .pre in
-    let keys = parts-sized (a .r) (a .s) (a .scratch .now) (p .0 .enough .long) .keys-size in
+    let keys = parts-fit (p .0 .enough) .keys-size in
     let e = l .inv .2 ∙ ap (chained-from F (a .n) P₀) (let k : l .i ≡ l .i - 1 + 1 = omega arith in k) in
-    let is = read-key (a .r) (a .s) xs (l .i - 1) (omega arith) in (
+    let is = read-key (enough-kept (d6 .pre .0 .enough) (l .inv .0)) (l .i - 1) (omega arith) in (
       room-kept (p .0) (d3 .loop .inv .0),
       chained-readable F (a .n) P₀ (omega arith) (l .i - 1) (omega arith) (getD xs (l .i - 1) 0) (p .0 .some) (p .2) e is,
     )
@@ -62,9 +62,9 @@ loop-again c =
     let P₀ = parts (a .r) (a .s) (a .scratch .now) in
     let l = d6 .loop in
     let xs = l .scratch in
-    let keys = parts-sized (a .r) (a .s) (a .scratch .now) (d9 .pre .0 .enough .long) .keys-size in
+    let keys = parts-fit (d9 .pre .0 .enough) .keys-size in
     let e = l .inv .2 ∙ ap (chained-from F (a .n) P₀) (let k : l .i ≡ l .i - 1 + 1 = omega arith in k) in
-    let turn = chained-turn F (a .n) P₀ (omega arith) (l .i - 1) (omega arith) (getD xs (l .i - 1) 0) e (read-key (a .r) (a .s) xs (l .i - 1) (omega arith))
+    let turn = chained-turn F (a .n) P₀ (omega arith) (l .i - 1) (omega arith) (getD xs (l .i - 1) 0) e (read-key (enough-kept (d9 .pre .0 .enough) (l .inv .0)) (l .i - 1) (omega arith))
     (c .before .before .chain-key .ensures) in
     (search needs, omega arith, turn)
 
@@ -80,7 +80,7 @@ returns c =
     let l = c .before .loop in
     let xs = l .scratch in
     let z : l .i ≡ 0 = omega arith in
-    is-glue (a .r) (a .s) (omega arith) (l .inv .2 ∙ ap (chained-from F (a .n) P₀) z)
+    is-glue (enough-kept (d4 .pre .0 .enough) (l .inv .0)) (l .inv .2 ∙ ap (chained-from F (a .n) P₀) z)
 
 pub chain-keys-spec : {M : Type 1} → statement M
 chain-keys-spec =

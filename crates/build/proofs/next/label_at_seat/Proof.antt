@@ -3,7 +3,7 @@ use mathlib.Core.Path.{_≡_, _∙_}
 use native.Mathlib.Omega.{arith}
 use lib.ListN.{getD}
 use Rattle.build.specs.Scratch.{parts}
-use Rattle.build.specs.Changed.{tables, read-next}
+use Rattle.build.specs.Changed.{tables, next-part, part-word}
 use Rattle.build.specs.NextCode.{label-at}
 use borrow.Author.Needs.{needs}
 use Rattle.build.proofs.next.label_at_seat.Statement.{statement}
@@ -36,7 +36,7 @@ returns c =
     let xs = a .scratch .now in
     let P = parts (a .r) (a .s) xs in
     let e : c .wide .result ≡ getD (P .next) (c .before .before .seat-of .result) 0 =
-    c .wide .ensures ∙ rw (d3 .next-start .ensures) (read-next (a .r) (a .s) xs (c .before .before .seat-of .result) (c .before .before .seat-of .ensures .1)) in
+    c .wide .ensures ∙ part-word (next-part (d6 .pre .0 .enough)) (rw (d3 .next-start .ensures)) (c .before .before .seat-of .ensures .1) in
     let l : c .wide .result ≡ label-at F P (a .key) = rw (c .before .before .seat-of .ensures .0) at e in
     (l, omega (arith, d6 .pre .1))
 

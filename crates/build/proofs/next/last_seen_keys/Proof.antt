@@ -4,8 +4,8 @@ use mathlib.Core.Path.{_≡_, refl, _∙_, ap}
 use native.Mathlib.Omega.{arith}
 use lib.ListN.{length, getD}
 use borrow.Author.Needs.{needs}
-use Rattle.build.specs.Scratch.{Parts, parts, parts-sized}
-use Rattle.build.specs.Changed.{tables, room-kept, is-glue, read-key}
+use Rattle.build.specs.Scratch.{Parts, parts}
+use Rattle.build.specs.Changed.{tables, enough-kept, room-kept, parts-fit, is-glue, read-key}
 use Rattle.build.specs.NextCode.{seen-from, seen-start, seen-turn}
 use Rattle.build.proofs.next.last_seen_keys.Statement.{statement}
 use Rattle.build.proofs.next.last_seen_keys.Tie as tie
@@ -53,9 +53,9 @@ loop-again c =
     let P₀ = parts (a .r) (a .s) (a .scratch .now) in
     let l = d6 .loop in
     let xs = l .scratch in
-    let keys = parts-sized (a .r) (a .s) (a .scratch .now) (d9 .pre .0 .enough .long) .keys-size in
+    let keys = parts-fit (d9 .pre .0 .enough) .keys-size in
     let e = l .inv .2 ∙ ap (seen-from F (a .n) P₀) (let k : l .i ≡ l .i - 1 + 1 = omega arith in k) in
-    let turn = seen-turn F (a .n) P₀ (omega arith) (l .i - 1) (omega arith) (getD xs (l .i - 1) 0) e (read-key (a .r) (a .s) xs (l .i - 1) (omega arith))
+    let turn = seen-turn F (a .n) P₀ (omega arith) (l .i - 1) (omega arith) (getD xs (l .i - 1) 0) e (read-key (enough-kept (d9 .pre .0 .enough) (l .inv .0)) (l .i - 1) (omega arith))
     (c .before .before .see-key .ensures) in
     (search needs, omega arith, turn)
 
@@ -71,7 +71,7 @@ returns c =
     let l = c .before .loop in
     let xs = l .scratch in
     let z : l .i ≡ 0 = omega arith in
-    is-glue (a .r) (a .s) (omega arith) (l .inv .2 ∙ ap (seen-from F (a .n) P₀) z)
+    is-glue (enough-kept (d4 .pre .0 .enough) (l .inv .0)) (l .inv .2 ∙ ap (seen-from F (a .n) P₀) z)
 
 pub last-seen-keys-spec : {M : Type 1} → statement M
 last-seen-keys-spec =

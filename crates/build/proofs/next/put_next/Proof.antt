@@ -1,11 +1,10 @@
 -- `next::put_next` meets its contract: the test is that of `put-at`.
 use mathlib.Core.Path.{_≡_, sym, _∙_}
-use native.Mathlib.Omega.{arith}
 use lib.ListN.{getD}
 use borrow.Author.Tests.{eq-eqb, ne-eqb}
 use Rattle.build.specs.Next.{put-at}
 use Rattle.build.specs.Scratch.{parts}
-use Rattle.build.specs.Changed.{read-held, write-next}
+use Rattle.build.specs.Changed.{held-part, next-part, part-word, part-set}
 use borrow.Author.Needs.{needs}
 use Rattle.build.proofs.next.put_next.Statement.{statement}
 use Rattle.build.proofs.next.put_next.Tie as tie
@@ -45,8 +44,8 @@ returns c =
     let a = d5 .args in
     let xs = a .scratch .now in
     let P = parts (a .r) (a .s) xs in
-    let t : getD (P .held) (a .slot) 0 ≡ a .key = sym (read-held (a .r) (a .s) xs (a .slot) (omega arith)) ∙ rw (d3 .held-start .ensures) at (c .before .if1 .taken) in
-    rw (eq-eqb (getD (P .held) (a .slot) 0) (a .key) t, c .next-start .ensures) (write-next (a .r) (a .s) xs (omega arith) (a .slot) (a .next) (omega arith))
+    let t : getD (P .held) (a .slot) 0 ≡ a .key = sym (part-word (held-part (d5 .pre .0)) (rw (d3 .held-start .ensures)) (d5 .pre .1)) ∙ c .before .if1 .taken in
+    rw (eq-eqb (getD (P .held) (a .slot) 0) (a .key) t) (part-set (next-part (d5 .pre .0)) (rw (c .next-start .ensures)) (d5 .pre .1) (a .next))
 
 returns-2 : tie.Need-returns-2
 unfolding put-at
@@ -56,7 +55,7 @@ returns-2 c =
     let xs = a .scratch .now in
     let P = parts (a .r) (a .s) xs in
     let t : getD (P .held) (a .slot) 0 ≡ a .key → ⊥ =
-    λ q. (rw (c .before .before .held-start .ensures) at (c .if1 .left)) (read-held (a .r) (a .s) xs (a .slot) (omega arith) ∙ q) in
+    λ q. c .if1 .left (part-word (held-part (d4 .pre .0)) (rw (c .before .before .held-start .ensures)) (d4 .pre .1) ∙ q) in
     rw (ne-eqb (getD (P .held) (a .slot) 0) (a .key) t)
 
 pub put-next-spec : {M : Type 1} → statement M

@@ -8,7 +8,7 @@ use Rattle.tabulation.specs.Slots.{slot-0, slot-1}
 use Rattle.forest.specs.Held.{slots-fit}
 use Rattle.build.specs.Held.{seat}
 use Rattle.build.specs.Scratch.{parts}
-use Rattle.build.specs.Changed.{tables, read-held}
+use Rattle.build.specs.Changed.{tables, held-part, part-word}
 use borrow.Author.Needs.{needs}
 use Rattle.build.proofs.next.seat_of.Statement.{statement}
 use Rattle.build.proofs.next.seat_of.Tie as tie
@@ -49,7 +49,7 @@ returns c =
     let v = slot-0 F (a .key) in
     let l : v < 2 * a .r = slots-fit F (omega arith) (a .key) .0 in
     let e : d3 .wide .result ≡ v = d3 .wide .ensures ∙ d4 .first-slot .ensures in
-    let t : getD (P .held) v 0 ≡ a .key = sym (read-held (a .r) (a .s) xs v l) ∙ rw (c .before .before .held-start .ensures, e) at (c .if1 .taken) in
+    let t : getD (P .held) v 0 ≡ a .key = sym (part-word (held-part (d7 .pre .enough)) (rw (c .before .before .held-start .ensures, e)) l) ∙ c .if1 .taken in
     (rw (eq-eqb (getD (P .held) v 0) (a .key) t) e, omega arith)
 
 second-slot-requires : tie.Need-second-slot-requires
@@ -72,7 +72,7 @@ returns-2 c =
     let v = slot-0 F (a .key) in
     let l : v < 2 * a .r = slots-fit F (omega arith) (a .key) .0 in
     let e : d5 .wide .result ≡ v = d5 .wide .ensures ∙ d6 .first-slot .ensures in
-    let t : getD (P .held) v 0 ≡ a .key → ⊥ = λ q. (rw (d4 .held-start .ensures, e) at (c .before .before .if1 .left)) (read-held (a .r) (a .s) xs v l ∙ q) in
+    let t : getD (P .held) v 0 ≡ a .key → ⊥ = λ q. c .before .before .if1 .left (part-word (held-part (d9 .pre .enough)) (rw (d4 .held-start .ensures, e)) l ∙ q) in
     let w : c .wide2 .result ≡ slot-1 F (a .key) = c .wide2 .ensures ∙ c .before .second-slot .ensures in
     (rw (ne-eqb (getD (P .held) v 0) (a .key) t) w, omega (arith, slots-fit F (omega arith) (a .key) .1))
 

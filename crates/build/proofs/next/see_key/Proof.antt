@@ -1,10 +1,10 @@
 -- `next::see_key` meets its contract: each way through is one of the two cases of a key.
-use mathlib.Core.Path.{_≡_, sym, _∙_}
+use mathlib.Core.Path.{_≡_, refl, sym, _∙_}
 use mathlib.Core.Bool.{true}
 use borrow.Author.Tests.{not-true, not-false}
 use Rattle.forest.specs.Held.{holding}
 use Rattle.build.specs.Scratch.{parts}
-use Rattle.build.specs.Changed.{tables, write-sets}
+use Rattle.build.specs.Changed.{tables, sets-part, part-set}
 use Rattle.build.specs.NextCode.{see-passed, see-held}
 use borrow.Author.Needs.{needs}
 use Rattle.build.proofs.next.see_key.Statement.{statement}
@@ -54,7 +54,7 @@ returns-2 c =
     let P = parts (a .r) (a .s) xs in
     let t : holding F (P .held) (a .key) ≡ true = sym (d4 .is-held .ensures) ∙ not-false (d4 .is-held .result) (d3 .if1 .left) in
     rw (see-held F P (a .key) t, ← c .label .ensures .0, c .before .before .sets-start .ensures)
-    (write-sets (a .r) (a .s) xs (d8 .pre .0 .enough .long) (c .label .result) (a .key) (c .label .ensures .1))
+    (part-set (sets-part (d8 .pre .0 .enough)) refl (c .label .ensures .1) (a .key))
 
 pub see-key-spec : {M : Type 1} → statement M
 see-key-spec =

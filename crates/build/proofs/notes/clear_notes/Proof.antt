@@ -1,11 +1,11 @@
 -- `notes::clear_notes` meets its contract: each of the two parts is filled as it is lent, and comes back.
-use Prim.Native.Nat.{_+_, _*_, _-_, _≤_}
+use Prim.Native.Nat.{_+_, _*_, _-_}
 use mathlib.Core.Path.{_≡_, _∙_, ap}
 use native.Mathlib.Omega.{arith}
 use lib.ListN.{length, replicate, length-replicate}
-use borrow.Rule.Slice.PartMut.{midOf, putMid, mid-len, same-len-mid}
+use borrow.Rule.Slice.PartMut.{putMid}
 use Rattle.build.specs.Scratch.{used}
-use Rattle.build.specs.Changed.{put-sets, put-stash}
+use Rattle.build.specs.Changed.{Enough, enough-kept, sets-part, stash-part, part-long, part-put}
 use borrow.Author.Needs.{needs}
 use Rattle.build.proofs.notes.clear_notes.Statement.{statement}
 use Rattle.build.proofs.notes.clear_notes.Tie as tie
@@ -59,26 +59,21 @@ returns : tie.Need-returns
 returns c =
     let d6 = c .before .before .before .before .before .before in
     let d8 = d6 .before .before in
-    let d9 = d8 .before in
-    let d10 = d9 .before in
-    let d12 = d10 .before .before in
-    let a = d12 .args in
-    let xs = a .scratch .now in
+    let p = d8 .before .before .before .before in
+    let r = p .args .r in
+    let s = p .args .s in
+    let x = d8 .before .before .sets-start in
+    let y = d8 .before .stash-start in
+    let E = p .pre in
     let ys = d6 .fill .last .0 in
     let zs = c .before .before .fill2 .last .0 in
-    let x = d10 .sets-start .result in
-    let y = d9 .stash-start .result in
-    let e = y + d8 .wide .result in
-    let long : used (a .r) (a .s) ≤ length xs = omega arith in
-    let k : length (midOf x (y - x) xs) ≡ 2 * a .r = mid-len x y xs (omega arith) ∙ omega arith in
-    let mid = putMid x (y - x) xs ys in
-    let kept : length mid ≡ length xs = same-len-mid x (y - x) xs ys (d6 .fill .kept .0) in
-    let long-2 : used (a .r) (a .s) ≤ length mid = omega arith in
-    let k-2 : length (midOf y (e - y) mid) ≡ a .s = mid-len y e mid (omega arith) ∙ omega arith in
-    let first : ys ≡ replicate (2 * a .r) 0 = d6 .fill .ensures ∙ rw k in
-    let second : zs ≡ replicate (a .s) 0 = c .before .before .fill2 .ensures ∙ rw k-2 in
-    put-stash (a .r) (a .s) mid long-2 y e (omega arith) (omega arith) zs (ap length second ∙ length-replicate (a .s) 0)
-    ∙ rw (put-sets (a .r) (a .s) xs long x y (omega arith) (omega arith) ys (ap length first ∙ length-replicate (2 * a .r) 0), first, second)
+    let mid = putMid (x .result) (y .result - x .result) (p .args .scratch .now) ys in
+    let E₁ : Enough r s mid = enough-kept E (omega arith) in
+    let stop : y .result + d8 .wide .result ≡ used r s = omega arith in
+    let first : ys ≡ replicate (2 * r) 0 = d6 .fill .ensures ∙ rw (part-long (sets-part E) (x .ensures) (y .ensures)) in
+    let second : zs ≡ replicate s 0 = c .before .before .fill2 .ensures ∙ rw (part-long (stash-part E₁) (y .ensures) stop) in
+    part-put (stash-part E₁) (y .ensures) stop zs (ap length second ∙ length-replicate s 0)
+    ∙ rw (part-put (sets-part E) (x .ensures) (y .ensures) ys (ap length first ∙ length-replicate (2 * r) 0), first, second)
 
 pub clear-notes-spec : {M : Type 1} → statement M
 clear-notes-spec =

@@ -1,12 +1,12 @@
 -- `notes::note_held_key` meets its contract: each way through is one of the three cases of a key.
-use mathlib.Core.Path.{_≡_, sym, _∙_}
+use mathlib.Core.Path.{_≡_, refl, sym, _∙_}
 use borrow.Author.Tests.{not-true, not-false}
 use mathlib.Core.Path.{_≡_}
 use mathlib.Core.Bool.{true, false}
 use lib.ListN.{getD}
 use Rattle.forest.specs.Held.{holding}
 use Rattle.build.specs.Scratch.{parts}
-use Rattle.build.specs.Changed.{tables, read-sets, write-sets}
+use Rattle.build.specs.Changed.{tables, sets-part, part-word, part-set}
 use Rattle.build.specs.NotesCode.{notes-passed, notes-first, notes-kept}
 use borrow.Author.Needs.{needs}
 use Rattle.build.proofs.notes.note_held_key.Statement.{statement}
@@ -62,10 +62,10 @@ returns-2 c =
     let P = parts (a .r) (a .s) (a .scratch .now) in
     let t : holding F (P .held) (a .key) ≡ true = sym (d6 .is-held .ensures) ∙ not-false (d6 .is-held .result) (d5 .if1 .left) in
     let l = c .before .before .label .result in
-    let e = read-sets (a .r) (a .s) (a .scratch .now) l (c .before .before .label .ensures .1) in
+    let e = part-word (sets-part (d10 .pre .0 .enough)) refl (c .before .before .label .ensures .1) in
     let z : getD (P .sets) l 0 ≡ 0 = sym e ∙ rw (d4 .sets-start .ensures) at (c .if2 .taken) in
     rw (notes-first F P (a .key) t (rw (c .before .before .label .ensures .0) at z), ← c .before .before .label .ensures .0, d4 .sets-start .ensures)
-    (write-sets (a .r) (a .s) (a .scratch .now) (d10 .pre .0 .enough .long) l (a .key) (c .before .before .label .ensures .1))
+    (part-set (sets-part (d10 .pre .0 .enough)) refl (c .before .before .label .ensures .1) (a .key))
 
 same-length-3 : tie.Need-same-length-3
 same-length-3 c = search needs
@@ -81,7 +81,7 @@ returns-3 c =
     let P = parts (a .r) (a .s) (a .scratch .now) in
     let t : holding F (P .held) (a .key) ≡ true = sym (d6 .is-held .ensures) ∙ not-false (d6 .is-held .result) (d5 .if1 .left) in
     let l = c .before .before .label .result in
-    let e = read-sets (a .r) (a .s) (a .scratch .now) l (c .before .before .label .ensures .1) in
+    let e = part-word (sets-part (d10 .pre .0 .enough)) refl (c .before .before .label .ensures .1) in
     let z : getD (P .sets) l 0 ≡ 0 → ⊥ = λ q. (rw (d4 .sets-start .ensures) at (c .if2 .left)) (e ∙ q) in
     rw (notes-kept F P (a .key) t (rw (c .before .before .label .ensures .0) at z))
 

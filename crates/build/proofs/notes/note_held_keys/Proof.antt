@@ -4,8 +4,8 @@ use mathlib.Core.Path.{_≡_, refl}
 use native.Mathlib.Omega.{arith}
 use lib.ListN.{length, getD}
 use borrow.Author.Needs.{needs}
-use Rattle.build.specs.Scratch.{parts, parts-sized}
-use Rattle.build.specs.Changed.{tables, room-kept, is-glue, read-key}
+use Rattle.build.specs.Scratch.{parts}
+use Rattle.build.specs.Changed.{tables, enough-kept, room-kept, parts-fit, is-glue, read-key}
 use Rattle.build.specs.NotesCode.{NotesAt, notes-start, notes-labels, notes-turn, notes-done}
 use Rattle.build.proofs.notes.note_held_keys.Statement.{statement}
 use Rattle.build.proofs.notes.note_held_keys.Tie as tie
@@ -22,7 +22,7 @@ abbrev μ-loop : tie.MeasureT-loop
 loop-holds : tie.Need-loop-holds Inv-loop μ-loop
 loop-holds c =
     let a = c .before .before .args in
-    let keys = parts-sized (a .r) (a .s) (a .scratch .now) (c .before .before .pre .0 .enough .long) .keys-size in
+    let keys = parts-fit (c .before .before .pre .0 .enough) .keys-size in
     (refl, search needs, notes-start (tables (a .tabulation .now) (a .r)) (a .n) (parts (a .r) (a .s) (a .scratch .now)) (omega arith))
 
 mul-key : tie.Need-mul-key Inv-loop μ-loop
@@ -54,7 +54,7 @@ loop-again c =
     let l = d6 .loop in
     let xs = l .scratch in
     let turn = notes-turn (tables (a .tabulation .now) (a .r)) (a .n) (parts (a .r) (a .s) (a .scratch .now)) (l .inv .2) (omega arith)
-    (getD xs (l .i) 0) (read-key (a .r) (a .s) xs (l .i) (omega arith)) (parts (a .r) (a .s) (c .before .before .note-held-key .last .0)) (c .before .before .note-held-key .ensures) in
+    (getD xs (l .i) 0) (read-key (enough-kept (d9 .pre .0 .enough) (l .inv .0)) (l .i) (omega arith)) (parts (a .r) (a .s) (c .before .before .note-held-key .last .0)) (c .before .before .note-held-key .ensures) in
     (search needs, search needs, turn)
 
 same-length : tie.Need-same-length Inv-loop μ-loop
@@ -65,7 +65,7 @@ returns c =
     let d4 = c .before .before .before .before in
     let a = d4 .args in
     let l = c .before .loop in
-    is-glue (a .r) (a .s) (omega arith)
+    is-glue (enough-kept (d4 .pre .0 .enough) (l .inv .0))
     (notes-done (tables (a .tabulation .now) (a .r)) (a .n) (parts (a .r) (a .s) (a .scratch .now)) (l .inv .2) (omega arith))
 
 pub note-held-keys-spec : {M : Type 1} → statement M

@@ -1,14 +1,13 @@
 -- `notes::note_key` meets its contract: each way through is one of the four cases of a key.
 use Prim.Native.Nat.{_<_, _≤_}
 use native.Mathlib.Numerals.{add-one}
-use Rattle.build.specs.Scratch.{parts-sized}
 use mathlib.Core.Path.{_≡_, refl, sym, _∙_}
 use mathlib.Core.Bool.{true, false}
 use native.Mathlib.Omega.{arith}
 use lib.ListN.{length, getD}
 use Rattle.forest.specs.Held.{holding}
 use Rattle.build.specs.Scratch.{parts}
-use Rattle.build.specs.Changed.{tables, read-sets, write-sets, write-stash}
+use Rattle.build.specs.Changed.{tables, sets-part, stash-part, part-word, part-set, parts-fit}
 use Rattle.build.specs.NotesCode.{after-held, after-first, after-stash, after-full}
 use borrow.Author.Needs.{needs}
 use Rattle.build.proofs.notes.note_key.Statement.{statement}
@@ -64,9 +63,9 @@ returns-2 c =
     let P = parts (a .r) (a .s) (a .scratch .now) in
     let t : holding F (P .held) (a .key) ≡ false = sym (d6 .is-held .ensures) ∙ d5 .if1 .left in
     let l = c .before .before .label .result in
-    let z : getD (P .sets) l 0 ≡ 0 = sym (read-sets (a .r) (a .s) (a .scratch .now) l (c .before .before .label .ensures .1)) ∙ rw (d4 .sets-start .ensures) at (c .if2 .taken) in
+    let z : getD (P .sets) l 0 ≡ 0 = sym (part-word (sets-part (d10 .pre .0 .enough)) refl (c .before .before .label .ensures .1)) ∙ rw (d4 .sets-start .ensures) at (c .if2 .taken) in
     rw (after-first F P (a .count) (a .key) t (rw (c .before .before .label .ensures .0) at z), ← c .before .before .label .ensures .0, d4 .sets-start .ensures)
-    (write-sets (a .r) (a .s) (a .scratch .now) (d10 .pre .0 .enough .long) l (a .key) (c .before .before .label .ensures .1), refl)
+    (part-set (sets-part (d10 .pre .0 .enough)) refl (c .before .before .label .ensures .1) (a .key), refl)
 
 same-length-3 : tie.Need-same-length-3
 same-length-3 c = search needs
@@ -83,9 +82,9 @@ returns-3 c =
     let P = parts (a .r) (a .s) (a .scratch .now) in
     let t : holding F (P .held) (a .key) ≡ false = sym (d7 .is-held .ensures) ∙ d6 .if1 .left in
     let l = d3 .label .result in
-    let e = read-sets (a .r) (a .s) (a .scratch .now) l (d3 .label .ensures .1) in
+    let e = part-word (sets-part (d11 .pre .0 .enough)) refl (d3 .label .ensures .1) in
     let z : getD (P .sets) l 0 ≡ 0 → ⊥ = λ q. (rw (d5 .sets-start .ensures) at (c .before .if2 .left)) (e ∙ q) in
-    let k : length (P .stash) ≤ a .count = omega (arith, parts-sized (a .r) (a .s) (a .scratch .now) (d11 .pre .0 .enough .long) .stash-size) in
+    let k : length (P .stash) ≤ a .count = omega (arith, parts-fit (d11 .pre .0 .enough) .stash-size) in
     rw (after-full F P (a .count) (a .key) t (rw (d3 .label .ensures .0) at z) k) (refl, refl)
 
 stash-start-requires : tie.Need-stash-start-requires
@@ -122,11 +121,11 @@ returns-4 c =
     let P = parts (a .r) (a .s) (a .scratch .now) in
     let t : holding F (P .held) (a .key) ≡ false = sym (d9 .is-held .ensures) ∙ d8 .if1 .left in
     let l = d5 .label .result in
-    let e = read-sets (a .r) (a .s) (a .scratch .now) l (d5 .label .ensures .1) in
+    let e = part-word (sets-part (d13 .pre .0 .enough)) refl (d5 .label .ensures .1) in
     let z : getD (P .sets) l 0 ≡ 0 → ⊥ = λ q. (rw (d7 .sets-start .ensures) at (d3 .if2 .left)) (e ∙ q) in
-    let k : a .count < length (P .stash) = omega (arith, parts-sized (a .r) (a .s) (a .scratch .now) (d13 .pre .0 .enough .long) .stash-size) in
+    let k : a .count < length (P .stash) = omega (arith, parts-fit (d13 .pre .0 .enough) .stash-size) in
     rw (after-stash F P (a .count) (a .key) t (rw (d5 .label .ensures .0) at z) k, c .before .stash-start .ensures, c .wide .ensures)
-    (write-stash (a .r) (a .s) (a .scratch .now) (d13 .pre .0 .enough .long) (a .count) (a .key) (omega arith), rw (add-one (a .count)))
+    (part-set (stash-part (d13 .pre .0 .enough)) refl (omega arith) (a .key), rw (add-one (a .count)))
 
 pub note-key-spec : {M : Type 1} → statement M
 note-key-spec =

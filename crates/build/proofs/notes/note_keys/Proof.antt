@@ -4,15 +4,15 @@ use Rattle.build.specs.NotesCode.{noting-after}
 use Rattle.build.specs.declared.notes.StashCount.the-variants.{Keys, Overflow}
 use mathlib.Core.Path.{ap}
 use lib.ListN.{getD}
-use Rattle.build.specs.Scratch.{Parts, parts-sized}
-use Rattle.build.specs.Changed.{tables, room-kept, is-glue, read-key}
+use Rattle.build.specs.Scratch.{Parts}
+use Rattle.build.specs.Changed.{Enough, tables, enough-kept, room-kept, parts-fit, is-glue, read-key}
 use Rattle.build.specs.NotesCode.{noting-all}
 use Prim.Native.Nat.{_-_, _≤_}
 use mathlib.Core.Path.{_≡_, sym, _∙_}
 use native.Mathlib.Omega.{arith}
 use lib.ListN.{length}
 use borrow.Author.Needs.{needs}
-use Rattle.build.specs.Scratch.{parts, used}
+use Rattle.build.specs.Scratch.{parts}
 use Rattle.build.specs.NotesCode.{NotingAt, noting-start, noting-labels, noting-turn, noting-over, noting-done}
 use Rattle.build.proofs.notes.note_keys.Statement.{statement}
 use Rattle.build.proofs.notes.note_keys.Tie as tie
@@ -20,7 +20,7 @@ use Rattle.build.proofs.notes.note_keys.Tie as tie
 abbrev Inv-loop : tie.InvT-loop
 Inv-loop scratch₀ tabulation r s n count₀ i₀ scratch count i =
     (length scratch ≡ length scratch₀)
-    × (used r s ≤ length scratch)
+    × Enough r s scratch
     × (i ≤ n)
     × NotingAt (tables tabulation r) n (parts r s scratch₀) (parts r s scratch) i count
 
@@ -34,10 +34,9 @@ loop-holds : tie.Need-loop-holds Inv-loop μ-loop
 loop-holds c =
     let d6 = c .before .before .before .before .before .before in
     let a = d6 .args in
-    let xs = c .before .before .clear-notes .last .0 in
-    let long : used (a .r) (a .s) ≤ length xs = omega arith in
-    let keys = parts-sized (a .r) (a .s) xs long .keys-size in
-    (search needs, long, search needs, noting-start (tables (a .tabulation .now) (a .r)) (a .n) (parts (a .r) (a .s) xs) (omega arith))
+    let E = enough-kept (d6 .pre .0 .enough) (c .before .before .clear-notes .kept .0) in
+    let P₁ = parts (a .r) (a .s) (c .before .before .clear-notes .last .0) in
+    (search needs, E, search needs, noting-start (tables (a .tabulation .now) (a .r)) (a .n) P₁ (omega (arith, parts-fit E .keys-size)))
 
 mul-key : tie.Need-mul-key Inv-loop μ-loop
 mul-key c = search needs
@@ -79,9 +78,9 @@ returns c =
     let P = parts (a .r) (a .s) xs in
     let over : Overflow ≡ answer (noting-after F P (l .count) (getD xs (l .i) 0)) = sym (c .enum-told .given .1) ∙ d4 .note-key .ensures .1 in
     let turn = noting-over F (a .n) (parts (a .r) (a .s) (d11 .clear-notes .last .0)) (l .inv .3) (omega arith) (getD xs (l .i) 0)
-    (read-key (a .r) (a .s) xs (l .i) (omega arith)) (parts (a .r) (a .s) (d4 .note-key .last .0)) (d4 .note-key .ensures .0) over in
+    (read-key (l .inv .1) (l .i) (omega arith)) (parts (a .r) (a .s) (d4 .note-key .last .0)) (d4 .note-key .ensures .0) over in
     let all = noting-all F (a .n) (a .s) (parts (a .r) (a .s) (a .scratch .now)) (d11 .clear-notes .ensures) turn in
-    (is-glue (a .r) (a .s) (omega arith) (all .0), all .1)
+    (is-glue (enough-kept (l .inv .1) (d4 .note-key .kept .0)) (all .0), all .1)
 
 add-i : tie.Need-add-i Inv-loop μ-loop
 add-i c = search needs
@@ -102,8 +101,8 @@ loop-again c =
     let P = parts (a .r) (a .s) xs in
     let went : Keys (c .before .noted .given .0 .0) ≡ answer (noting-after F P (l .count) (getD xs (l .i) 0)) = sym (c .before .noted .given .1) ∙ d5 .note-key .ensures .1 in
     let turn = noting-turn F (a .n) (parts (a .r) (a .s) (d12 .clear-notes .last .0)) (l .inv .3) (omega arith) (getD xs (l .i) 0)
-    (read-key (a .r) (a .s) xs (l .i) (omega arith)) (parts (a .r) (a .s) (d5 .note-key .last .0)) (d5 .note-key .ensures .0) went in
-    (search needs, omega arith, search needs, turn)
+    (read-key (l .inv .1) (l .i) (omega arith)) (parts (a .r) (a .s) (d5 .note-key .last .0)) (d5 .note-key .ensures .0) went in
+    (search needs, enough-kept (l .inv .1) (d5 .note-key .kept .0), search needs, turn)
 
 same-length-2 : tie.Need-same-length-2 Inv-loop μ-loop
 same-length-2 c = search needs
@@ -117,7 +116,7 @@ returns-2 c =
     let l = c .before .loop in
     let done = noting-done F (a .n) (parts (a .r) (a .s) (d4 .clear-notes .last .0)) (l .inv .3) (omega arith) in
     let all = noting-all F (a .n) (a .s) (parts (a .r) (a .s) (a .scratch .now)) (d4 .clear-notes .ensures) done in
-    (is-glue (a .r) (a .s) (omega arith) (all .0), all .1)
+    (is-glue (l .inv .1) (all .0), all .1)
 
 pub note-keys-spec : {M : Type 1} → statement M
 note-keys-spec =
