@@ -128,3 +128,18 @@ module _ {r s at end n : ℕ} {xs X : List ℕ} {new : List ℕ → Parts} (Q : 
 
       pub part-renewed : length ys ≡ length (midOf a (e - a) xs) → parts r s (putMid a (e - a) xs ys) ≡ new (f X)
       part-renewed l = part-put ys (l ∙ part-long) ∙ ap new (is ∙ ap f part-lent)
+
+-- the word for the label l is at i, in the sets
+pub record NoteAt (r s l i : ℕ) : Type 0 where
+  pub is : i ≡ sets-at r s + l
+  pub low : l < 2 * r
+
+pub note-from : {r s b l : ℕ} → b ≡ sets-at r s → l < 2 * r → NoteAt r s l (b + l)
+note-from {l = l} start low = record { is = ap (λ (b : ℕ). b + l) start; low = low }
+
+module _ {r s l i : ℕ} {xs : List ℕ} (E : Enough r s xs) (N : NoteAt r s l i) where
+  pub note-word : getD xs i 0 ≡ getD (parts r s xs .sets) l 0
+  note-word = part-word (sets-part E) (N .is) (N .low)
+
+  pub note-set : (x : ℕ) → parts r s (set xs i x) ≡ with-sets (parts r s xs) (set (parts r s xs .sets) l x)
+  note-set = part-set (sets-part E) (N .is) (N .low)

@@ -1,15 +1,17 @@
--- The loop of step 4, one turn at a time, on the parts of scratch. Assumes nothing.
+-- The loop of step 4, one turn at a time: a label over scratch, as code goes, and the labels one after the other on its parts. Assumes nothing.
 use Prim.Native.Nat.{ℕ, suc, _+_, _-_, _≤_, _<_}
 use mathlib.Core.Path.{_≡_, refl, sym, _∙_, ap}
 use mathlib.Core.Bool.{true, false}
 use mathlib.Core.List.{List}
-use lib.ListN.{getD}
+use lib.ListN.{length, getD}
 use native.Mathlib.Omega.{arith}
+use borrow.Rule.Slice.PartMut.{midOf, putMid}
 use Rattle.tabulation.specs.Hash.{Family}
 use Rattle.tabulation.specs.Slots.{slot-0, slot-1}
 use Rattle.forest.specs.Held.{other, slot-count, budget, holding, finished-tree, finished-cycle}
 use Rattle.build.specs.Finish.{finish-label, finished, finish-label-none, finish-label-tree, finish-label-cycle}
-use Rattle.build.specs.Scratch.{Parts, with-held}
+use Rattle.build.specs.Scratch.{Parts, parts, held-at, next-at, with-held}
+use Rattle.build.specs.Changed.{Room, NoteAt, tables, held-part, part-renewed, note-word}
 use Rattle.build.specs.Passes.{finished-parts}
 
 -- the held words after the component of label l
@@ -20,17 +22,34 @@ held-after F P l = finish-label (slot-0 F) (slot-1 F) (other F) (budget F) (P .s
 abbrev pub label-finished : Family → Parts → ℕ → Parts
 label-finished F P l = with-held P (held-after F P l)
 
--- the cases of a label with the note y
-module _ (F : Family) (P : Parts) (l y : ℕ) (e : y ≡ getD (P .sets) l 0) where
-  pub label-none : y ≡ 0 → held-after F P l ≡ P .held
-  label-none z = finish-label-none (slot-0 F) (slot-1 F) (other F) (budget F) (P .sets) l (P .held) (sym e ∙ z)
+-- the cases of a label, over scratch: its note stands at i
+module _ {T : List ℕ} {r s : ℕ} {xs : List ℕ} (R : Room T r s xs) {l i : ℕ} (N : NoteAt r s l i) where
+  abbrev F : Family
+  F = tables T r
 
-  module _ (nz : y ≡ 0 → ⊥) where
-    pub label-tree : holding F (P .held) y ≡ true → held-after F P l ≡ finished-tree F (P .held) y
-    label-tree t = finish-label-tree (slot-0 F) (slot-1 F) (other F) (budget F) (P .sets) l (P .held) (rw e at nz) (rw e at t) ∙ rw (← e)
+  abbrev P : Parts
+  P = parts r s xs
 
-    pub label-cycle : holding F (P .held) y ≡ false → held-after F P l ≡ finished-cycle F (P .held) y
-    label-cycle t = finish-label-cycle (slot-0 F) (slot-1 F) (other F) (budget F) (P .sets) l (P .held) (rw e at nz) (rw e at t) ∙ rw (← e)
+  note-is : getD xs i 0 ≡ getD (P .sets) l 0
+  note-is = note-word (R .enough) N
+
+  pub label-none : getD xs i 0 ≡ 0 → P ≡ label-finished F P l
+  label-none z = rw (finish-label-none (slot-0 F) (slot-1 F) (other F) (budget F) (P .sets) l (P .held) (sym note-is ∙ z))
+
+  -- the held words were lent from a to e, and ys came back
+  module _ (nz : getD xs i 0 ≡ 0 → ⊥) {a e : ℕ} (start : a ≡ held-at r s) (stop : e ≡ next-at r s) (ys : List ℕ)
+      (same : length ys ≡ length (midOf a (e - a) xs)) where
+    pub label-tree : holding F (P .held) (getD xs i 0) ≡ true → ys ≡ finished-tree F (midOf a (e - a) xs) (getD xs i 0)
+        → parts r s (putMid a (e - a) xs ys) ≡ label-finished F P l
+    label-tree t back =
+        part-renewed (held-part (R .enough)) start stop (λ held. finished-tree F held (getD xs i 0)) back same
+        ∙ rw (finish-label-tree (slot-0 F) (slot-1 F) (other F) (budget F) (P .sets) l (P .held) (rw note-is at nz) (rw note-is at t), note-is)
+
+    pub label-cycle : holding F (P .held) (getD xs i 0) ≡ false → ys ≡ finished-cycle F (midOf a (e - a) xs) (getD xs i 0)
+        → parts r s (putMid a (e - a) xs ys) ≡ label-finished F P l
+    label-cycle t back =
+        part-renewed (held-part (R .enough)) start stop (λ held. finished-cycle F held (getD xs i 0)) back same
+        ∙ rw (finish-label-cycle (slot-0 F) (slot-1 F) (other F) (budget F) (P .sets) l (P .held) (rw note-is at nz) (rw note-is at t), note-is)
 
 -- the labels below l are finished
 module _ (F : Family) (P₀ : Parts) where

@@ -1,6 +1,6 @@
--- The loops of step 5, one turn at a time, on the parts of scratch. The keys are passed from the last to the first, so a model has the keys from i on
+-- The loops of step 5, one turn at a time: on the parts of scratch, and then over scratch, as code goes. The keys are passed from the last to the first, so a model has the keys from i on
 -- behind it. Assumes nothing.
-use Prim.Native.Nat.{ℕ, zero, suc, _+_, _-_, _≤_, _<_}
+use Prim.Native.Nat.{ℕ, zero, suc, _+_, _*_, _-_, _≤_, _<_}
 use mathlib.Core.Path.{_≡_, refl, sym, _∙_, ap}
 use mathlib.Core.Bool.{true, false, cond}
 use mathlib.Core.List.{List, [], _∷_, List·Memᴰ as In, List·Memᴰ·head as here, List·Memᴰ·tail as there}
@@ -17,7 +17,8 @@ use Rattle.build.specs.Held.{seat}
 use Rattle.build.specs.Slots.{each-slot, each-slot-none, each-slot-step}
 use Rattle.build.specs.Labels.{Labels, label-of, label-fit}
 use Rattle.build.specs.Next.{Passing, last-seen, put-at, put-next, chained, blank, blanked, label-read}
-use Rattle.build.specs.Scratch.{Parts, with-sets, with-next}
+use Rattle.build.specs.Scratch.{Parts, parts, with-sets, with-next}
+use Rattle.build.specs.Changed.{Enough, Room, NoteAt, tables, parts-fit, read-key, note-word, note-set}
 use Rattle.build.specs.Passes.{with-passing, blanked-parts}
 use Rattle.build.specs.NotesCode.{next-key, no-key}
 
@@ -91,24 +92,31 @@ module _ (F : Family) (P : Parts) (c : ℕ) where
   pub record Readable : Type 0 where
     pub fit : holding F (P .held) c ≡ true → label-at < slot-count F
 
-  -- the cases of a key
-  pub see-passed : holding F (P .held) c ≡ false → last-after ≡ P .sets
+-- the cases of a key, over scratch
+module _ {T : List ℕ} {r s : ℕ} {xs : List ℕ} (R : Room T r s xs) (c : ℕ) where
+  abbrev F : Family
+  F = tables T r
+
+  abbrev P : Parts
+  P = parts r s xs
+
+  pub see-passed : holding F (P .held) c ≡ false → P ≡ key-seen F P c
   unfolding see-key
   see-passed t = rw t
 
-  pub see-held : holding F (P .held) c ≡ true → last-after ≡ set (P .sets) (label-of (slot-0 F) (P .next) c) c
+  pub see-held : holding F (P .held) c ≡ true → {i : ℕ} → NoteAt r s (label-of (slot-0 F) (P .next) c) i → parts r s (set xs i c) ≡ key-seen F P c
   unfolding see-key
-  see-held t = rw t
+  see-held t N = rw t (note-set (R .enough) N c)
 
-  pub chain-passed : holding F (P .held) c ≡ false → passing-after ≡ passing-in P
+  pub chain-passed : holding F (P .held) c ≡ false → P ≡ key-chained F P c
   unfolding chain-key
   chain-passed t = rw t
 
-  pub chain-held : holding F (P .held) c ≡ true
-      → passing-after
-      ≡ record { last = set (P .sets) label-at c; next = put-next (slot-0 F) (slot-1 F) (P .held) (P .next) c (getD (P .sets) label-at 0) }
+  -- the word for its label is read and written, then the next number is put
+  pub chain-held : holding F (P .held) c ≡ true → {i : ℕ} → NoteAt r s (label-at F P c) i → (ys : List ℕ)
+      → parts r s ys ≡ key-put F (parts r s (set xs i c)) c (getD xs i 0) → parts r s ys ≡ key-chained F P c
   unfolding chain-key
-  chain-held t = rw t
+  chain-held t N ys e = e ∙ rw (t, note-set (R .enough) N c, note-word (R .enough) N)
 
 -- a key of an ascending list is not among those after it
 in-drop : (i : ℕ) (S : List ℕ) {x : ℕ} → In x (drop i S) → In x S
@@ -145,14 +153,14 @@ module _ (F : Family) (n : ℕ) (P₀ : Parts) where
     this : c ≡ getD (P₀ .keys) i 0 → drop i S ≡ c ∷ drop (i + 1) S
     this e = rw e (next-key n (P₀ .keys) i long more)
 
-    pub seen-turn : {P Q : Parts} → P ≡ seen-from (i + 1) → c ≡ getD (P .keys) i 0 → Q ≡ key-seen F P c → Q ≡ seen-from i
+    seen-turn : {P Q : Parts} → P ≡ seen-from (i + 1) → c ≡ getD (P .keys) i 0 → Q ≡ key-seen F P c → Q ≡ seen-from i
     seen-turn {P} e is turn =
         let d = this (is ∙ ap (λ (Z : Parts). getD (Z .keys) i 0) e) in
         turn ∙ ap (λ (Z : Parts). with-sets Z (last-after F Z c)) e
         ∙ ap (with-sets P₀) (sym (last-seen-on (slot-0 F) (slot-1 F) (P₀ .held) (P₀ .next) c (drop (i + 1) S) (P₀ .sets)))
         ∙ rw (← d)
 
-    pub chained-turn : {P Q : Parts} → P ≡ chained-from (i + 1) → c ≡ getD (P .keys) i 0 → Q ≡ key-chained F P c → Q ≡ chained-from i
+    chained-turn : {P Q : Parts} → P ≡ chained-from (i + 1) → c ≡ getD (P .keys) i 0 → Q ≡ key-chained F P c → Q ≡ chained-from i
     chained-turn {P} e is turn =
         let d = this (is ∙ ap (λ (Z : Parts). getD (Z .keys) i 0) e) in
         turn ∙ ap (λ (Z : Parts). with-passing Z (passing-after F Z c)) e
@@ -160,7 +168,7 @@ module _ (F : Family) (n : ℕ) (P₀ : Parts) where
         ∙ rw (← d)
 
     -- the second pass reads a label
-    pub chained-readable : 0 < F .slots → Chainable F n P₀ → {P : Parts} → P ≡ chained-from (i + 1)
+    chained-readable : 0 < F .slots → Chainable F n P₀ → {P : Parts} → P ≡ chained-from (i + 1)
         → c ≡ getD (P .keys) i 0 → Readable F P c
     chained-readable pos C {P} e is =
         let d = this (is ∙ ap (λ (Z : Parts). getD (Z .keys) i 0) e) in
@@ -170,6 +178,40 @@ module _ (F : Family) (n : ℕ) (P₀ : Parts) where
           fit = λ t. rw (label-read (slot-0 F) (slot-1 F) (P₀ .held) (C .labels) (slots-fit F pos) (drop (i + 1) S) (P₀ .sets) c inside after t)
               (label-fit (C .labels) (slots-fit F pos) c);
         })
+
+-- The two passes over scratch: the keys from i on are behind them, and the next is the one before.
+module _ {T : List ℕ} {r s : ℕ} {x₀ : List ℕ} (R : Room T r s x₀) (n : ℕ) (few : n ≤ 2 * r + s) where
+  abbrev SeenFrom : ℕ → List ℕ → Type 0
+  SeenFrom i xs = parts r s xs ≡ seen-from (tables T r) n (parts r s x₀) i
+
+  abbrev ChainedFrom : ℕ → List ℕ → Type 0
+  ChainedFrom i xs = parts r s xs ≡ chained-from (tables T r) n (parts r s x₀) i
+
+  keys-long : n ≤ length (parts r s x₀ .keys)
+  keys-long = omega (arith, parts-fit (R .enough) .keys-size)
+
+  module _ {xs : List ℕ} (E : Enough r s xs) (i : ℕ) (more : 0 < i) (most : i ≤ n) where
+    again : i ≡ i - 1 + 1
+    again = omega arith
+
+    key-is : getD xs (i - 1) 0 ≡ getD (parts r s xs .keys) (i - 1) 0
+    key-is = read-key E (i - 1) (omega arith)
+
+    pub seen-again : SeenFrom i xs → (ys : List ℕ) → parts r s ys ≡ key-seen (tables T r) (parts r s xs) (getD xs (i - 1) 0) → SeenFrom (i - 1) ys
+    seen-again e ys turn =
+        seen-turn (tables T r) n (parts r s x₀) keys-long (i - 1) (omega arith) (getD xs (i - 1) 0)
+        (e ∙ ap (seen-from (tables T r) n (parts r s x₀)) again) key-is turn
+
+    module _ (e : ChainedFrom i xs) where
+      from-next : ChainedFrom (i - 1 + 1) xs
+      from-next = e ∙ ap (chained-from (tables T r) n (parts r s x₀)) again
+
+      pub chained-again : (ys : List ℕ) → parts r s ys ≡ key-chained (tables T r) (parts r s xs) (getD xs (i - 1) 0) → ChainedFrom (i - 1) ys
+      chained-again ys turn = chained-turn (tables T r) n (parts r s x₀) keys-long (i - 1) (omega arith) (getD xs (i - 1) 0) from-next key-is turn
+
+      pub readable-again : Chainable (tables T r) n (parts r s x₀) → Readable (tables T r) (parts r s xs) (getD xs (i - 1) 0)
+      readable-again C =
+          chained-readable (tables T r) n (parts r s x₀) keys-long (i - 1) (omega arith) (getD xs (i - 1) 0) (R .some) C from-next key-is
 
 -- one slot of the last loop: it holds no key, or it holds one
 module _ (held : List ℕ) (n v : ℕ) (words : List ℕ) where

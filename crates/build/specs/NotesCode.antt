@@ -1,5 +1,5 @@
--- The loops of step 3, one turn at a time, on the parts of scratch. Assumes nothing.
-use Prim.Native.Nat.{ℕ, _+_, _≤_, _<_}
+-- The loops of step 3, one turn at a time: on the parts of scratch, and then over scratch, as code goes. Assumes nothing.
+use Prim.Native.Nat.{ℕ, _+_, _*_, _≤_, _<_}
 use mathlib.Core.Path.{_≡_, refl, sym, _∙_, ap}
 use mathlib.Core.Bool.{Bool, true, false, cond}
 use mathlib.Core.List.{List, [], _∷_}
@@ -8,14 +8,15 @@ use native.Mathlib.Numerals.{add-one}
 use lib.Dec.{eqb, ltb}
 use lib.ListN.{length, getD, set, take, drop, replicate, length-take, drop-of-length-le}
 use borrow.Author.Tests.{eq-eqb, ne-eqb, lt-ltb, le-ltb}
-use Rattle.forest.specs.Held.{holding, slot-count}
+use Rattle.forest.specs.Held.{holding}
 use lib.Seq.{drop-cons, getD-take, length-take-le}
 use Rattle.tabulation.specs.Hash.{Family}
 use Rattle.tabulation.specs.Slots.{slot-0, slot-1}
 use Rattle.forest.specs.Oriented.{standing}
 use Rattle.build.specs.Labels.{label-of}
 use Rattle.build.specs.Notes.{Noting, nothing-noted, note-at, stash-key, overflowed, noted, noted-held}
-use Rattle.build.specs.Scratch.{Parts, with-sets}
+use Rattle.build.specs.Scratch.{Parts, glue, parts, stash-at, with-sets}
+use Rattle.build.specs.Changed.{Enough, Room, Fit, NoteAt, tables, enough-kept, parts-fit, is-glue, read-key, stash-part, part-set, note-word, note-set}
 use Rattle.build.specs.Passes.{with-noting, answer, noting-of, noted-parts, noted-held-parts}
 use Rattle.build.specs.declared.notes.StashCount.{StashCount}
 use Rattle.build.specs.declared.notes.StashCount.the-variants.{Keys, Overflow}
@@ -106,42 +107,58 @@ answer-overflow N = go (N .overflow)
     go true e = refl
     go false e = absurd (let z : _≡_ {A = ℕ} 0 1 = cc in omega arith)
 
--- the four cases of a key
-module _ (F : Family) (P : Parts) (k c : ℕ) where
-  abbrev l : ℕ
-  l = label-of (slot-0 F) (P .next) c
+-- the four cases of a key, over scratch
+module _ {T : List ℕ} {r s : ℕ} {xs : List ℕ} (R : Room T r s xs) (k c : ℕ) where
+  -- scratch is then ys, and the answer is n
+  abbrev Told : List ℕ → StashCount → Type 0
+  Told ys n =
+      (parts r s ys ≡ key-noted (tables T r) (parts r s xs) k c) × (n ≡ answer (noting-after (tables T r) (parts r s xs) k c))
 
-  pub after-held : holding F (P .held) c ≡ true → noting-after F P k c ≡ noting-in P k
+  pub key-held : holding (tables T r) (parts r s xs .held) c ≡ true → Told xs (Keys k)
   unfolding note-key
-  after-held t = rw t
+  key-held t = rw t (refl, refl)
 
-  pub after-first : holding F (P .held) c ≡ false → getD (P .sets) l 0 ≡ 0 → noting-after F P k c ≡ note-at l c (noting-in P k)
-  unfolding note-key
-  after-first t z = rw (t, eq-eqb (getD (P .sets) l 0) 0 z)
+  module _ (t : holding (tables T r) (parts r s xs .held) c ≡ false) {i : ℕ} (N : NoteAt r s (label-of (slot-0 (tables T r)) (parts r s xs .next) c) i) where
+    abbrev note : ℕ
+    note = getD (parts r s xs .sets) (label-of (slot-0 (tables T r)) (parts r s xs .next) c) 0
 
-  module _ (t : holding F (P .held) c ≡ false) (nz : getD (P .sets) l 0 ≡ 0 → ⊥) where
-    pub after-stash : k < length (P .stash) → noting-after F P k c ≡ stash-key c (noting-in P k)
+    pub key-first : getD xs i 0 ≡ 0 → Told (set xs i c) (Keys k)
     unfolding note-key
-    after-stash u = rw (t, ne-eqb (getD (P .sets) l 0) 0 nz, lt-ltb k (length (P .stash)) u)
+    key-first z = rw (t, eq-eqb note 0 (sym (note-word (R .enough) N) ∙ z)) (note-set (R .enough) N c, refl)
 
-    pub after-full : length (P .stash) ≤ k → noting-after F P k c ≡ overflowed (noting-in P k)
-    unfolding note-key
-    after-full u = rw (t, ne-eqb (getD (P .sets) l 0) 0 nz, le-ltb k (length (P .stash)) u)
+    module _ (nz : getD xs i 0 ≡ 0 → ⊥) where
+      taken : note ≡ 0 → ⊥
+      taken z = nz (note-word (R .enough) N ∙ z)
+
+      pub key-full : s ≤ k → Told xs Overflow
+      unfolding note-key
+      key-full u =
+          let full : length (parts r s xs .stash) ≤ k = omega (arith, parts-fit (R .enough) .stash-size) in
+          rw (t, ne-eqb note 0 taken, le-ltb k (length (parts r s xs .stash)) full) (refl, refl)
+
+      pub key-stashed : {j : ℕ} → j ≡ stash-at r s + k → k < s → Told (set xs j c) (Keys (k + 1))
+      unfolding note-key
+      key-stashed at u =
+          let free : k < length (parts r s xs .stash) = omega (arith, parts-fit (R .enough) .stash-size) in
+          rw (t, ne-eqb note 0 taken, lt-ltb k (length (parts r s xs .stash)) free) (part-set (stash-part (R .enough)) at u c, rw (add-one k))
 
 -- the three cases of a key in the second pass
-module _ (F : Family) (P : Parts) (c : ℕ) where
-  pub notes-passed : holding F (P .held) c ≡ false → notes-after F P c ≡ P .sets
+module _ {T : List ℕ} {r s : ℕ} {xs : List ℕ} (R : Room T r s xs) (c : ℕ) where
+  pub notes-passed : holding (tables T r) (parts r s xs .held) c ≡ false → parts r s xs ≡ held-key-noted (tables T r) (parts r s xs) c
   unfolding note-held-key
   notes-passed t = rw t
 
-  module _ (t : holding F (P .held) c ≡ true) where
-    pub notes-first : getD (P .sets) (label-of (slot-0 F) (P .next) c) 0 ≡ 0 → notes-after F P c ≡ set (P .sets) (label-of (slot-0 F) (P .next) c) c
-    unfolding note-held-key
-    notes-first z = rw (t, eq-eqb (getD (P .sets) (label-of (slot-0 F) (P .next) c) 0) 0 z)
+  module _ (t : holding (tables T r) (parts r s xs .held) c ≡ true) {i : ℕ} (N : NoteAt r s (label-of (slot-0 (tables T r)) (parts r s xs .next) c) i) where
+    abbrev noted-before : ℕ
+    noted-before = getD (parts r s xs .sets) (label-of (slot-0 (tables T r)) (parts r s xs .next) c) 0
 
-    pub notes-kept : (getD (P .sets) (label-of (slot-0 F) (P .next) c) 0 ≡ 0 → ⊥) → notes-after F P c ≡ P .sets
+    pub notes-first : getD xs i 0 ≡ 0 → parts r s (set xs i c) ≡ held-key-noted (tables T r) (parts r s xs) c
     unfolding note-held-key
-    notes-kept nz = rw (t, ne-eqb (getD (P .sets) (label-of (slot-0 F) (P .next) c) 0) 0 nz)
+    notes-first z = rw (t, eq-eqb noted-before 0 (sym (note-word (R .enough) N) ∙ z)) (note-set (R .enough) N c)
+
+    pub notes-kept : (getD xs i 0 ≡ 0 → ⊥) → parts r s xs ≡ held-key-noted (tables T r) (parts r s xs) c
+    unfolding note-held-key
+    notes-kept nz = rw (t, ne-eqb noted-before 0 (λ z. nz (note-word (R .enough) N ∙ z)))
 
 -- the i-th of the first n words is next
 pub next-key : (n : ℕ) (words : List ℕ) (i : ℕ) → n ≤ length words → i < n → drop i (take n words) ≡ getD words i 0 ∷ drop (i + 1) (take n words)
@@ -168,17 +185,17 @@ module _ (F : Family) (n : ℕ) (P₀ : Parts) where
     pub kept : P ≡ with-noting P₀ (noting-in P k)
     pub same : whole ≡ ahead i (noting-in P k)
 
-  pub noting-start : n ≤ length (P₀ .keys) → NotingAt P₀ 0 0
+  noting-start : n ≤ length (P₀ .keys) → NotingAt P₀ 0 0
   noting-start l = record { long = l; kept = refl; same = refl }
 
   module _ {P : Parts} {i k : ℕ} (K : NotingAt P i k) where
     noting-keys : P .keys ≡ P₀ .keys
     noting-keys = ap (λ (Q : Parts). Q .keys) (K .kept)
 
-    pub noting-labels : P .next ≡ P₀ .next
+    noting-labels : P .next ≡ P₀ .next
     noting-labels = ap (λ (Q : Parts). Q .next) (K .kept)
 
-    pub noting-done : n ≤ i → (P ≡ with-noting P₀ whole) × (Keys k ≡ answer whole)
+    noting-done : n ≤ i → (P ≡ with-noting P₀ whole) × (Keys k ≡ answer whole)
     noting-done l =
         let e : whole ≡ noting-in P k = K .same ∙ rw (no-key n (P₀ .keys) i l) (noted-none (slot-0 F) (slot-1 F) (P₀ .held) (P₀ .next) (noting-in P k)) in
         rw e (K .kept, refl)
@@ -203,7 +220,7 @@ module _ (F : Family) (n : ℕ) (P₀ : Parts) where
           let e : drop i (take n (P₀ .keys)) ≡ c ∷ R = next-key n (P₀ .keys) i (K .long) more ∙ rw (is, noting-keys) in
           K .same ∙ ap (λ (Z : List ℕ). noted (slot-0 F) (slot-1 F) (P₀ .held) (P₀ .next) Z (noting-in P k)) e
 
-      pub noting-turn : {j : ℕ} → Keys j ≡ answer (noting-after F P k c) → NotingAt Q (i + 1) j
+      noting-turn : {j : ℕ} → Keys j ≡ answer (noting-after F P k c) → NotingAt Q (i + 1) j
       noting-turn {j} e =
           let o = answer-keys M (e ∙ ap answer after) in
           let q = noting-is P₀ Q M moved (o .0) (o .1) in
@@ -213,16 +230,48 @@ module _ (F : Family) (n : ℕ) (P₀ : Parts) where
             same = here ∙ noted-on (slot-0 F) (slot-1 F) (P₀ .held) (P₀ .next) c R (noting-in P k) refl (o .0) ∙ ap (ahead (i + 1)) q;
           }
 
-      pub noting-over : Overflow ≡ answer (noting-after F P k c) → (Q ≡ with-noting P₀ whole) × (Overflow ≡ answer whole)
+      noting-over : Overflow ≡ answer (noting-after F P k c) → (Q ≡ with-noting P₀ whole) × (Overflow ≡ answer whole)
       noting-over e =
           let o = answer-overflow M (e ∙ ap answer after) in
           let q : whole ≡ M = here ∙ noted-ends (slot-0 F) (slot-1 F) (P₀ .held) (P₀ .next) c R (noting-in P k) refl o in
           rw q (moved, rw o)
 
--- P₁ is P₀ with nothing noted yet
-pub noting-all : (F : Family) (n s : ℕ) (P₀ : Parts) {P₁ : Parts} → P₁ ≡ with-noting P₀ (nothing-noted (slot-count F) (replicate s 0)) → {P : Parts} {k : StashCount}
-    → (P ≡ with-noting P₁ (whole F n P₁)) × (k ≡ answer (whole F n P₁)) → (P ≡ noted-parts F P₀ s n) × (k ≡ answer (noting-of F P₀ s n))
-noting-all F n s P₀ e h = rw e at h
+-- the first pass is over: scratch is xs, and the answer is a
+module _ {T : List ℕ} {r s : ℕ} {x₀ : List ℕ} (R : Room T r s x₀) (n : ℕ) where
+  abbrev AllNoted : List ℕ → StashCount → Type 0
+  AllNoted xs a = (xs ≡ glue (noted-parts (tables T r) (parts r s x₀) s n)) × (a ≡ answer (noting-of (tables T r) (parts r s x₀) s n))
+
+  all-noted : {xs : List ℕ} (x₁ : List ℕ) {a : StashCount} → Enough r s xs → parts r s x₁ ≡ with-noting (parts r s x₀) (nothing-noted (2 * r) (replicate s 0))
+      → (parts r s xs ≡ with-noting (parts r s x₁) (whole (tables T r) n (parts r s x₁))) × (a ≡ answer (whole (tables T r) n (parts r s x₁)))
+      → AllNoted xs a
+  all-noted x₁ E cleared h = let g = rw cleared at h in (is-glue E (g .0), g .1)
+
+-- The first pass over scratch: x₁ is x₀ with nothing noted yet.
+module _ {T : List ℕ} {r s : ℕ} {x₀ x₁ : List ℕ} (R : Room T r s x₀) (n : ℕ) (few : n ≤ 2 * r + s) (E₁ : Enough r s x₁)
+    (cleared : parts r s x₁ ≡ with-noting (parts r s x₀) (nothing-noted (2 * r) (replicate s 0))) where
+  abbrev NotingTo : List ℕ → ℕ → ℕ → Type 0
+  NotingTo xs i k = NotingAt (tables T r) n (parts r s x₁) (parts r s xs) i k
+
+  pub noting-begins : NotingTo x₁ 0 0
+  noting-begins = noting-start (tables T r) n (parts r s x₁) (omega (arith, parts-fit E₁ .keys-size))
+
+  module _ {xs : List ℕ} {i k : ℕ} (E : Enough r s xs) (K : NotingTo xs i k) where
+    pub noting-fit : Fit (2 * r) (parts r s x₀ .next) → Fit (2 * r) (parts r s xs .next)
+    noting-fit f = rw (noting-labels (tables T r) n (parts r s x₁) K, cleared) f
+
+    -- the pass ends after the last key,
+    pub noting-ends : n ≤ i → AllNoted R n xs (Keys k)
+    noting-ends l = all-noted R n x₁ E cleared (noting-done (tables T r) n (parts r s x₁) K l)
+
+    -- goes on with the next, or ends where the stash has no room for it
+    module _ (more : i < n) (ys : List ℕ) (turn : parts r s ys ≡ key-noted (tables T r) (parts r s xs) k (getD xs i 0)) where
+      pub noting-again : {j : ℕ} → Keys j ≡ answer (noting-after (tables T r) (parts r s xs) k (getD xs i 0)) → NotingTo ys (i + 1) j
+      noting-again e = noting-turn (tables T r) n (parts r s x₁) K more (getD xs i 0) (read-key E i (omega arith)) (parts r s ys) turn e
+
+      pub noting-stops : length ys ≡ length xs → Overflow ≡ answer (noting-after (tables T r) (parts r s xs) k (getD xs i 0)) → AllNoted R n ys Overflow
+      noting-stops l e =
+          all-noted R n x₁ (enough-kept E l) cleared
+          (noting-over (tables T r) n (parts r s x₁) K more (getD xs i 0) (read-key E i (omega arith)) (parts r s ys) turn e)
 
 -- the second pass has i keys behind it
 module _ (F : Family) (n : ℕ) (P₀ : Parts) where
@@ -234,18 +283,18 @@ module _ (F : Family) (n : ℕ) (P₀ : Parts) where
     pub kept : P ≡ with-sets P₀ (P .sets)
     pub same : notes-ahead 0 (P₀ .sets) ≡ notes-ahead i (P .sets)
 
-  pub notes-start : n ≤ length (P₀ .keys) → NotesAt P₀ 0
+  notes-start : n ≤ length (P₀ .keys) → NotesAt P₀ 0
   notes-start l = record { long = l; kept = refl; same = refl }
 
   module _ {P : Parts} {i : ℕ} (K : NotesAt P i) where
-    pub notes-labels : P .next ≡ P₀ .next
+    notes-labels : P .next ≡ P₀ .next
     notes-labels = ap (λ (Q : Parts). Q .next) (K .kept)
 
-    pub notes-done : n ≤ i → P ≡ noted-held-parts F P₀ n
+    notes-done : n ≤ i → P ≡ noted-held-parts F P₀ n
     notes-done l =
         K .kept ∙ ap (with-sets P₀) (sym (K .same ∙ rw (no-key n (P₀ .keys) i l) (noted-held-none (slot-0 F) (slot-1 F) (P₀ .held) (P₀ .next) (P .sets))))
 
-    pub notes-turn : i < n → (c : ℕ) → c ≡ getD (P .keys) i 0 → (Q : Parts) → Q ≡ held-key-noted F P c → NotesAt Q (i + 1)
+    notes-turn : i < n → (c : ℕ) → c ≡ getD (P .keys) i 0 → (Q : Parts) → Q ≡ held-key-noted F P c → NotesAt Q (i + 1)
     notes-turn more c is Q turn =
         let R = drop (i + 1) (take n (P₀ .keys)) in
         let e : drop i (take n (P₀ .keys)) ≡ c ∷ R = next-key n (P₀ .keys) i (K .long) more ∙ rw (is, ap (λ (Z : Parts). Z .keys) (K .kept)) in
@@ -257,3 +306,21 @@ module _ (F : Family) (n : ℕ) (P₀ : Parts) where
           same = K .same ∙ ap (λ (Z : List ℕ). noted-held (slot-0 F) (slot-1 F) (P₀ .held) (P₀ .next) Z (P .sets)) e
               ∙ noted-held-on (slot-0 F) (slot-1 F) (P₀ .held) (P₀ .next) c R (P .sets) ∙ ap (notes-ahead (i + 1)) (sym after);
         }
+
+-- the second pass over scratch
+module _ {T : List ℕ} {r s : ℕ} {x₀ : List ℕ} (R : Room T r s x₀) (n : ℕ) (few : n ≤ 2 * r + s) where
+  abbrev NotesTo : List ℕ → ℕ → Type 0
+  NotesTo xs i = NotesAt (tables T r) n (parts r s x₀) (parts r s xs) i
+
+  pub notes-begin : NotesTo x₀ 0
+  notes-begin = notes-start (tables T r) n (parts r s x₀) (omega (arith, parts-fit (R .enough) .keys-size))
+
+  module _ {xs : List ℕ} {i : ℕ} (E : Enough r s xs) (K : NotesTo xs i) where
+    pub notes-fit : Fit (2 * r) (parts r s x₀ .next) → Fit (2 * r) (parts r s xs .next)
+    notes-fit f = rw (notes-labels (tables T r) n (parts r s x₀) K) f
+
+    pub notes-end : n ≤ i → xs ≡ glue (noted-held-parts (tables T r) (parts r s x₀) n)
+    notes-end l = is-glue E (notes-done (tables T r) n (parts r s x₀) K l)
+
+    pub notes-again : i < n → (ys : List ℕ) → parts r s ys ≡ held-key-noted (tables T r) (parts r s xs) (getD xs i 0) → NotesTo ys (i + 1)
+    notes-again more ys turn = notes-turn (tables T r) n (parts r s x₀) K more (getD xs i 0) (read-key E i (omega arith)) (parts r s ys) turn

@@ -1,13 +1,14 @@
-// What scratch says of a key: whether it stands in one of its slots, and the label of its component.
+// What scratch says of a key: whether it stands in one of its slots, the label of its component, and where the word for that label is.
 ghost use mathlib.Core.Path.{_≡_};
 ghost use Prim.Native.Nat.{_*_, _<_};
 ghost use Rattle.tabulation.specs.Slots.{slot-0};
 ghost use Rattle.forest.specs.Held.{holding};
 ghost use Rattle.build.specs.Labels.{label-of};
 ghost use Rattle.build.specs.Scratch.{parts};
-ghost use Rattle.build.specs.Changed.{tables, Room, Fit};
+ghost use Rattle.build.specs.Changed.{tables, Room, Fit, NoteAt};
 use crate::parts::held_start;
 use crate::parts::next_start;
+use crate::parts::sets_start;
 use words::wide;
 
 pub fn is_held(scratch: &[u32], tabulation: &[u16], r: u32, s: u32, key: u32) -> bool
@@ -20,10 +21,18 @@ pub fn is_held(scratch: &[u32], tabulation: &[u16], r: u32, s: u32, key: u32) ->
 }
 
 // The label is that of the key's slot in table 0.
-pub fn label(scratch: &[u32], tabulation: &[u16], r: u32, s: u32, key: u32) -> usize
+fn label(scratch: &[u32], tabulation: &[u16], r: u32, s: u32, key: u32) -> usize
     requires { ⌜ Room (now tabulation) r s (now scratch) × Fit (2 * r) (parts r s (now scratch) .next) ⌝ }
     ensures { λ l. ⌜ (l ≡ label-of (slot-0 (tables (now (tabulation .entry)) r)) (parts r s (now (scratch .entry)) .next) key) × (l < 2 * r) ⌝ }
 {
     let at = next_start(r, s) + wide(tabulation::first_slot(tabulation, r, key));
     wide(scratch[at])
+}
+
+// Where the word for the key's label stands, among those of `sets`.
+pub fn note_at(scratch: &[u32], tabulation: &[u16], r: u32, s: u32, key: u32) -> usize
+    requires { ⌜ Room (now tabulation) r s (now scratch) × Fit (2 * r) (parts r s (now scratch) .next) ⌝ }
+    ensures { λ i. ⌜ NoteAt r s (label-of (slot-0 (tables (now (tabulation .entry)) r)) (parts r s (now (scratch .entry)) .next) key) i ⌝ }
+{
+    sets_start(r, s) + label(scratch, tabulation, r, s, key)
 }

@@ -7,7 +7,7 @@ ghost use Rattle.build.specs.Changed.{tables, Enough, Room, Fit};
 ghost use Rattle.build.specs.Passes.{last-seen-parts, chained-parts, blanked-parts};
 ghost use Rattle.build.specs.NextCode.{seat-in, label-at, Readable, Chainable, key-seen, slot-put, key-put, key-chained};
 use crate::key::is_held;
-use crate::key::label;
+use crate::key::note_at;
 use crate::parts::held_start;
 use crate::parts::next_start;
 use crate::parts::sets_start;
@@ -21,7 +21,7 @@ fn see_key(scratch: &mut [u32], tabulation: &[u16], r: u32, s: u32, key: u32)
     if !is_held(&*scratch, tabulation, r, s, key) {
         return;
     }
-    let at = sets_start(r, s) + label(&*scratch, tabulation, r, s, key);
+    let at = note_at(&*scratch, tabulation, r, s, key);
     scratch[at] = key;
 }
 

@@ -8,7 +8,7 @@ ghost use Rattle.build.specs.Changed.{tables, Enough, Room, Fit};
 ghost use Rattle.build.specs.Passes.{with-noting, answer, noting-of, noted-parts, noted-held-parts};
 ghost use Rattle.build.specs.NotesCode.{noting-after, key-noted, held-key-noted};
 use crate::key::is_held;
-use crate::key::label;
+use crate::key::note_at;
 use crate::parts::sets_start;
 use crate::parts::stash_start;
 use words::fill;
@@ -48,7 +48,7 @@ fn note_key(
     if is_held(&*scratch, tabulation, r, s, key) {
         return StashCount::Keys(count);
     }
-    let at = sets_start(r, s) + label(&*scratch, tabulation, r, s, key);
+    let at = note_at(&*scratch, tabulation, r, s, key);
     if scratch[at] == 0 {
         scratch[at] = key;
         return StashCount::Keys(count);
@@ -90,7 +90,7 @@ fn note_held_key(scratch: &mut [u32], tabulation: &[u16], r: u32, s: u32, key: u
     if !is_held(&*scratch, tabulation, r, s, key) {
         return;
     }
-    let note = sets_start(r, s) + label(&*scratch, tabulation, r, s, key);
+    let note = note_at(&*scratch, tabulation, r, s, key);
     if scratch[note] == 0 {
         scratch[note] = key;
     }

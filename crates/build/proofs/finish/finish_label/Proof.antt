@@ -1,11 +1,7 @@
 -- `finish::finish_label` meets its contract: each way through is one of the three cases of a label.
-use Prim.Native.Nat.{ℕ, _+_}
-use mathlib.Core.Path.{sym, _∙_, ap}
-use lib.ListN.{getD}
-use Rattle.forest.specs.Held.{finished-tree, finished-cycle}
-use Rattle.build.specs.Scratch.{parts, with-held}
-use Rattle.build.specs.Changed.{tables, held-part, sets-part, part-word, part-renewed}
+use mathlib.Core.Path.{sym, _∙_}
 use borrow.Author.Needs.{needs}
+use Rattle.build.specs.Changed.{note-from}
 use Rattle.build.specs.FinishCode.{label-none, label-tree, label-cycle}
 use Rattle.build.proofs.finish.finish_label.Statement.{statement}
 use Rattle.build.proofs.finish.finish_label.Tie as tie
@@ -25,10 +21,8 @@ slice-read-key c = search needs
 returns : tie.Need-returns
 returns c =
     let d = c .before .before in
-    let p = d .before .before .before in
-    let a = p .args in
-    let e = part-word (sets-part (p .pre .0 .enough)) (ap (λ (b : ℕ). b + a .l) (d .sets-start .ensures)) (p .pre .1) in
-    rw (label-none (tables (a .tabulation .now) (a .r)) (parts (a .r) (a .s) (a .scratch .now)) (a .l) _ e (c .if1 .taken))
+    let p = d .before .before .before .pre in
+    label-none (p .0) (note-from (d .sets-start .ensures) (p .1)) (c .if1 .taken)
 
 held-start-requires : tie.Need-held-start-requires
 held-start-requires c κs = search needs
@@ -78,17 +72,10 @@ returns-2 c =
     let d7 = d4 .before .before .before in
     let d9 = d7 .before .before in
     let d11 = d9 .before .before in
-    let p = d11 .before .before .before in
-    let a = p .args in
-    let E = p .pre .0 .enough in
-    let F = tables (a .tabulation .now) (a .r) in
-    let P = parts (a .r) (a .s) (a .scratch .now) in
-    let e = part-word (sets-part E) (ap (λ (b : ℕ). b + a .l) (d11 .sets-start .ensures)) (p .pre .1) in
-    let y = getD (a .scratch .now) (d11 .sets-start .result + a .l) 0 in
-    let new = label-tree F P (a .l) y e (d9 .if1 .left) (sym (d4 .before .is-held .ensures) ∙ d4 .if2 .taken) in
+    let p = d11 .before .before .before .pre in
     let back = c .before .before .finish-tree in
-    part-renewed (held-part E) (d7 .before .held-start .ensures) (d7 .next-start .ensures) (λ held. finished-tree F held y) (back .ensures) (back .kept .0)
-    ∙ ap (with-held P) (sym new)
+    label-tree (p .0) (note-from (d11 .sets-start .ensures) (p .1)) (d9 .if1 .left) (d7 .before .held-start .ensures) (d7 .next-start .ensures)
+    (back .last .0) (back .kept .0) (sym (d4 .before .is-held .ensures) ∙ d4 .if2 .taken) (back .ensures)
 
 same-length-2 : tie.Need-same-length-2
 same-length-2 c = search needs
@@ -99,17 +86,10 @@ returns-3 c =
     let d7 = d4 .before .before .before in
     let d9 = d7 .before .before in
     let d11 = d9 .before .before in
-    let p = d11 .before .before .before in
-    let a = p .args in
-    let E = p .pre .0 .enough in
-    let F = tables (a .tabulation .now) (a .r) in
-    let P = parts (a .r) (a .s) (a .scratch .now) in
-    let e = part-word (sets-part E) (ap (λ (b : ℕ). b + a .l) (d11 .sets-start .ensures)) (p .pre .1) in
-    let y = getD (a .scratch .now) (d11 .sets-start .result + a .l) 0 in
-    let new = label-cycle F P (a .l) y e (d9 .if1 .left) (sym (d4 .before .is-held .ensures) ∙ d4 .if2 .left) in
+    let p = d11 .before .before .before .pre in
     let back = c .before .before .finish-cycle in
-    part-renewed (held-part E) (d7 .before .held-start .ensures) (d7 .next-start .ensures) (λ held. finished-cycle F held y) (back .ensures) (back .kept .0)
-    ∙ ap (with-held P) (sym new)
+    label-cycle (p .0) (note-from (d11 .sets-start .ensures) (p .1)) (d9 .if1 .left) (d7 .before .held-start .ensures) (d7 .next-start .ensures)
+    (back .last .0) (back .kept .0) (sym (d4 .before .is-held .ensures) ∙ d4 .if2 .left) (back .ensures)
 
 pub finish-label-spec : {M : Type 1} → statement M
 finish-label-spec =

@@ -5,7 +5,7 @@ use native.Mathlib.Omega.{arith}
 use lib.ListN.{length}
 use borrow.Author.Needs.{needs}
 use Rattle.build.specs.Scratch.{next-at}
-use Rattle.build.specs.Changed.{enough-kept}
+use Rattle.build.specs.Changed.{Enough, enough-kept}
 use Rattle.build.specs.LinkCode.{label-words, labels-from, labels-none, labels-more, labels-done}
 use Rattle.build.proofs.link.label_slots.Statement.{statement}
 use Rattle.build.proofs.link.label_slots.Tie as tie
@@ -55,7 +55,7 @@ loop-again c =
     let l = c .before .before .before .before .loop in
     let d5 = c .before .before .before .before .before in
     let p = d5 .before .before in
-    let E = enough-kept (p .pre) (l .inv .1) in
+    let E : Enough (p .args .r) (p .args .s) (l .scratch) = enough-kept (p .pre) (l .inv .1) in
     let at : d5 .next-start .result + c .wide .result ≡ next-at (p .args .r) (p .args .s) + l .v = rw (d5 .next-start .ensures, c .wide .ensures) in
     (search needs, search needs, l .inv .2 ∙ labels-more E at (omega arith) (c .before .set-of .ensures))
 

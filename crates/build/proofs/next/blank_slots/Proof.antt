@@ -3,10 +3,10 @@ use Prim.Native.Nat.{ℕ, _+_, _*_, _-_, _≤_, _<_}
 use mathlib.Core.Path.{_≡_, refl, sym, _∙_, ap}
 use mathlib.Core.Logic.{inl, inr}
 use native.Mathlib.Omega.{arith}
-use lib.ListN.{length, length-set}
+use lib.ListN.{length, getD, length-set}
 use borrow.Author.Needs.{needs}
 use Rattle.build.specs.Scratch.{parts}
-use Rattle.build.specs.Changed.{enough-kept, is-glue, held-part, next-part, part-word, part-set}
+use Rattle.build.specs.Changed.{Enough, enough-kept, is-glue, held-part, next-part, part-word, part-set}
 use Rattle.build.specs.NextCode.{BlankedTo, blank-start, blank-turn, blank-pass, blank-done}
 use Rattle.build.proofs.next.blank_slots.Statement.{statement}
 use Rattle.build.proofs.next.blank_slots.Tie as tie
@@ -72,13 +72,15 @@ loop-again c =
     let l = d3 .loop in
     let xs = l .scratch in
     let P₀ = parts (a .r) (a .s) (a .scratch .now) in
-    let E = enough-kept (d8 .pre) (l .inv .0) in
+    let E : Enough (a .r) (a .s) xs = enough-kept (d8 .pre) (l .inv .0) in
     let low : l .v < 2 * a .r = omega (arith, d4 .wide .ensures) in
-    let word = part-word (held-part E) (ap (λ (b : ℕ). b + l .v) (d6 .held-start .ensures)) low in
+    let word : getD xs (d6 .held-start .result + l .v) 0 ≡ getD (parts (a .r) (a .s) xs .held) (l .v) 0 =
+    part-word (held-part E) (ap (λ (b : ℕ). b + l .v) (d6 .held-start .ensures)) low in
     elim (c .if1 .came) [
       | inl w ↦
           let new = part-set (next-part E) (ap (λ (b : ℕ). b + l .v) (d4 .before .next-start .ensures)) low 0 in
-          rw (w .1) (length-set xs (d4 .before .next-start .result + l .v) 0 ∙ l .inv .0, omega arith, blank-turn (2 * a .r) P₀ (l .inv .2) low (sym word ∙ w .0 .taken) new)
+          let turn = blank-turn (2 * a .r) P₀ (l .inv .2) low (sym word ∙ w .0 .taken) new in
+          rw (w .1) (length-set xs (d4 .before .next-start .result + l .v) 0 ∙ l .inv .0, omega arith, turn)
       | inr w ↦ rw (w .1) (l .inv .0, omega arith, blank-pass (2 * a .r) P₀ (l .inv .2) low (λ z. w .0 .left (word ∙ z)))
     ]
 

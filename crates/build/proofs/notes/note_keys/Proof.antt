@@ -1,19 +1,12 @@
 -- `notes::note_keys` meets its contract: each turn of the loop is a key of the first pass.
-use Rattle.build.specs.Passes.{answer}
-use Rattle.build.specs.NotesCode.{noting-after}
-use Rattle.build.specs.declared.notes.StashCount.the-variants.{Keys, Overflow}
-use mathlib.Core.Path.{ap}
-use lib.ListN.{getD}
-use Rattle.build.specs.Scratch.{Parts}
-use Rattle.build.specs.Changed.{Enough, tables, enough-kept, room-kept, parts-fit, is-glue, read-key}
-use Rattle.build.specs.NotesCode.{noting-all}
 use Prim.Native.Nat.{_-_, _≤_}
 use mathlib.Core.Path.{_≡_, sym, _∙_}
 use native.Mathlib.Omega.{arith}
 use lib.ListN.{length}
 use borrow.Author.Needs.{needs}
 use Rattle.build.specs.Scratch.{parts}
-use Rattle.build.specs.NotesCode.{NotingAt, noting-start, noting-labels, noting-turn, noting-over, noting-done}
+use Rattle.build.specs.Changed.{Enough, tables, enough-kept, room-kept}
+use Rattle.build.specs.NotesCode.{NotingAt, noting-begins, noting-fit, noting-ends, noting-again, noting-stops}
 use Rattle.build.proofs.notes.note_keys.Statement.{statement}
 use Rattle.build.proofs.notes.note_keys.Tie as tie
 
@@ -32,11 +25,10 @@ clear-notes-requires c κs = search needs
 
 loop-holds : tie.Need-loop-holds Inv-loop μ-loop
 loop-holds c =
-    let d6 = c .before .before .before .before .before .before in
-    let a = d6 .args in
-    let E = enough-kept (d6 .pre .0 .enough) (c .before .before .clear-notes .kept .0) in
-    let P₁ = parts (a .r) (a .s) (c .before .before .clear-notes .last .0) in
-    (search needs, E, search needs, noting-start (tables (a .tabulation .now) (a .r)) (a .n) P₁ (omega (arith, parts-fit E .keys-size)))
+    let k = c .before .before .clear-notes in
+    let p = c .before .before .before .before .before .before in
+    let E : Enough (p .args .r) (p .args .s) (k .last .0) = enough-kept (p .pre .0 .enough) (k .kept .0) in
+    (search needs, E, search needs, noting-begins (p .pre .0) (p .args .n) (p .pre .2) E (k .ensures))
 
 mul-key : tie.Need-mul-key Inv-loop μ-loop
 mul-key c = search needs
@@ -46,15 +38,12 @@ slice-read-key c = search needs
 
 note-key-requires : tie.Need-note-key-requires Inv-loop μ-loop
 note-key-requires c κs =
-    let d3 = c .before .before .before in
-    let d6 = d3 .before .before .before in
-    let d10 = d6 .before .before .before .before in
-    let a = d10 .args in
-    let F = tables (a .tabulation .now) (a .r) in
-    let p = d10 .pre in
-    let e = noting-labels F (a .n) (parts (a .r) (a .s) (d6 .clear-notes .last .0)) (d3 .loop .inv .3) in
-    let cleared = ap (λ (Q : Parts). Q .next) (d6 .clear-notes .ensures) in
-    (room-kept (p .0) (d3 .loop .inv .0 ∙ d6 .clear-notes .kept .0), rw (e, cleared) (p .1))
+    let l = c .before .before .before .loop in
+    let d6 = c .before .before .before .before .before .before in
+    let p = d6 .before .before .before .before in
+    let k = d6 .clear-notes in
+    let E = enough-kept (p .pre .0 .enough) (k .kept .0) in
+    (room-kept (p .pre .0) (l .inv .0 ∙ k .kept .0), noting-fit (p .pre .0) (p .args .n) (p .pre .2) E (k .ensures) (l .inv .1) (l .inv .3) (p .pre .1))
 
 enum-known-noted : tie.Need-enum-known-noted Inv-loop μ-loop
 enum-known-noted c = c .match .keys1
@@ -69,18 +58,13 @@ returns : tie.Need-returns Inv-loop μ-loop
 returns c =
     let d4 = c .before .before .before .before in
     let d8 = d4 .before .before .before .before in
-    let d11 = d8 .before .before .before in
-    let d15 = d11 .before .before .before .before in
-    let a = d15 .args in
-    let F = tables (a .tabulation .now) (a .r) in
     let l = d8 .loop in
-    let xs = l .scratch in
-    let P = parts (a .r) (a .s) xs in
-    let over : Overflow ≡ answer (noting-after F P (l .count) (getD xs (l .i) 0)) = sym (c .enum-told .given .1) ∙ d4 .note-key .ensures .1 in
-    let turn = noting-over F (a .n) (parts (a .r) (a .s) (d11 .clear-notes .last .0)) (l .inv .3) (omega arith) (getD xs (l .i) 0)
-    (read-key (l .inv .1) (l .i) (omega arith)) (parts (a .r) (a .s) (d4 .note-key .last .0)) (d4 .note-key .ensures .0) over in
-    let all = noting-all F (a .n) (a .s) (parts (a .r) (a .s) (a .scratch .now)) (d11 .clear-notes .ensures) turn in
-    (is-glue (enough-kept (l .inv .1) (d4 .note-key .kept .0)) (all .0), all .1)
+    let d11 = d8 .before .before .before in
+    let p = d11 .before .before .before .before in
+    let k = d11 .clear-notes in
+    let E = enough-kept (p .pre .0 .enough) (k .kept .0) in
+    let turn = d4 .note-key in
+    noting-stops (p .pre .0) (p .args .n) (p .pre .2) E (k .ensures) (l .inv .1) (l .inv .3) (omega arith) (turn .last .0) (turn .ensures .0) (turn .kept .0) (sym (c .enum-told .given .1) ∙ turn .ensures .1)
 
 add-i : tie.Need-add-i Inv-loop μ-loop
 add-i c = search needs
@@ -92,31 +76,26 @@ loop-again : tie.Need-loop-again Inv-loop μ-loop
 loop-again c =
     let d5 = c .before .before .before .before .before in
     let d9 = d5 .before .before .before .before in
-    let d12 = d9 .before .before .before in
-    let d16 = d12 .before .before .before .before in
-    let a = d16 .args in
-    let F = tables (a .tabulation .now) (a .r) in
     let l = d9 .loop in
-    let xs = l .scratch in
-    let P = parts (a .r) (a .s) xs in
-    let went : Keys (c .before .noted .given .0 .0) ≡ answer (noting-after F P (l .count) (getD xs (l .i) 0)) = sym (c .before .noted .given .1) ∙ d5 .note-key .ensures .1 in
-    let turn = noting-turn F (a .n) (parts (a .r) (a .s) (d12 .clear-notes .last .0)) (l .inv .3) (omega arith) (getD xs (l .i) 0)
-    (read-key (l .inv .1) (l .i) (omega arith)) (parts (a .r) (a .s) (d5 .note-key .last .0)) (d5 .note-key .ensures .0) went in
-    (search needs, enough-kept (l .inv .1) (d5 .note-key .kept .0), search needs, turn)
+    let d12 = d9 .before .before .before in
+    let p = d12 .before .before .before .before in
+    let k = d12 .clear-notes in
+    let E = enough-kept (p .pre .0 .enough) (k .kept .0) in
+    let turn = d5 .note-key in
+    let next = noting-again (p .pre .0) (p .args .n) (p .pre .2) E (k .ensures) (l .inv .1) (l .inv .3) (omega arith) (turn .last .0) (turn .ensures .0) (sym (c .before .noted .given .1) ∙ turn .ensures .1) in
+    (search needs, enough-kept (l .inv .1) (turn .kept .0), search needs, next)
 
 same-length-2 : tie.Need-same-length-2 Inv-loop μ-loop
 same-length-2 c = search needs
 
 returns-2 : tie.Need-returns-2 Inv-loop μ-loop
 returns-2 c =
-    let d4 = c .before .before .before .before in
-    let d8 = d4 .before .before .before .before in
-    let a = d8 .args in
-    let F = tables (a .tabulation .now) (a .r) in
     let l = c .before .loop in
-    let done = noting-done F (a .n) (parts (a .r) (a .s) (d4 .clear-notes .last .0)) (l .inv .3) (omega arith) in
-    let all = noting-all F (a .n) (a .s) (parts (a .r) (a .s) (a .scratch .now)) (d4 .clear-notes .ensures) done in
-    (is-glue (l .inv .1) (all .0), all .1)
+    let d4 = c .before .before .before .before in
+    let p = d4 .before .before .before .before in
+    let k = d4 .clear-notes in
+    let E = enough-kept (p .pre .0 .enough) (k .kept .0) in
+    noting-ends (p .pre .0) (p .args .n) (p .pre .2) E (k .ensures) (l .inv .1) (l .inv .3) (omega arith)
 
 pub note-keys-spec : {M : Type 1} → statement M
 note-keys-spec =
