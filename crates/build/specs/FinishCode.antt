@@ -11,7 +11,7 @@ use Rattle.tabulation.specs.Slots.{slot-0, slot-1}
 use Rattle.forest.specs.Held.{other, slot-count, budget, holding, finished-tree, finished-cycle}
 use Rattle.build.specs.Finish.{finish-label, finished, finish-label-none, finish-label-tree, finish-label-cycle}
 use Rattle.build.specs.Scratch.{Parts, parts, held-at, next-at, with-held}
-use Rattle.build.specs.Changed.{Room, NoteAt, tables, held-part, part-renewed, note-word}
+use Rattle.build.specs.Access.{Room, NoteAt, tables, held-part, part-renewed, note-word}
 use Rattle.build.specs.Passes.{finished-parts}
 
 -- the held words after the component of label l

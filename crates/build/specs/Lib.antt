@@ -1,5 +1,5 @@
 -- From ascending keys to the canonical image. The passes of the build as functions on lists, and what they compute (Slots to Built); how the parts lie in
--- scratch (Scratch); the same passes over scratch, for the code (Changed to Whole); what callers read (Outcome). Assumes nothing.
+-- scratch (Scratch); the same passes over scratch, for the code (Access to Whole); what callers read (Outcome). Assumes nothing.
 pub mod Slots
 pub mod Held
 pub mod Link
@@ -9,7 +9,7 @@ pub mod Finish
 pub mod Next
 pub mod Built
 pub mod Scratch
-pub mod Changed
+pub mod Access
 pub mod LinkCode
 pub mod Passes
 pub mod NotesCode

@@ -20,7 +20,7 @@ use Rattle.forest.specs.Held.{other, slot-count, budget, rerooted, other-end, s
 use Rattle.partition.specs.Words.{Representative, Mergeable, rep-of, size-of, united, singletons-of}
 use Rattle.partition.specs.Partition.{rep-marked, mergeable}
 use Rattle.build.specs.Scratch.{Parts, glue, next-at, parts, parts-glue, with-held, with-next, with-sets}
-use Rattle.build.specs.Changed.{Enough, Room, tables, parts-fit, parts-whole, held-sized, sets-sized, next-part, part-set}
+use Rattle.build.specs.Access.{Enough, Room, tables, parts-fit, parts-whole, held-sized, sets-sized, next-part, part-set}
 use Rattle.build.specs.Link.{Linking, smaller-end, link-key, link-keys, unlinked, Sound, sound-start, sound-key}
 use Rattle.build.specs.Labels.{relabel, labelled}
 use Rattle.build.specs.Slots.{each-slot, each-slot-none, each-slot-step}
@@ -123,39 +123,6 @@ module _ {F : Family} {L : Linking} {key first second one two : ℕ} (E : Found 
   pub ends-merge : (one ≡ two → ⊥) → Mergeable (L .sets) one two
   ends-merge n = mergeable (K .linked .parts) one-marked two-marked n
 
--- The two ends in one set: nothing is to be done. In two sets: the held words have the tree re-rooted, then the sets are united.
-module _ {T : List ℕ} {r s : ℕ} {xs : List ℕ} (R : Room T r s xs) {key first second one two : ℕ}
-    (K : Found (tables T r) (parts r s xs .sets) key first second one two) where
-  abbrev P : Parts
-  P = parts r s xs
-
-  pub within-sets : one ≡ two → xs ≡ key-words (tables T r) s key xs
-  unfolding link-key
-  within-sets e =
-      rw (eq-eqb (rep-of (P .sets) (slot-0 (tables T r) key)) (rep-of (P .sets) (slot-1 (tables T r) key)) (sym (first-set K) ∙ e ∙ second-set K)) (sym (parts-whole (R .enough)))
-
-  module _ (end : ℕ) {xs₁ : List ℕ} (turned : xs₁ ≡ glue (with-held P (rerooted (tables T r) (P .held) key end))) where
-    turned-parts : parts r s xs₁ ≡ with-held P (rerooted (tables T r) (P .held) key end)
-    turned-parts =
-        let size = length-reroot (other (tables T r)) (budget (tables T r)) (P .held) key end ∙ parts-fit (R .enough) .held-size in
-        rw turned (parts-glue (held-sized (parts-fit (R .enough)) (rerooted (tables T r) (P .held) key end) size))
-
-    pub turned-sets : parts r s xs₁ .sets ≡ P .sets
-    turned-sets = ap (λ (Q : Parts). Q .sets) turned-parts
-
-    pub between-sets : (one ≡ two → ⊥) → end ≡ cond (ltb (size-of (P .sets) one) (size-of (P .sets) two)) first second
-        → glue (with-sets (parts r s xs₁) (united (parts r s xs₁ .sets) one two))
-        ≡ key-words (tables T r) s key xs
-    unfolding link-key
-    between-sets n e =
-        rw (
-          ne-eqb (rep-of (P .sets) (slot-0 (tables T r) key)) (rep-of (P .sets) (slot-1 (tables T r) key)) (found-apart K n),
-          turned-parts,
-          found-end K end e,
-          first-set K,
-          second-set K,
-        )
-
 -- Before the first key: the held words cleared, then each slot alone in its set.
 pub start-words : {r s : ℕ} {xs xs₁ ys zs : List ℕ} → Enough r s xs → xs₁ ≡ glue (with-held (parts r s xs) ys) → ys ≡ replicate (2 * r) 0
     → zs ≡ singletons-of (2 * r) → glue (with-sets (parts r s xs₁) zs) ≡ relinked r s xs (unlinked (2 * r))
@@ -176,64 +143,98 @@ module _ (F : Family) where
   keys-sound some (c ∷ R) solid L K =
       keys-sound some R (λ d i. solid d (there i)) (key-linked F c L) (sound-key (other-end F some) (slot-count F) (slots-fit F some) c (solid c (here refl)) K)
 
-module _ {T : List ℕ} {r s : ℕ} {xs : List ℕ} (R : Room T r s xs) {n : ℕ} (few : n ≤ 2 * r + s) (K : Linkable (tables T r) (linking-in r s xs))
-    (solid : Solid (first-keys r s n xs)) where
+-- over scratch with room
+module _ {T : List ℕ} {r s : ℕ} {xs : List ℕ} (R : Room T r s xs) where
   abbrev F : Family
   F = tables T r
 
-  abbrev S : List ℕ
-  S = first-keys r s n xs
+  abbrev P : Parts
+  P = parts r s xs
 
-  abbrev linked-by : ℕ → Linking
-  linked-by i = keys-linked F (take i S) (linking-in r s xs)
+  -- The two ends in one set: nothing is to be done. In two sets: the held words have the tree re-rooted, then the sets are united.
+  module _ {key first second one two : ℕ} (K : Found F (P .sets) key first second one two) where
+    pub within-sets : one ≡ two → xs ≡ key-words F s key xs
+    unfolding link-key
+    within-sets e =
+        rw (eq-eqb (rep-of (P .sets) (slot-0 F key)) (rep-of (P .sets) (slot-1 F key)) (sym (first-set K) ∙ e ∙ second-set K)) (sym (parts-whole (R .enough)))
 
-  S-long : length S ≡ n
-  S-long = length-take-le n (parts r s xs .keys) (rw (parts-fit (R .enough) .keys-size) few)
+    module _ (end : ℕ) {xs₁ : List ℕ} (turned : xs₁ ≡ glue (with-held P (rerooted F (P .held) key end))) where
+      turned-parts : parts r s xs₁ ≡ with-held P (rerooted F (P .held) key end)
+      turned-parts =
+          let size = length-reroot (other F) (budget F) (P .held) key end ∙ parts-fit (R .enough) .held-size in
+          rw turned (parts-glue (held-sized (parts-fit (R .enough)) (rerooted F (P .held) key end) size))
 
-  sound-by : (i : ℕ) → Linkable F (linked-by i)
-  sound-by i =
-      keys-sound F (R .some) (take i S) (λ c m. solid c (subst (λ (Z : List ℕ). In c Z) (take-append-drop i S) (Memᴰ·append-left (drop i S) m)))
-      (linking-in r s xs) K
+      pub turned-sets : parts r s xs₁ .sets ≡ P .sets
+      turned-sets = ap (λ (Z : Parts). Z .sets) turned-parts
 
-  parts-by : (i : ℕ) → parts r s (after-keys F s n xs i) ≡ with-linking (parts r s xs) (linked-by i)
-  parts-by i = let Q = sound-by i .linked in parts-linking (R .enough) (linked-by i) (Q .size) (Q .parts .long)
+      pub between-sets : (one ≡ two → ⊥) → end ≡ cond (ltb (size-of (P .sets) one) (size-of (P .sets) two)) first second
+          → glue (with-sets (parts r s xs₁) (united (parts r s xs₁ .sets) one two))
+          ≡ key-words F s key xs
+      unfolding link-key
+      between-sets n e =
+          rw (
+            ne-eqb (rep-of (P .sets) (slot-0 F key)) (rep-of (P .sets) (slot-1 F key)) (found-apart K n),
+            turned-parts,
+            found-end K end e,
+            first-set K,
+            second-set K,
+          )
 
-  -- what has to hold before the next key, the next key, and what it leads to
-  pub after-sound : (i : ℕ) → Linkable F (linking-in r s (after-keys F s n xs i))
-  after-sound i = rw (parts-by i) (sound-by i)
+  -- The first n keys, i of them so far.
+  module _ {n : ℕ} (few : n ≤ 2 * r + s) (K : Linkable F (linking-in r s xs)) (solid : Solid (first-keys r s n xs)) where
+    abbrev S : List ℕ
+    S = first-keys r s n xs
 
-  after-at : (i : ℕ) → i < n → getD (after-keys F s n xs i) i 0 ≡ getD S i 0
-  after-at i l =
-      List·getD-append (parts r s xs .keys) _ 0 i (rw (parts-fit (R .enough) .keys-size) (omega arith)) ∙ sym (getD-take n (parts r s xs .keys) i 0 l)
+    abbrev linked-by : ℕ → Linking
+    linked-by i = keys-linked F (take i S) (linking-in r s xs)
 
-  pub after-more : (i : ℕ) → i < n
-      → key-words F s (getD (after-keys F s n xs i) i 0) (after-keys F s n xs i) ≡ after-keys F s n xs (i + 1)
-  after-more i l = rw (add-one, after-at i l, parts-by i, take-suc S i 0 (rw S-long l), keys-then F (take i S) (getD S i 0))
+    S-long : length S ≡ n
+    S-long = length-take-le n (P .keys) (rw (parts-fit (R .enough) .keys-size) few)
 
-  pub after-none : xs ≡ after-keys F s n xs 0
-  unfolding link-keys
-  after-none = sym (parts-whole (R .enough))
+    sound-by : (i : ℕ) → Linkable F (linked-by i)
+    sound-by i =
+        keys-sound F (R .some) (take i S) (λ c m. solid c (subst (λ (Z : List ℕ). In c Z) (take-append-drop i S) (Memᴰ·append-left (drop i S) m)))
+        (linking-in r s xs) K
 
-  pub after-all : after-keys F s n xs n ≡ keys-words F s n xs
-  after-all = rw (take-take n n (parts r s xs .keys) (le-refl n))
+    parts-by : (i : ℕ) → parts r s (after-keys F s n xs i) ≡ with-linking P (linked-by i)
+    parts-by i = let Q = sound-by i .linked in parts-linking (R .enough) (linked-by i) (Q .size) (Q .parts .long)
 
--- All keys, from the start.
-module _ {T : List ℕ} {r s : ℕ} {xs ys : List ℕ} (R : Room T r s xs) (start : ys ≡ relinked r s xs (unlinked (2 * r))) where
-  unlinked-sound : Linkable (tables T r) (unlinked (2 * r))
-  unlinked-sound = sound-start (omega (arith, R .enough .most))
+    -- what has to hold before the next key, the next key, and what it leads to
+    pub after-sound : (i : ℕ) → Linkable F (linking-in r s (after-keys F s n xs i))
+    after-sound i = rw (parts-by i) (sound-by i)
 
-  start-parts : parts r s ys ≡ with-linking (parts r s xs) (unlinked (2 * r))
-  start-parts = let K = unlinked-sound .linked in rw start (parts-linking (R .enough) (unlinked (2 * r)) (K .size) (K .parts .long))
+    after-at : (i : ℕ) → i < n → getD (after-keys F s n xs i) i 0 ≡ getD S i 0
+    after-at i l =
+        List·getD-append (P .keys) _ 0 i (rw (parts-fit (R .enough) .keys-size) (omega arith)) ∙ sym (getD-take n (P .keys) i 0 l)
 
-  pub start-sound : Linkable (tables T r) (linking-in r s ys)
-  start-sound = rw start-parts unlinked-sound
+    pub after-more : (i : ℕ) → i < n
+        → key-words F s (getD (after-keys F s n xs i) i 0) (after-keys F s n xs i) ≡ after-keys F s n xs (i + 1)
+    after-more i l = rw (add-one, after-at i l, parts-by i, take-suc S i 0 (rw S-long l), keys-then F (take i S) (getD S i 0))
 
-  pub start-keys : parts r s ys .keys ≡ parts r s xs .keys
-  start-keys = ap (λ (P : Parts). P .keys) start-parts
+    pub after-none : xs ≡ after-keys F s n xs 0
+    unfolding link-keys
+    after-none = sym (parts-whole (R .enough))
 
-  pub all-words : (n : ℕ) → keys-words (tables T r) s n ys ≡ linked-words (tables T r) s n xs
-  unfolding linking
-  all-words n = rw start-parts
+    pub after-all : after-keys F s n xs n ≡ keys-words F s n xs
+    after-all = rw (take-take n n (P .keys) (le-refl n))
+
+  -- All keys, from the start.
+  module _ {ys : List ℕ} (start : ys ≡ relinked r s xs (unlinked (2 * r))) where
+    unlinked-sound : Linkable F (unlinked (2 * r))
+    unlinked-sound = sound-start (omega (arith, R .enough .most))
+
+    start-parts : parts r s ys ≡ with-linking P (unlinked (2 * r))
+    start-parts = let K = unlinked-sound .linked in rw start (parts-linking (R .enough) (unlinked (2 * r)) (K .size) (K .parts .long))
+
+    pub start-sound : Linkable F (linking-in r s ys)
+    start-sound = rw start-parts unlinked-sound
+
+    pub start-keys : parts r s ys .keys ≡ P .keys
+    start-keys = ap (λ (Z : Parts). Z .keys) start-parts
+
+    pub all-words : (n : ℕ) → keys-words F s n ys ≡ linked-words F s n xs
+    unfolding linking
+    all-words n = rw start-parts
 
 -- step 2: the labels of the slots from v on are still to come
 abbrev pub labels-from : (r s v : ℕ) → List ℕ → List ℕ

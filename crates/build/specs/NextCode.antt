@@ -1,5 +1,5 @@
--- The loops of step 5, one turn at a time: on the parts of scratch, and then over scratch, as code goes. The keys are passed from the last to the first, so a model has the keys from i on
--- behind it. Assumes nothing.
+-- The loops of step 5, one turn at a time: on the parts of scratch, and then over scratch, as code goes. The keys are passed from the last to the
+-- first, so a model has the keys from i on behind it. Assumes nothing.
 use Prim.Native.Nat.{ℕ, zero, suc, _+_, _*_, _-_, _≤_, _<_}
 use mathlib.Core.Path.{_≡_, refl, sym, _∙_, ap}
 use mathlib.Core.Bool.{true, false, cond}
@@ -17,8 +17,8 @@ use Rattle.build.specs.Held.{seat}
 use Rattle.build.specs.Slots.{each-slot, each-slot-none, each-slot-step}
 use Rattle.build.specs.Labels.{Labels, label-of, label-fit}
 use Rattle.build.specs.Next.{Passing, last-seen, put-at, put-next, chained, blank, blanked, label-read}
-use Rattle.build.specs.Scratch.{Parts, parts, with-sets, with-next}
-use Rattle.build.specs.Changed.{Enough, Room, NoteAt, tables, parts-fit, read-key, note-word, note-set}
+use Rattle.build.specs.Scratch.{Parts, parts, held-at, with-sets, with-next}
+use Rattle.build.specs.Access.{Enough, Room, NoteAt, tables, parts-fit, read-key, held-part, part-word, note-word, note-set}
 use Rattle.build.specs.Passes.{with-passing, blanked-parts}
 use Rattle.build.specs.NotesCode.{next-key, no-key}
 
@@ -117,6 +117,23 @@ module _ {T : List ℕ} {r s : ℕ} {xs : List ℕ} (R : Room T r s xs) (c : ℕ
       → parts r s ys ≡ key-put F (parts r s (set xs i c)) c (getD xs i 0) → parts r s ys ≡ key-chained F P c
   unfolding chain-key
   chain-held t N ys e = e ∙ rw (t, note-set (R .enough) N c, note-word (R .enough) N)
+
+  -- where it stands: its slot v in table 0 if it is read there, at b + v, and otherwise its slot in table 1
+  module _ {b v : ℕ} (start : b ≡ held-at r s) (first : v ≡ slot-0 F c) where
+    low : v < 2 * r
+    low = rw first (slots-fit F (R .some) c .0)
+
+    word : getD xs (b + v) 0 ≡ getD (P .held) (slot-0 F c) 0
+    word = part-word (held-part (R .enough)) (ap (λ (n : ℕ). n + v) start) low ∙ ap (λ (n : ℕ). getD (P .held) n 0) first
+
+    pub seat-first : getD xs (b + v) 0 ≡ c → (v ≡ seat-in F P c) × (v < 2 * r)
+    unfolding seat
+    seat-first e = (rw (eq-eqb (getD (P .held) (slot-0 F c) 0) c (sym word ∙ e)) first, low)
+
+    pub seat-second : (getD xs (b + v) 0 ≡ c → ⊥) → {w : ℕ} → w ≡ slot-1 F c → (w ≡ seat-in F P c) × (w < 2 * r)
+    unfolding seat
+    seat-second n second =
+        (rw (ne-eqb (getD (P .held) (slot-0 F c) 0) c (λ e. n (word ∙ e))) second, rw second (slots-fit F (R .some) c .1))
 
 -- a key of an ascending list is not among those after it
 in-drop : (i : ℕ) (S : List ℕ) {x : ℕ} → In x (drop i S) → In x S

@@ -16,7 +16,7 @@ use Rattle.forest.specs.Oriented.{standing}
 use Rattle.build.specs.Labels.{label-of}
 use Rattle.build.specs.Notes.{Noting, nothing-noted, note-at, stash-key, overflowed, noted, noted-held}
 use Rattle.build.specs.Scratch.{Parts, glue, parts, stash-at, with-sets}
-use Rattle.build.specs.Changed.{Enough, Room, Fit, NoteAt, tables, enough-kept, parts-fit, is-glue, read-key, stash-part, part-set, note-word, note-set}
+use Rattle.build.specs.Access.{Enough, Room, Fit, NoteAt, tables, enough-kept, parts-fit, is-glue, read-key, stash-part, part-set, note-word, note-set}
 use Rattle.build.specs.Passes.{with-noting, answer, noting-of, noted-parts, noted-held-parts}
 use Rattle.build.specs.declared.notes.StashCount.{StashCount}
 use Rattle.build.specs.declared.notes.StashCount.the-variants.{Keys, Overflow}

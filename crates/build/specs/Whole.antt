@@ -22,7 +22,7 @@ use Rattle.build.specs.Notes.{Noting}
 use Rattle.build.specs.Built as Passes-of
 use Rattle.build.specs.Built.{linking, labels, noting, notes, held, nexts, built, canonical, linking-is, labels-is, built-tables}
 use Rattle.build.specs.Scratch.{Parts, Sized, parts, glue, with-next, parts-sized, parts-glue}
-use Rattle.build.specs.Changed.{Room, Fit, parts-fit, held-sized, next-sized, sets-sized}
+use Rattle.build.specs.Access.{Room, Fit, parts-fit, held-sized, next-sized, sets-sized}
 use Rattle.build.specs.Passes.{answer, noting-of, noted-parts, noted-held-parts, finished-parts, last-seen-parts, chained-parts, blanked-parts}
 use Rattle.build.specs.Passes.{noted-sized, noted-held-sized, finished-sized, last-seen-sized, chained-sized, blanked-sized, labels-fit}
 use Rattle.build.specs.Outcome.{Buildable, Build, full, made, Built, stash-keys}

@@ -2,7 +2,7 @@
 ghost use mathlib.Core.Path.{_≡_};
 ghost use Prim.Native.Nat.{_*_, _<_};
 ghost use Rattle.build.specs.Scratch.{parts, glue};
-ghost use Rattle.build.specs.Changed.{tables, Room};
+ghost use Rattle.build.specs.Access.{tables, Room};
 ghost use Rattle.build.specs.Passes.{finished-parts};
 ghost use Rattle.build.specs.FinishCode.{label-finished};
 use crate::key::is_held;

@@ -5,7 +5,7 @@ ghost use Rattle.tabulation.specs.Slots.{slot-0};
 ghost use Rattle.forest.specs.Held.{holding};
 ghost use Rattle.build.specs.Labels.{label-of};
 ghost use Rattle.build.specs.Scratch.{parts};
-ghost use Rattle.build.specs.Changed.{tables, Room, Fit, NoteAt};
+ghost use Rattle.build.specs.Access.{tables, Room, Fit, NoteAt};
 use crate::parts::held_start;
 use crate::parts::next_start;
 use crate::parts::sets_start;

@@ -4,7 +4,7 @@ ghost use mathlib.Core.Path.{_≡_};
 ghost use Prim.Native.Nat.{_+_, _*_, _≤_};
 ghost use lib.ListN.{take};
 ghost use Rattle.build.specs.Scratch.{parts, glue};
-ghost use Rattle.build.specs.Changed.{Room};
+ghost use Rattle.build.specs.Access.{Room};
 ghost use Rattle.build.specs.Passes.{answer};
 ghost use Rattle.build.specs.NextCode.{Chainable};
 ghost use Rattle.build.specs.Whole.{noted-from, seated-from, whole-noting};

@@ -8,7 +8,7 @@ ghost use lib.ListN.{replicate};
 ghost use Rattle.forest.specs.Held.{rerooted};
 ghost use Rattle.partition.specs.Words.{Representative, Mergeable, rep-of, size-of, united};
 ghost use Rattle.build.specs.Scratch.{parts, glue, with-held, with-sets};
-ghost use Rattle.build.specs.Changed.{tables, Enough, Room};
+ghost use Rattle.build.specs.Access.{tables, Enough, Room};
 ghost use Rattle.build.specs.Link.{unlinked};
 ghost use Rattle.build.specs.LinkCode.{Found, linking-in, relinked, first-keys, key-words, keys-words, linked-words, label-words, Linkable, Solid};
 use crate::parts::held_start;

@@ -3,7 +3,7 @@
 ghost use mathlib.Core.Path.{_≡_};
 ghost use Prim.Native.Nat.{_+_, _*_, _<_, _≤_};
 ghost use Rattle.build.specs.Scratch.{parts, glue};
-ghost use Rattle.build.specs.Changed.{tables, Enough, Room, Fit};
+ghost use Rattle.build.specs.Access.{tables, Enough, Room, Fit};
 ghost use Rattle.build.specs.Passes.{last-seen-parts, chained-parts, blanked-parts};
 ghost use Rattle.build.specs.NextCode.{seat-in, label-at, Readable, Chainable, key-seen, slot-put, key-put, key-chained};
 use crate::key::is_held;

@@ -4,7 +4,7 @@ ghost use Prim.Native.Nat.{_+_, _*_, _≤_};
 ghost use lib.ListN.{replicate};
 ghost use Rattle.build.specs.Scratch.{parts, glue};
 ghost use Rattle.build.specs.Notes.{nothing-noted};
-ghost use Rattle.build.specs.Changed.{tables, Enough, Room, Fit};
+ghost use Rattle.build.specs.Access.{tables, Enough, Room, Fit};
 ghost use Rattle.build.specs.Passes.{with-noting, answer, noting-of, noted-parts, noted-held-parts};
 ghost use Rattle.build.specs.NotesCode.{noting-after, key-noted, held-key-noted};
 use crate::key::is_held;

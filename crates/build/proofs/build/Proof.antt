@@ -1,5 +1,5 @@
 -- `build::build` meets its contract: the theorem of specs/Built.antt, over scratch.
-use Rattle.build.specs.Changed.{room-kept}
+use Rattle.build.specs.Access.{room-kept}
 use Rattle.build.specs.Whole.{room-of, built-full, built-made, chainable-noted, seated-noted}
 use borrow.Author.Needs.{needs}
 use Rattle.build.proofs.build.Statement.{statement}

@@ -1,6 +1,6 @@
 -- `build::prepare` meets its contract: the three passes one after the other.
 use mathlib.Core.Path.{_∙_}
-use Rattle.build.specs.Changed.{room-kept}
+use Rattle.build.specs.Access.{room-kept}
 use Rattle.build.specs.Whole.{solid-of, room-of, labels-found, noted-words, noted-answer}
 use borrow.Author.Needs.{needs}
 use Rattle.build.proofs.prepare.Statement.{statement}

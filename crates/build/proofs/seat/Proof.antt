@@ -1,6 +1,6 @@
 -- `build::seat` meets its contract: the five passes one after the other.
 use mathlib.Core.Path.{_∙_}
-use Rattle.build.specs.Changed.{room-kept}
+use Rattle.build.specs.Access.{room-kept}
 use Rattle.build.specs.Whole.{labels-still, chainable-still, seated-words}
 use borrow.Author.Needs.{needs}
 use Rattle.build.proofs.seat.Statement.{statement}

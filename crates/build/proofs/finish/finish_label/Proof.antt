@@ -1,7 +1,7 @@
 -- `finish::finish_label` meets its contract: each way through is one of the three cases of a label.
 use mathlib.Core.Path.{sym, _∙_}
 use borrow.Author.Needs.{needs}
-use Rattle.build.specs.Changed.{note-from}
+use Rattle.build.specs.Access.{note-from}
 use Rattle.build.specs.FinishCode.{label-none, label-tree, label-cycle}
 use Rattle.build.proofs.finish.finish_label.Statement.{statement}
 use Rattle.build.proofs.finish.finish_label.Tie as tie

@@ -5,7 +5,7 @@ use native.Mathlib.Omega.{arith}
 use lib.ListN.{length}
 use borrow.Author.Needs.{needs}
 use Rattle.build.specs.Scratch.{parts}
-use Rattle.build.specs.Changed.{tables, enough-kept, room-kept, is-glue}
+use Rattle.build.specs.Access.{tables, enough-kept, room-kept, is-glue}
 use Rattle.build.specs.FinishCode.{FinishedTo, finish-start, finish-turn, finish-done}
 use Rattle.build.proofs.finish.finish_labels.Statement.{statement}
 use Rattle.build.proofs.finish.finish_labels.Tie as tie

@@ -1,6 +1,6 @@
 -- `key::is_held` meets its contract, which is that of the one call on the held words.
 use mathlib.Core.Path.{_∙_}
-use Rattle.build.specs.Changed.{held-part, part-lent}
+use Rattle.build.specs.Access.{held-part, part-lent}
 use borrow.Author.Needs.{needs}
 use Rattle.build.proofs.key.is_held.Statement.{statement}
 use Rattle.build.proofs.key.is_held.Tie as tie

@@ -6,7 +6,7 @@ use lib.ListN.{getD}
 use Rattle.tabulation.specs.Slots.{slot-0}
 use Rattle.forest.specs.Held.{slots-fit}
 use Rattle.build.specs.Scratch.{parts, next-at}
-use Rattle.build.specs.Changed.{tables, next-part, part-word}
+use Rattle.build.specs.Access.{tables, next-part, part-word}
 use borrow.Author.Needs.{needs}
 use Rattle.build.proofs.key.label.Statement.{statement}
 use Rattle.build.proofs.key.label.Tie as tie

@@ -1,7 +1,7 @@
 -- `build::link::clear_sets` meets its contract: the sets are lent whole, and filled.
 use mathlib.Core.Path.{_∙_}
 use borrow.Author.Needs.{needs}
-use Rattle.build.specs.Changed.{sets-part, part-long, part-back}
+use Rattle.build.specs.Access.{sets-part, part-long, part-back}
 use Rattle.build.proofs.link.clear_sets.Statement.{statement}
 use Rattle.build.proofs.link.clear_sets.Tie as tie
 

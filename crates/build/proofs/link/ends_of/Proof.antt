@@ -1,7 +1,7 @@
 -- `build::link::ends_of` meets its contract: the slots of a key are slots.
 use native.Mathlib.Omega.{arith}
 use borrow.Author.Needs.{needs}
-use Rattle.build.specs.Changed.{tables}
+use Rattle.build.specs.Access.{tables}
 use Rattle.forest.specs.Held.{slots-fit}
 use Rattle.build.proofs.link.ends_of.Statement.{statement}
 use Rattle.build.proofs.link.ends_of.Tie as tie

@@ -5,7 +5,7 @@ use native.Mathlib.Omega.{arith}
 use lib.ListN.{length}
 use borrow.Author.Needs.{needs}
 use Rattle.build.specs.Scratch.{next-at}
-use Rattle.build.specs.Changed.{Enough, enough-kept}
+use Rattle.build.specs.Access.{Enough, enough-kept}
 use Rattle.build.specs.LinkCode.{label-words, labels-from, labels-none, labels-more, labels-done}
 use Rattle.build.proofs.link.label_slots.Statement.{statement}
 use Rattle.build.proofs.link.label_slots.Tie as tie

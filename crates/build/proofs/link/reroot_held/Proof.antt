@@ -1,7 +1,7 @@
 -- `build::link::reroot_held` meets its contract: the held words are lent whole, and come back re-rooted.
 use borrow.Author.Needs.{needs}
 use Rattle.forest.specs.Held.{rerooted}
-use Rattle.build.specs.Changed.{tables, held-part, part-changed}
+use Rattle.build.specs.Access.{tables, held-part, part-changed}
 use Rattle.build.proofs.link.reroot_held.Statement.{statement}
 use Rattle.build.proofs.link.reroot_held.Tie as tie
 

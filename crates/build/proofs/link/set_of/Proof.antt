@@ -1,6 +1,6 @@
 -- `build::link::set_of` meets its contract: the sets are lent whole.
 use borrow.Author.Needs.{needs}
-use Rattle.build.specs.Changed.{sets-part, part-lent}
+use Rattle.build.specs.Access.{sets-part, part-lent}
 use Rattle.build.proofs.link.set_of.Statement.{statement}
 use Rattle.build.proofs.link.set_of.Tie as tie
 

@@ -1,6 +1,6 @@
 -- `build::link::set_size` meets its contract: the sets are lent whole.
 use borrow.Author.Needs.{needs}
-use Rattle.build.specs.Changed.{sets-part, part-lent}
+use Rattle.build.specs.Access.{sets-part, part-lent}
 use Rattle.build.proofs.link.set_size.Statement.{statement}
 use Rattle.build.proofs.link.set_size.Tie as tie
 

@@ -1,7 +1,7 @@
 -- `build::link::unite_sets` meets its contract: the sets are lent whole, and come back united.
 use borrow.Author.Needs.{needs}
 use Rattle.partition.specs.Words.{united}
-use Rattle.build.specs.Changed.{sets-part, part-lent, part-changed}
+use Rattle.build.specs.Access.{sets-part, part-lent, part-changed}
 use Rattle.build.proofs.link.unite_sets.Statement.{statement}
 use Rattle.build.proofs.link.unite_sets.Tie as tie
 

@@ -6,7 +6,7 @@ use lib.ListN.{replicate}
 use borrow.Rule.Slice.PartMut.{putMid}
 use borrow.Author.Needs.{needs}
 use Rattle.partition.specs.Words.{singletons-of}
-use Rattle.build.specs.Changed.{Enough, enough-kept, held-part, sets-part, part-long, part-back}
+use Rattle.build.specs.Access.{Enough, enough-kept, held-part, sets-part, part-long, part-back}
 use Rattle.build.specs.LinkCode.{start-words}
 use Rattle.build.proofs.link.unlink.Statement.{statement}
 use Rattle.build.proofs.link.unlink.Tie as tie

@@ -6,7 +6,7 @@ use native.Mathlib.Omega.{arith}
 use lib.ListN.{length, getD, length-set}
 use borrow.Author.Needs.{needs}
 use Rattle.build.specs.Scratch.{parts}
-use Rattle.build.specs.Changed.{Enough, enough-kept, is-glue, held-part, next-part, part-word, part-set}
+use Rattle.build.specs.Access.{Enough, enough-kept, is-glue, held-part, next-part, part-word, part-set}
 use Rattle.build.specs.NextCode.{BlankedTo, blank-start, blank-turn, blank-pass, blank-done}
 use Rattle.build.proofs.next.blank_slots.Statement.{statement}
 use Rattle.build.proofs.next.blank_slots.Tie as tie

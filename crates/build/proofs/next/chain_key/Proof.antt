@@ -5,7 +5,7 @@ use lib.ListN.{length-set}
 use borrow.Author.Tests.{not-true, not-false}
 use borrow.Author.Needs.{needs}
 use Rattle.build.specs.Scratch.{parts}
-use Rattle.build.specs.Changed.{tables, NoteAt, note-from}
+use Rattle.build.specs.Access.{tables, NoteAt, note-from}
 use Rattle.build.specs.NextCode.{label-at, chain-passed, chain-held}
 use Rattle.build.proofs.next.chain_key.Statement.{statement}
 use Rattle.build.proofs.next.chain_key.Tie as tie

@@ -5,7 +5,7 @@ use native.Mathlib.Omega.{arith}
 use lib.ListN.{length}
 use borrow.Author.Needs.{needs}
 use Rattle.build.specs.Scratch.{parts}
-use Rattle.build.specs.Changed.{tables, enough-kept, room-kept, is-glue}
+use Rattle.build.specs.Access.{tables, enough-kept, room-kept, is-glue}
 use Rattle.build.specs.NextCode.{chained-from, chained-start, chained-again, readable-again}
 use Rattle.build.proofs.next.chain_keys.Statement.{statement}
 use Rattle.build.proofs.next.chain_keys.Tie as tie

@@ -3,7 +3,7 @@ use mathlib.Core.Path.{_≡_, _∙_}
 use native.Mathlib.Omega.{arith}
 use lib.ListN.{getD}
 use Rattle.build.specs.Scratch.{parts}
-use Rattle.build.specs.Changed.{tables, next-part, part-word}
+use Rattle.build.specs.Access.{tables, next-part, part-word}
 use Rattle.build.specs.NextCode.{label-at}
 use borrow.Author.Needs.{needs}
 use Rattle.build.proofs.next.label_at_seat.Statement.{statement}

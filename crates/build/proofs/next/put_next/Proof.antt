@@ -4,7 +4,7 @@ use lib.ListN.{getD}
 use borrow.Author.Tests.{eq-eqb, ne-eqb}
 use Rattle.build.specs.Next.{put-at}
 use Rattle.build.specs.Scratch.{parts}
-use Rattle.build.specs.Changed.{held-part, next-part, part-word, part-set}
+use Rattle.build.specs.Access.{held-part, next-part, part-word, part-set}
 use borrow.Author.Needs.{needs}
 use Rattle.build.proofs.next.put_next.Statement.{statement}
 use Rattle.build.proofs.next.put_next.Tie as tie

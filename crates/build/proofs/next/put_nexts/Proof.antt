@@ -6,7 +6,7 @@ use Rattle.forest.specs.Held.{slots-fit}
 use Rattle.build.specs.Next.{put-at, put-next}
 use Rattle.build.specs.Scratch.{Parts, parts, with-next}
 use borrow.Author.Needs.{needs}
-use Rattle.build.specs.Changed.{tables}
+use Rattle.build.specs.Access.{tables}
 use Rattle.build.proofs.next.put_nexts.Statement.{statement}
 use Rattle.build.proofs.next.put_nexts.Tie as tie
 

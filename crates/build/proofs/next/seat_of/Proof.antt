@@ -1,15 +1,10 @@
 -- `next::seat_of` meets its contract: the test is that of `seat`.
-use Prim.Native.Nat.{_*_, _<_}
-use mathlib.Core.Path.{_≡_, sym, _∙_}
+use mathlib.Core.Path.{_∙_}
 use native.Mathlib.Omega.{arith}
-use lib.ListN.{getD}
-use borrow.Author.Tests.{eq-eqb, ne-eqb}
-use Rattle.tabulation.specs.Slots.{slot-0, slot-1}
-use Rattle.forest.specs.Held.{slots-fit}
-use Rattle.build.specs.Held.{seat}
-use Rattle.build.specs.Scratch.{parts}
-use Rattle.build.specs.Changed.{tables, held-part, part-word}
 use borrow.Author.Needs.{needs}
+use Rattle.forest.specs.Held.{slots-fit}
+use Rattle.build.specs.Access.{tables}
+use Rattle.build.specs.NextCode.{seat-first, seat-second}
 use Rattle.build.proofs.next.seat_of.Statement.{statement}
 use Rattle.build.proofs.next.seat_of.Tie as tie
 
@@ -37,20 +32,10 @@ shared-slice-read-if1 c =
     omega (arith, c .before .held-start .ensures, c .before .before .wide .ensures, d3 .first-slot .ensures, slots-fit F (omega arith) (a .key) .0)
 
 returns : tie.Need-returns
-unfolding seat
 returns c =
     let d3 = c .before .before .before in
-    let d4 = d3 .before in
-    let d7 = d4 .before .before .before in
-    let a = d7 .args in
-    let F = tables (a .tabulation .now) (a .r) in
-    let xs = a .scratch .now in
-    let P = parts (a .r) (a .s) xs in
-    let v = slot-0 F (a .key) in
-    let l : v < 2 * a .r = slots-fit F (omega arith) (a .key) .0 in
-    let e : d3 .wide .result ≡ v = d3 .wide .ensures ∙ d4 .first-slot .ensures in
-    let t : getD (P .held) v 0 ≡ a .key = sym (part-word (held-part (d7 .pre .enough)) (rw (c .before .before .held-start .ensures, e)) l) ∙ c .if1 .taken in
-    (rw (eq-eqb (getD (P .held) v 0) (a .key) t) e, omega arith)
+    let p = d3 .before .before .before .before in
+    seat-first (p .pre) (p .args .key) (c .before .before .held-start .ensures) (d3 .wide .ensures ∙ d3 .before .first-slot .ensures) (c .if1 .taken)
 
 second-slot-requires : tie.Need-second-slot-requires
 second-slot-requires c κs = search needs
@@ -59,22 +44,12 @@ wide-requires-2 : tie.Need-wide-requires-2
 wide-requires-2 c κs = search needs
 
 returns-2 : tie.Need-returns-2
-unfolding seat
 returns-2 c =
     let d4 = c .before .before .before .before in
     let d5 = d4 .before in
-    let d6 = d5 .before in
-    let d9 = d6 .before .before .before in
-    let a = d9 .args in
-    let F = tables (a .tabulation .now) (a .r) in
-    let xs = a .scratch .now in
-    let P = parts (a .r) (a .s) xs in
-    let v = slot-0 F (a .key) in
-    let l : v < 2 * a .r = slots-fit F (omega arith) (a .key) .0 in
-    let e : d5 .wide .result ≡ v = d5 .wide .ensures ∙ d6 .first-slot .ensures in
-    let t : getD (P .held) v 0 ≡ a .key → ⊥ = λ q. c .before .before .if1 .left (part-word (held-part (d9 .pre .enough)) (rw (d4 .held-start .ensures, e)) l ∙ q) in
-    let w : c .wide2 .result ≡ slot-1 F (a .key) = c .wide2 .ensures ∙ c .before .second-slot .ensures in
-    (rw (ne-eqb (getD (P .held) v 0) (a .key) t) w, omega (arith, slots-fit F (omega arith) (a .key) .1))
+    let p = d5 .before .before .before .before in
+    seat-second (p .pre) (p .args .key) (d4 .held-start .ensures) (d5 .wide .ensures ∙ d5 .before .first-slot .ensures) (c .before .before .if1 .left)
+    (c .wide2 .ensures ∙ c .before .second-slot .ensures)
 
 pub seat-of-spec : {M : Type 1} → statement M
 seat-of-spec =

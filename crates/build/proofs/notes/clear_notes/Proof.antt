@@ -5,7 +5,7 @@ use native.Mathlib.Omega.{arith}
 use lib.ListN.{length, replicate, length-replicate}
 use borrow.Rule.Slice.PartMut.{putMid}
 use Rattle.build.specs.Scratch.{used}
-use Rattle.build.specs.Changed.{Enough, enough-kept, sets-part, stash-part, part-long, part-put}
+use Rattle.build.specs.Access.{Enough, enough-kept, sets-part, stash-part, part-long, part-put}
 use borrow.Author.Needs.{needs}
 use Rattle.build.proofs.notes.clear_notes.Statement.{statement}
 use Rattle.build.proofs.notes.clear_notes.Tie as tie

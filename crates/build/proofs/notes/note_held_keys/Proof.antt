@@ -5,7 +5,7 @@ use native.Mathlib.Omega.{arith}
 use lib.ListN.{length}
 use borrow.Author.Needs.{needs}
 use Rattle.build.specs.Scratch.{parts}
-use Rattle.build.specs.Changed.{tables, enough-kept, room-kept}
+use Rattle.build.specs.Access.{tables, enough-kept, room-kept}
 use Rattle.build.specs.NotesCode.{NotesAt, notes-begin, notes-fit, notes-again, notes-end}
 use Rattle.build.proofs.notes.note_held_keys.Statement.{statement}
 use Rattle.build.proofs.notes.note_held_keys.Tie as tie

@@ -5,7 +5,7 @@ use native.Mathlib.Omega.{arith}
 use lib.ListN.{length}
 use borrow.Author.Needs.{needs}
 use Rattle.build.specs.Scratch.{parts}
-use Rattle.build.specs.Changed.{Enough, tables, enough-kept, room-kept}
+use Rattle.build.specs.Access.{Enough, tables, enough-kept, room-kept}
 use Rattle.build.specs.NotesCode.{NotingAt, noting-begins, noting-fit, noting-ends, noting-again, noting-stops}
 use Rattle.build.proofs.notes.note_keys.Statement.{statement}
 use Rattle.build.proofs.notes.note_keys.Tie as tie
