@@ -10,7 +10,7 @@ ghost use mathlib.Core.Path.{_≡_};
 ghost use Rattle.book.specs.Bytes.{entries-of};
 ghost use Rattle.layout.specs.Layout.{words-length};
 ghost use Rattle.layout.specs.Shape.{Sized};
-use dictionary::Counters;
+use counters::Counters;
 use libc::STDIN_FILENO;
 use lines::LONGEST;
 use lines::Line;

@@ -9,7 +9,7 @@ use Rattle.tabulation.specs.Hash.{tabulation-length}
 use Rattle.layout.specs.Layout.{Params}
 use Rattle.layout.specs.Answers.{lookup-refusal, lookup-values, view-refusal, view-of, fresh-refusal, fresh-words}
 use Rattle.dictionary.specs.declared.Change.{Change}
-use Rattle.dictionary.specs.declared.Counters.{Counters}
+use Rattle.counters.specs.declared.Counters.{Counters}
 use Rattle.dictionary.specs.Outcome.{change-outcome, check-outcome}
 
 -- "One book of the right length goes through it; a call may lend one of a wrong length instead."

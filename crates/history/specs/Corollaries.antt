@@ -18,7 +18,7 @@ use Rattle.layout.specs.Layout.{Params, family, scratch-length, image}
 use Rattle.layout.specs.Canonical.{image-one}
 use Rattle.dictionary.specs.declared.Change.{Change}
 use Rattle.dictionary.specs.declared.Change.the-variants.{Insert, Remove}
-use Rattle.dictionary.specs.declared.Counters.{Counters}
+use Rattle.counters.specs.declared.Counters.{Counters}
 use Rattle.dictionary.specs.Laws.{change-tabulation, change-any-scratch, check-any-scratch}
 use Rattle.dictionary.specs.Held.{held-some, held-undone, held-eight}
 use Rattle.history.specs.Calls.{Lent, own, wrong, lent-of, Other, Call, Step, step, run, words-after, Allowed, none, more, Sequence}

@@ -28,12 +28,12 @@ use denote.Slice.{sliceVal}
 use denote.Steps.{only, opens, closes, peeks, owned}
 use denote.Struct.Steps.{spelt}
 use denote.Struct.Laws as LL
-use Rattle.dictionary.specs.declared.Counted.{Counted}
-use Rattle.dictionary.specs.declared.Counters.{Counters}
-use Rattle.dictionary.proofs.Counters as T
-use Rattle.dictionary.proofs.Counters.Laws as T′
-use Rattle.dictionary.proofs.Counted as R
-use Rattle.dictionary.proofs.Counted.Laws as R′
+use Rattle.counters.specs.declared.Counted.{Counted}
+use Rattle.counters.specs.declared.Counters.{Counters}
+use Rattle.counters.proofs.Counters as T
+use Rattle.counters.proofs.Counters.Laws as T′
+use Rattle.counters.proofs.Counted as R
+use Rattle.counters.proofs.Counted.Laws as R′
 
 abbrev pub slice-val : RefT (List ℕ) → Val
 slice-val z = sliceVal (z .ptr) (length (z .now))

@@ -46,17 +46,17 @@ use denote.Triple.Clauses.{Clauses, closing, ensured, lasts}
 use denote.Triple.Walked.{Stays, stay-ref, gave-slice, stay-dropped, walkOf, AllGo, goes-dropped, goes-ref, goes-gave-slice, Walks, ends-at, walked, walk-meets}
 use denote.Exit.{yes}
 use Rattle.dictionary.specs.Outcome.{change-outcome}
-use Rattle.dictionary.specs.Counters.{counted}
+use Rattle.counters.specs.Counters.{counted}
 use Rattle.dictionary.specs.declared.Change.{Change}
 use Rattle.dictionary.specs.declared.Change.the-variants.{Insert, Remove}
-use Rattle.dictionary.specs.declared.Counted.{Counted}
-use Rattle.dictionary.specs.declared.Counters.{Counters}
+use Rattle.counters.specs.declared.Counted.{Counted}
+use Rattle.counters.specs.declared.Counters.{Counters}
 use Rattle.dictionary.proofs.Change as K
 use Rattle.dictionary.proofs.Change.Laws as K′
-use Rattle.dictionary.proofs.Counters as T
-use Rattle.dictionary.proofs.Counters.Laws as T′
-use Rattle.dictionary.proofs.Counted as R
-use Rattle.dictionary.proofs.Counted.Laws as R′
+use Rattle.counters.proofs.Counters as T
+use Rattle.counters.proofs.Counters.Laws as T′
+use Rattle.counters.proofs.Counted as R
+use Rattle.counters.proofs.Counted.Laws as R′
 use Rattle.dictionary.proofs.update_counted as callee
 use Rattle.dictionary.proofs.update_counted.Symbol.{name as #callee}
 use Rattle.pinorange.proofs.Counting.{slice-val, ref-val, counters-val, seen, lent, opens-counters, closes-counters, counters-of, answer-fits, spelled, says4}

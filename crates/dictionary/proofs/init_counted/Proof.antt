@@ -1,7 +1,7 @@
 -- `dictionary::init_counted` meets its contract: `fresh` says the answer and the words, `with_counts` the counters.
 use mathlib.Core.Path.{_∙_, ap}
 use borrow.Author.Needs.{needs}
-use Rattle.dictionary.specs.Counters.{counted}
+use Rattle.counters.specs.Counters.{counted}
 use Rattle.dictionary.proofs.init_counted.Statement.{statement}
 use Rattle.dictionary.proofs.init_counted.Tie as tie
 

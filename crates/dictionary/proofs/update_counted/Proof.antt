@@ -1,7 +1,7 @@
 -- `dictionary::update_counted` meets its contract: `update` says the answer and what is left, `with_counts` the counters.
 use mathlib.Core.Path.{_∙_, ap}
 use borrow.Author.Needs.{needs}
-use Rattle.dictionary.specs.Counters.{counted}
+use Rattle.counters.specs.Counters.{counted}
 use Rattle.dictionary.proofs.update_counted.Statement.{statement}
 use Rattle.dictionary.proofs.update_counted.Tie as tie
 

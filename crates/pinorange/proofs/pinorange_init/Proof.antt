@@ -40,13 +40,13 @@ use denote.Triple.Clauses.{ensured, lasts}
 use denote.Triple.Walked.{Stays, stay-ref, gave-slice, stay-dropped, walkOf, AllGo, goes-dropped, goes-ref, goes-gave-slice, Walks, ends-at, walked, walk-meets}
 use denote.Exit.{yes}
 use Rattle.layout.specs.Answers.{fresh-refusal, fresh-words}
-use Rattle.dictionary.specs.Counters.{counted}
-use Rattle.dictionary.specs.declared.Counted.{Counted}
-use Rattle.dictionary.specs.declared.Counters.{Counters}
-use Rattle.dictionary.proofs.Counters as T
-use Rattle.dictionary.proofs.Counters.Laws as T′
-use Rattle.dictionary.proofs.Counted as R
-use Rattle.dictionary.proofs.Counted.Laws as R′
+use Rattle.counters.specs.Counters.{counted}
+use Rattle.counters.specs.declared.Counted.{Counted}
+use Rattle.counters.specs.declared.Counters.{Counters}
+use Rattle.counters.proofs.Counters as T
+use Rattle.counters.proofs.Counters.Laws as T′
+use Rattle.counters.proofs.Counted as R
+use Rattle.counters.proofs.Counted.Laws as R′
 use Rattle.dictionary.proofs.init_counted as callee
 use Rattle.dictionary.proofs.init_counted.Symbol as callee-def
 use Rattle.dictionary.proofs.init_counted.Symbol.{name as #callee}

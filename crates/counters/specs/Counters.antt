@@ -3,7 +3,7 @@ use Prim.Native.Nat.{ℕ, _+_}
 use mathlib.Core.Bool.{cond}
 use lib.Dec.{eqb, ltb}
 use Rattle.tabulation.specs.Refusal.{done}
-use Rattle.dictionary.specs.declared.Counters.{Counters}
+use Rattle.counters.specs.declared.Counters.{Counters}
 
 -- the largest count
 abbrev pub max-count : ℕ

@@ -1,9 +1,9 @@
--- `dictionary::one_more` meets its contract: the test against the limit is the definition's.
+-- `counters::one_more` meets its contract: the test against the limit is the definition's.
 use borrow.Author.Tests.{lt-ltb, le-ltb}
 use borrow.Author.Needs.{needs}
-use Rattle.dictionary.specs.Counters.{one-more}
-use Rattle.dictionary.proofs.one_more.Statement.{statement}
-use Rattle.dictionary.proofs.one_more.Tie as tie
+use Rattle.counters.specs.Counters.{one-more}
+use Rattle.counters.proofs.one_more.Statement.{statement}
+use Rattle.counters.proofs.one_more.Tie as tie
 
 add-result : tie.Need-add-result
 add-result c = search needs

@@ -1,9 +1,9 @@
--- `dictionary::counted_by` meets its contract: an accepted call moves `done` on, a refusal moves `refused` on.
+-- `counters::counted_by` meets its contract: an accepted call moves `done` on, a refusal moves `refused` on.
 use borrow.Author.Tests.{eq-eqb, ne-eqb}
 use borrow.Author.Needs.{needs}
-use Rattle.dictionary.specs.Counters.{counted}
-use Rattle.dictionary.proofs.counted_by.Statement.{statement}
-use Rattle.dictionary.proofs.counted_by.Tie as tie
+use Rattle.counters.specs.Counters.{counted}
+use Rattle.counters.proofs.counted_by.Statement.{statement}
+use Rattle.counters.proofs.counted_by.Tie as tie
 
 one-more-requires : tie.Need-one-more-requires
 one-more-requires c κs = search needs

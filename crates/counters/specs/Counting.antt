@@ -6,8 +6,8 @@ use native.Mathlib.Omega.{arith}
 use borrow.Author.Tests.{ne-eqb, lt-ltb, le-ltb}
 use Rattle.cuckoo.specs.Sets.{eq?, le?}
 use Rattle.tabulation.specs.Refusal.{done}
-use Rattle.dictionary.specs.declared.Counters.{Counters}
-use Rattle.dictionary.specs.Counters.{max-count, one-more, counted}
+use Rattle.counters.specs.declared.Counters.{Counters}
+use Rattle.counters.specs.Counters.{max-count, one-more, counted}
 
 module _ (n : ℕ) where
   pub one-more-moves : n < max-count → one-more n ≡ n + 1
