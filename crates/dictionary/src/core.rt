@@ -1,7 +1,7 @@
 // The steps of insert, remove and check.
 ghost use mathlib.Core.Path.{_≡_};
 ghost use Prim.Native.Nat.{_+_, _*_, _≤_, _<_};
-ghost use lib.ListN.{length, take};
+ghost use lib.ListN.{length, take, replicate};
 ghost use Rattle.layout.specs.Layout.{slots-of, places-of, params-of, scratch-length, keys-in};
 ghost use Rattle.layout.specs.Shape.{Sized, Shaped};
 ghost use Rattle.build.specs.Outcome.{Buildable};
@@ -150,6 +150,13 @@ fn change_words(
     }
 }
 
+// Zeros over the full length of scratch: nothing of the set, new or old, is left in it.
+fn clear(scratch: &mut [u32])
+    ensures { λ _. ⌜ now (scratch .exit) ≡ replicate (length (now (scratch .entry))) 0 ⌝ }
+{
+    fill(scratch, 0);
+}
+
 // Insert and remove: their whole outcome but the counters.
 pub fn update(
     kind: Change,
@@ -163,7 +170,7 @@ pub fn update(
     ensures cleared { λ n. ⌜ now (scratch .exit) ≡ change-outcome kind (now (tabulation .entry)) (now (words .entry)) (now (scratch .entry)) key .scratch ⌝ }
 {
     let answer = change_words(kind, tabulation, &mut *words, &mut *scratch, key);
-    fill(&mut *scratch, 0);
+    clear(&mut *scratch);
     answer
 }
 
@@ -188,6 +195,6 @@ pub fn check(tabulation: &[u16], words: &[u32], scratch: &mut [u32]) -> u32
     ensures cleared { λ n. ⌜ now (scratch .exit) ≡ check-outcome (now (tabulation .entry)) (now (words .entry)) (now (scratch .entry)) .scratch ⌝ }
 {
     let answer = check_words(tabulation, words, &mut *scratch);
-    fill(&mut *scratch, 0);
+    clear(&mut *scratch);
     answer
 }

@@ -8,8 +8,8 @@ use Rattle.dictionary.proofs.core.check.Tie as tie
 check-words-requires : tie.Need-check-words-requires
 check-words-requires c κs = search needs
 
-fill-requires : tie.Need-fill-requires
-fill-requires c κs = search needs
+clear-requires : tie.Need-clear-requires
+clear-requires c κs = search needs
 
 same-length : tie.Need-same-length
 same-length c = search needs
@@ -17,7 +17,7 @@ same-length c = search needs
 returns : tie.Need-returns
 returns c =
     let w = c .before .before .before .before .before .before in
-    (w .check-words .ensures, (rw (w .check-words .kept .1 .1 .0) at (c .before .before .fill .ensures)) ∙ sym (check-scratch _ _ _))
+    (w .check-words .ensures, (rw (w .check-words .kept .1 .1 .0) at (c .before .before .clear .ensures)) ∙ sym (check-scratch _ _ _))
 
 pub check-spec : {M : Type 1} → statement M
-check-spec = tie.close (tie.spec check-words-requires fill-requires same-length returns)
+check-spec = tie.close (tie.spec check-words-requires clear-requires same-length returns)
