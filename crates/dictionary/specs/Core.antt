@@ -4,11 +4,11 @@ use Prim.Native.Nat.{ℕ, _+_, _*_, _≤_, _<_}
 use mathlib.Core.Path.{_≡_, refl, sym, _∙_, ap}
 use mathlib.Core.Bool.{Bool, true, false, not, cond, false≢true}
 use mathlib.Core.Logic.{inl, inr}
-use mathlib.Core.List.{List, [], _∷_, _++_, List·Memᴰ as In}
+use mathlib.Core.List.{List, [], _∷_, _++_}
 use native.Mathlib.Omega.{arith}
 use borrow.Author.Tests.{eqb-true, eq-eqb, ltb-false, le-ltb, lt-leb}
 use lib.Dec.{eqb, ltb}
-use lib.ListN.{length, take, replicate}
+use lib.ListN.{length, take}
 use lib.Seq.{take-take, length-take-le}
 use Rattle.cuckoo.specs.Graph.{member, without}
 use Rattle.cuckoo.specs.Lists.{same}
@@ -20,12 +20,12 @@ use Rattle.layout.specs.Canonical.{canonical, canonical-true}
 use Rattle.layout.specs.Shape.{Shaped, shape}
 use Rattle.layout.specs.Image.{le-fits}
 use Rattle.layout.specs.Standing.{keys-in-valid, not-blank}
-use Rattle.build.specs.Outcome.{Standing, full, made, Built, Buildable}
+use Rattle.build.specs.Outcome.{Standing, full, made, Build, Built, Buildable}
 use Rattle.build.specs.declared.notes.StashCount.{StashCount}
 use Rattle.build.specs.declared.notes.StashCount.the-variants.{Keys as StashKeys, Overflow}
-use Rattle.dictionary.specs.Weave.{assembled-in, assembled-image}
+use Rattle.dictionary.specs.Weave.{Comparable, assembled-in, assembled-image}
 use Rattle.dictionary.specs.Collect.{keys-in-few}
-use Rattle.dictionary.specs.Outcome.{Outcome, changed, set-refusals, first-refusals, change-refusal, change-outcome, check-outcome}
+use Rattle.dictionary.specs.Outcome.{changed, set-refusals, change-refusal, change-outcome, check-outcome}
 use Rattle.dictionary.specs.Laws.{Ready, change-refused}
 use Rattle.dictionary.specs.Held.{one-too-many, changed-valid}
 use Rattle.layout.specs.Fitting.{without-fits}
@@ -55,8 +55,8 @@ new-answer P S = cond (fits P S) done stash-full
 abbrev pub new-words : Params → List ℕ → List ℕ → List ℕ
 new-words P S ws = cond (fits P S) (image P S) ws
 
--- An early refusal that does not apply says that the words can be read.
-pub early-none : (tabulation ws scratch : List ℕ) → early-refusal tabulation ws (length scratch) ≡ 0 → Ready tabulation ws scratch
+-- Where none of them applies, the words can be read.
+early-none : (tabulation ws scratch : List ℕ) → early-refusal tabulation ws (length scratch) ≡ 0 → Ready tabulation ws scratch
 unfolding early-refusal
 early-none tabulation ws scratch =
     go (eqb (length tabulation) tabulation-length) (shaped ws) (ltb (length scratch) (scratch-length (slots-of ws) (places-of ws))) refl refl refl
@@ -69,19 +69,22 @@ early-none tabulation ws scratch =
     go true false t e f g h = absurd (omega arith)
     go false q t e f g h = absurd (omega arith)
 
--- a set that stands in scratch assembles to its image
-module _ (P : Params) (S scratch : List ℕ) where
-  pub standing-image : Standing (family P) (P .places) S scratch
-      → assembled-in (P .slots) (P .places) (length S) (length (stash-of P S)) scratch ≡ image P S
-  standing-image W = rw (W .held, W .next, W .stashed) (assembled-image P S)
+pub early-ready : (tabulation ws scratch : List ℕ) {n : ℕ} → n ≡ early-refusal tabulation ws (length scratch) → n ≡ 0 → Ready tabulation ws scratch
+early-ready tabulation ws scratch e z = early-none tabulation ws scratch (sym e ∙ z)
 
-  -- a build that has no room is of a set that does not fit, and one that has is of one that fits
-  pub full-fits : P .places < length (stash-of P S) → fits P S ≡ false
+module _ (P : Params) (S : List ℕ) where
+  -- a set that stands in scratch assembles to its image
+  standing-image : (scratch : List ℕ) → Standing (family P) (P .places) S scratch
+      → assembled-in (P .slots) (P .places) (length S) (length (stash-of P S)) scratch ≡ image P S
+  standing-image scratch W = rw (W .held, W .next, W .stashed) (assembled-image P S)
+
+  -- a build that has no room is of a set that does not fit
+  full-fits : P .places < length (stash-of P S) → fits P S ≡ false
   unfolding fits
   full-fits l = lt-leb (length (stash-of P S)) (P .places) l
 
 -- a valid set at the front of scratch can be built
-pub set-buildable : (tabulation ws scratch mid : List ℕ) (n : ℕ) {S : List ℕ} → Ready tabulation ws scratch → length mid ≡ length scratch
+set-buildable : (tabulation ws scratch mid : List ℕ) (n : ℕ) {S : List ℕ} → Ready tabulation ws scratch → length mid ≡ length scratch
     → n ≤ 2 * slots-of ws + places-of ws → take n mid ≡ S → ValidSet S → Buildable (slots-of ws) (places-of ws) n tabulation mid
 set-buildable tabulation ws scratch mid n ready same-room few front valid =
     let h = shape ws (ready .shape) in
@@ -96,49 +99,70 @@ set-buildable tabulation ws scratch mid n ready same-room few front valid =
       solid = λ c i. not-blank c (valid .solid c (rw front at i));
     }
 
--- Reading words as a set: `mid` is scratch when the keys are collected, `after` when they are built.
-module _ (tabulation ws scratch mid : List ℕ) (ready : Ready tabulation ws scratch) (same-room : length mid ≡ length scratch)
-    (front : take (length (keys-in ws)) mid ≡ keys-in ws) where
+-- Reading words as a set. First the keys that stand in them are collected: n of them, at the front of `mid`, which is scratch then.
+pub record Collected (tabulation ws scratch mid : List ℕ) (n : ℕ) : Type 0 where
+  pub ready : Ready tabulation ws scratch
+  pub same-room : length mid ≡ length scratch
+  pub front : take n mid ≡ keys-in ws
+  pub count : n ≡ length (keys-in ws)
+
+module _ {tabulation ws scratch mid : List ℕ} {n : ℕ} (R : Collected tabulation ws scratch mid n) where
   abbrev P : Params
   P = params-of tabulation ws
 
-  abbrev K : List ℕ
-  K = keys-in ws
+  collected-few : n ≤ 2 * slots-of ws + places-of ws
+  collected-few = omega (arith, R .count, keys-in-few ws (shape ws (R .ready .shape)))
 
-  pub read-shape : Shaped ws
-  read-shape = shape ws (ready .shape)
+  pub collected-buildable : Buildable (slots-of ws) (places-of ws) n tabulation mid
+  collected-buildable = set-buildable tabulation ws scratch mid n (R .ready) (R .same-room) collected-few (R .front) (keys-in-valid ws)
 
-  pub read-buildable : Buildable (slots-of ws) (places-of ws) (length K) tabulation mid
-  read-buildable = set-buildable tabulation ws scratch mid (length K) ready same-room (keys-in-few ws read-shape) front (keys-in-valid ws)
+  pub collected-comparable : {after : List ℕ} → length after ≡ length mid → Comparable (slots-of ws) (places-of ws) ws after
+  collected-comparable l = record { shape = shape ws (R .ready .shape); slots = refl; places = refl; room = omega (arith, R .ready .room, R .same-room) }
 
-  module _ {after : List ℕ} {count : StashCount} (B : Built (family P) (places-of ws) K mid after count) where
+  -- Then they are built: scratch is `after` then, and the words are compared with what stands there.
+  module _ {after : List ℕ} {count : StashCount} (B : Built (family P) (places-of ws) (take n mid) mid after count) where
+    -- what reading promises
+    abbrev Told : Loaded → Type 0
+    Told l = (l ≡ loaded tabulation ws) × (take (length (keys-in ws)) after ≡ keys-in ws)
+
     -- the keys are still there
-    pub read-front : take (length K) after ≡ K
-    read-front =
-        let l = keys-in-few ws read-shape in
-        sym (take-take (length K) (2 * slots-of ws + places-of ws) after l)
-        ∙ ap (take (length K)) (B .kept)
-        ∙ take-take (length K) (2 * slots-of ws + places-of ws) mid l
-        ∙ front
+    front-kept : take (length (keys-in ws)) after ≡ keys-in ws
+    front-kept =
+        rw (← R .count)
+        (sym (take-take n (2 * slots-of ws + places-of ws) after collected-few)
+        ∙ ap (take n) (B .kept)
+        ∙ take-take n (2 * slots-of ws + places-of ws) mid collected-few
+        ∙ R .front)
 
-    pub read-full : count ≡ Overflow → Tampered ≡ loaded tabulation ws
+    keys-built : Build (family P) (places-of ws) (keys-in ws) after count
+    keys-built = rw (R .front) at (B .built)
+
+    pub read-full : count ≡ Overflow → Told Tampered
     unfolding canonical
     read-full e =
-        elim (B .built) [
-          | full l q ↦ rw (full-fits P K after l)
+        elim keys-built [
+          | full l q ↦ (rw (full-fits P (keys-in ws) l), front-kept)
           | made l q W ↦ absurd (let z : _≡_ {A = ℕ} 0 1 = cc in omega arith)
         ]
 
-    -- the words are canonical exactly if they are the image that stands in scratch
-    pub read-made : {k : ℕ} → count ≡ StashKeys k → canonical tabulation ws ≡ same ws (assembled-in (slots-of ws) (places-of ws) (length K) k after)
-    unfolding canonical
-    read-made {k} e =
-        elim (B .built) [
-          | full l q ↦ absurd (let z : _≡_ {A = ℕ} 0 1 = cc in omega arith)
-          | made l q W ↦
-              let n : length (stash-of P K) ≡ k = cc in
-              rw (← n, standing-image P K after W, le-fits P K l)
-        ]
+    module _ {k : ℕ} (e : count ≡ StashKeys k) where
+      -- the words are canonical exactly if they are the image that stands in scratch
+      canonical-same : canonical tabulation ws ≡ same ws (assembled-in (slots-of ws) (places-of ws) n k after)
+      unfolding canonical
+      canonical-same =
+          elim keys-built [
+            | full l q ↦ absurd (let z : _≡_ {A = ℕ} 0 1 = cc in omega arith)
+            | made l q W ↦
+                let m : length (stash-of P (keys-in ws)) ≡ k = cc in
+                rw (R .count, ← m, standing-image P (keys-in ws) after W, le-fits P (keys-in ws) l)
+          ]
+
+      module _ {b : Bool} (compared : b ≡ same ws (assembled-in (slots-of ws) (places-of ws) n k after)) where
+        pub read-same : b ≡ true → Told (Keys n)
+        read-same t = (rw (R .count, canonical-same ∙ sym compared ∙ t), front-kept)
+
+        pub read-other : b ≡ false → Told Tampered
+        read-other t = (rw (canonical-same ∙ sym compared ∙ t), front-kept)
 
 -- A new set: the first n words of scratch, built.
 module _ (P : Params) (ws scratch : List ℕ) (n : ℕ) {after : List ℕ} {count : StashCount}
@@ -146,7 +170,7 @@ module _ (P : Params) (ws scratch : List ℕ) (n : ℕ) {after : List ℕ} {coun
   pub renew-full : count ≡ Overflow → (stash-full ≡ new-answer P (take n scratch)) × (ws ≡ new-words P (take n scratch) ws)
   renew-full e =
       elim (B .built) [
-        | full l q ↦ let f = full-fits P (take n scratch) after l in (rw f, rw f)
+        | full l q ↦ let f = full-fits P (take n scratch) l in (rw f, rw f)
         | made l q W ↦ absurd (let z : _≡_ {A = ℕ} 0 1 = cc in omega arith)
       ]
 
@@ -165,7 +189,7 @@ module _ (P : Params) (ws scratch : List ℕ) (n : ℕ) {after : List ℕ} {coun
 -- The words can be read, they are canonical, their n keys stand at the front of scratch, and the key is not blank.
 pub record Settable (tabulation ws scratch : List ℕ) (n key : ℕ) : Type 0 where
   pub ready : Ready tabulation ws scratch
-  pub fit : fits (params-of tabulation ws) (keys-in ws) ≡ true
+  pub image : canonical tabulation ws ≡ true
   pub count : n ≡ length (keys-in ws)
   pub front : take n scratch ≡ keys-in ws
   pub solid : blank key ≡ false
@@ -188,6 +212,12 @@ module _ {tabulation ws scratch : List ℕ} {n key : ℕ} (Z : Settable tabulati
 
   pub key-count : n ≤ 2 * slots-of ws + places-of ws
   key-count = omega (arith, Z .count, keys-in-few ws sizes)
+
+  pub front-fits : n ≤ length scratch
+  front-fits = omega (arith, key-count, Z .ready .room)
+
+  pub front-length : n ≡ length (take n scratch)
+  front-length = sym (length-take-le n scratch front-fits)
 
   pub front-asc : Asc (take n scratch)
   front-asc = rw (Z .front) (valid .asc)
@@ -227,13 +257,13 @@ module _ {tabulation ws scratch : List ℕ} {n key : ℕ} (Z : Settable tabulati
       × (new-words (params-of tabulation ws) (without key (keys-in ws)) ws ≡ set-words Remove tabulation ws key)
   remove-renewed m =
       let t = rw (Z .front) at m in
-      let f = without-fits (params-of tabulation ws) valid key (Z .fit) in
+      let f = without-fits (params-of tabulation ws) valid key (canonical-true tabulation ws (Z .image) .fit) in
       (rw (t, f), rw (t, f))
 
-  -- the new set can be built
-  module _ (mid : List ℕ) (m : ℕ) (kind : Change) (same-room : length mid ≡ length scratch) (few : m ≤ 2 * slots-of ws + places-of ws)
+  -- the new set can be built, and what that answers and leaves is what the change does
+  module _ (kind : Change) (mid : List ℕ) (m : ℕ) (same-room : length mid ≡ length scratch) (few : m ≤ 2 * slots-of ws + places-of ws)
       (front : take m mid ≡ changed kind key (take n scratch)) where
-    pub changed-front : take m mid ≡ changed kind key (keys-in ws)
+    changed-front : take m mid ≡ changed kind key (keys-in ws)
     changed-front = rw (Z .front) at front
 
     pub changed-buildable : Buildable (slots-of ws) (places-of ws) m tabulation mid × Shaped ws
@@ -242,10 +272,17 @@ module _ {tabulation ws scratch : List ℕ} {n key : ℕ} (Z : Settable tabulati
       sizes,
     )
 
+    pub changed-renewed : {a : ℕ} {us : List ℕ}
+        → (new-answer (params-of tabulation ws) (changed kind key (keys-in ws)) ≡ set-answer kind tabulation ws key)
+        × (new-words (params-of tabulation ws) (changed kind key (keys-in ws)) ws ≡ set-words kind tabulation ws key)
+        → (a ≡ new-answer (params-of tabulation ws) (take m mid)) × (us ≡ new-words (params-of tabulation ws) (take m mid) ws)
+        → (a ≡ set-answer kind tabulation ws key) × (us ≡ set-words kind tabulation ws key)
+    changed-renewed renewed e = ((rw changed-front at (e .0)) ∙ renewed .0, (rw changed-front at (e .1)) ∙ renewed .1)
+
 -- From the steps to the outcomes.
 
 -- a list of refusals in front of others: the first that applies there, or the first of the others
-pub refusals-front : (rs ts : List (ℕ × Bool)) → (first-refusal rs ≡ 0 → ⊥) → first-refusal (rs ++ ts) ≡ first-refusal rs
+refusals-front : (rs ts : List (ℕ × Bool)) → (first-refusal rs ≡ 0 → ⊥) → first-refusal (rs ++ ts) ≡ first-refusal rs
 refusals-front [] ts n = absurd (n refl)
 refusals-front (r ∷ rs) ts n = go (r .1) (refusals-front rs ts) n
   where
@@ -256,14 +293,14 @@ refusals-front (r ∷ rs) ts n = go (r .1) (refusals-front rs ts) n
 
 -- what reading the words told
 module _ (tabulation ws : List ℕ) where
-  pub told-tampered : Tampered ≡ loaded tabulation ws → canonical tabulation ws ≡ false
+  told-tampered : Tampered ≡ loaded tabulation ws → canonical tabulation ws ≡ false
   told-tampered = go (canonical tabulation ws)
     where
       go : (t : Bool) → Tampered ≡ cond t (Keys (length (keys-in ws))) Tampered → t ≡ false
       go true e = absurd (let z : _≡_ {A = ℕ} 0 1 = cc in omega arith)
       go false e = refl
 
-  pub told-keys : {n : ℕ} → Keys n ≡ loaded tabulation ws → (canonical tabulation ws ≡ true) × (n ≡ length (keys-in ws))
+  told-keys : {n : ℕ} → Keys n ≡ loaded tabulation ws → (canonical tabulation ws ≡ true) × (n ≡ length (keys-in ws))
   told-keys {n} = go (canonical tabulation ws)
     where
       go : (t : Bool) → Keys n ≡ cond t (Keys (length (keys-in ws))) Tampered → (t ≡ true) × (n ≡ length (keys-in ws))
@@ -284,7 +321,7 @@ module _ (tabulation ws scratch : List ℕ) where
     unfolding early-refusal check-outcome
     check-early = sym (refusals-front early-list ((not-canonical, not (canonical tabulation ws)) ∷ []) early)
 
-    pub change-early : (kind : Change) (key : ℕ) → early-refusal tabulation ws (length scratch) ≡ change-outcome kind tabulation ws scratch key .answer
+    change-early : (kind : Change) (key : ℕ) → early-refusal tabulation ws (length scratch) ≡ change-outcome kind tabulation ws scratch key .answer
     unfolding early-refusal change-outcome change-refusal
     change-early kind key =
         sym (refusals-front early-list
@@ -298,57 +335,69 @@ module _ (tabulation ws scratch : List ℕ) where
     room-test : ltb (length scratch) (scratch-length (slots-of ws) (places-of ws)) ≡ false
     room-test = le-ltb _ _ (ready .room)
 
-    pub check-ready : cond (not (canonical tabulation ws)) not-canonical done ≡ check-outcome tabulation ws scratch .answer
+    check-ready : cond (not (canonical tabulation ws)) not-canonical done ≡ check-outcome tabulation ws scratch .answer
     unfolding check-outcome
     check-ready = rw (full-test, ready .shape, room-test)
 
-    pub change-ready : (kind : Change) (key : ℕ)
+    change-ready : (kind : Change) (key : ℕ)
         → cond (not (canonical tabulation ws)) not-canonical (cond (blank key) blank-key (set-answer kind tabulation ws key))
         ≡ change-outcome kind tabulation ws scratch key .answer
     unfolding change-outcome change-refusal
     change-ready kind key = rw (full-test, ready .shape, room-test)
 
-  -- the words go with the answer
-  pub change-left : (kind : Change) (key n : ℕ) → n ≡ change-outcome kind tabulation ws scratch key .answer → (n ≡ 0 → ⊥)
-      → ws ≡ change-outcome kind tabulation ws scratch key .words
-  change-left kind key n e nz = sym (change-refused tabulation ws scratch kind key (λ q. nz (e ∙ q)))
+-- check, once its words are read
+module _ {tabulation ws scratch : List ℕ} (ready : Ready tabulation ws scratch) {l : Loaded} (told : l ≡ loaded tabulation ws) where
+  pub checked-tampered : l ≡ Tampered → not-canonical ≡ check-outcome tabulation ws scratch .answer
+  checked-tampered e = rw (told-tampered tabulation ws (sym e ∙ told)) at (check-ready tabulation ws scratch ready)
 
-  pub change-set-words : (kind : Change) (key : ℕ) → change-outcome kind tabulation ws scratch key .answer ≡ set-answer kind tabulation ws key
-      → set-words kind tabulation ws key ≡ change-outcome kind tabulation ws scratch key .words
-  unfolding change-outcome
-  change-set-words kind key e = rw e
+  pub checked-keys : {n : ℕ} → l ≡ Keys n → done ≡ check-outcome tabulation ws scratch .answer
+  checked-keys e = rw (told-keys tabulation ws (sym e ∙ told) .0) at (check-ready tabulation ws scratch ready)
 
 -- the set of the words can be changed
-pub settable : {tabulation ws before scratch : List ℕ} {n key : ℕ} → Ready tabulation ws before → length scratch ≡ length before
-    → canonical tabulation ws ≡ true → n ≡ length (keys-in ws) → take (length (keys-in ws)) scratch ≡ keys-in ws → blank key ≡ false
+pub settable : {tabulation ws before scratch : List ℕ} {n key : ℕ} {l : Loaded} {b : Bool}
+    → Ready tabulation ws before → length scratch ≡ length before → l ≡ Keys n
+    → (l ≡ loaded tabulation ws) × (take (length (keys-in ws)) scratch ≡ keys-in ws) → b ≡ false → b ≡ blank key
     → Settable tabulation ws scratch n key
-settable {tabulation} {ws} ready same-room image count front solid = record {
-  ready = record { full = ready .full; shape = ready .shape; room = omega (arith, ready .room) };
-  fit = canonical-true tabulation ws image .fit;
-  count = count;
-  front = rw count front;
-  solid = solid;
-}
+settable {tabulation} {ws} ready same-room e told solid test =
+    let t = told-keys tabulation ws (sym e ∙ told .0) in
+    record {
+      ready = record { full = ready .full; shape = ready .shape; room = omega (arith, ready .room) };
+      image = t .0;
+      count = t .1;
+      front = rw (t .1) (told .1);
+      solid = sym test ∙ solid;
+    }
 
-module _ {tabulation ws scratch : List ℕ} (ready : Ready tabulation ws scratch) (kind : Change) (key : ℕ) where
-  -- 4 applies
-  pub outcome-tampered : canonical tabulation ws ≡ false
-      → (not-canonical ≡ change-outcome kind tabulation ws scratch key .answer) × (ws ≡ change-outcome kind tabulation ws scratch key .words)
-  outcome-tampered t =
-      let e = rw t at (change-ready tabulation ws scratch ready kind key) in
-      (e, change-left tabulation ws scratch kind key not-canonical e (λ q. omega arith))
+-- insert and remove
+module _ (tabulation ws scratch : List ℕ) (kind : Change) (key : ℕ) where
+  -- an answer and words are those of the outcome
+  abbrev Left : ℕ → List ℕ → Type 0
+  Left n us = (n ≡ change-outcome kind tabulation ws scratch key .answer) × (us ≡ change-outcome kind tabulation ws scratch key .words)
 
-  -- 5 applies
-  pub outcome-blank : canonical tabulation ws ≡ true → blank key ≡ true
-      → (blank-key ≡ change-outcome kind tabulation ws scratch key .answer) × (ws ≡ change-outcome kind tabulation ws scratch key .words)
-  outcome-blank t b =
-      let e = rw (t, b) at (change-ready tabulation ws scratch ready kind key) in
-      (e, change-left tabulation ws scratch kind key blank-key e (λ q. omega arith))
+  -- a refusal leaves the words
+  left-refused : {n : ℕ} → n ≡ change-outcome kind tabulation ws scratch key .answer → (n ≡ 0 → ⊥) → Left n ws
+  left-refused e nz = (e, sym (change-refused tabulation ws scratch kind key (λ q. nz (e ∙ q))))
 
-  -- the set decides
-  pub outcome-set : canonical tabulation ws ≡ true → blank key ≡ false
-      → (set-answer kind tabulation ws key ≡ change-outcome kind tabulation ws scratch key .answer)
-      × (set-words kind tabulation ws key ≡ change-outcome kind tabulation ws scratch key .words)
-  outcome-set t b =
-      let e = rw (t, b) at (change-ready tabulation ws scratch ready kind key) in
-      (e, change-set-words tabulation ws scratch kind key (sym e))
+  -- 1, 2 or 3
+  pub left-early : {n : ℕ} → n ≡ early-refusal tabulation ws (length scratch) → (n ≡ 0 → ⊥) → Left n ws
+  left-early e nz = left-refused (e ∙ change-early tabulation ws scratch (λ q. nz (e ∙ q)) kind key) nz
+
+  module _ (ready : Ready tabulation ws scratch) {l : Loaded} (told : l ≡ loaded tabulation ws) where
+    -- 4
+    pub left-tampered : l ≡ Tampered → Left not-canonical ws
+    left-tampered e =
+        left-refused (rw (told-tampered tabulation ws (sym e ∙ told)) at (change-ready tabulation ws scratch ready kind key)) (λ q. omega arith)
+
+    -- 5
+    pub left-blank : {n : ℕ} {b : Bool} → l ≡ Keys n → b ≡ true → b ≡ blank key → Left blank-key ws
+    left-blank e t test =
+        left-refused (rw (told-keys tabulation ws (sym e ∙ told) .0, sym test ∙ t) at (change-ready tabulation ws scratch ready kind key)) (λ q. omega arith)
+
+  -- what the set decides
+  pub left-set : {mid : List ℕ} {n a : ℕ} {us : List ℕ} → Ready tabulation ws scratch → Settable tabulation ws mid n key
+      → (a ≡ set-answer kind tabulation ws key) × (us ≡ set-words kind tabulation ws key) → Left a us
+  unfolding change-outcome
+  left-set ready Z e =
+      let r : set-answer kind tabulation ws key ≡ change-refusal kind tabulation ws scratch key =
+      rw (Z .image, Z .solid) at (change-ready tabulation ws scratch ready kind key) in
+      (e .0 ∙ r, rw (← r) (e .1))

@@ -2,14 +2,14 @@
 -- the parts which the definitions give for a set assemble to the set's image. Assumes nothing.
 use Prim.Native.Nat.{ℕ, zero, suc, _+_, _*_, _-_, _≤_, _<_}
 use mathlib.Core.Path.{_≡_, refl, sym, _∙_, ap}
-use mathlib.Core.Bool.{Bool, true, _&&_, and-assoc}
+use mathlib.Core.Bool.{Bool, true, false, _&&_, and-assoc}
 use mathlib.Core.List.{List, [], _∷_, _++_, append-nil}
 use native.Mathlib.Numerals.{add-one}
 use native.Mathlib.Omega.{arith}
-use borrow.Author.Tests.{eq-eqb}
+use borrow.Author.Tests.{eq-eqb, ne-eqb}
 use borrow.Rule.Slice.PartMut.{midOf, postOf, putMid, post-is}
 use lib.Dec.{eqb}
-use lib.ListN.{length, getD, set, take, drop, replicate, length-append, length-take, length-drop, take-append-drop, drop-of-length-le}
+use lib.ListN.{length, getD, set, take, drop, replicate, length-take, length-drop, take-append-drop, drop-of-length-le}
 use lib.Seq.{drop-cons, take-all, take-at, paste-suc}
 use Rattle.cuckoo.specs.Graph.{stash, slot-key, slot-next}
 use Rattle.cuckoo.specs.Lists.{same}
@@ -17,7 +17,7 @@ use Rattle.tabulation.specs.Slots.{slot-0, slot-1}
 use Rattle.layout.specs.Layout.{Params, family, header-length, words-length, stash-at, slots-of, places-of, stash-of, slot-words, image}
 use Rattle.layout.specs.Shape.{Shaped, Sized}
 use Rattle.build.specs.Slots.{listed}
-use Rattle.build.specs.Scratch.{Parts, parts, used}
+use Rattle.build.specs.Scratch.{parts, used}
 use Rattle.build.specs.Scratch as Scratch
 use Rattle.dictionary.specs.Assembled.{woven, assembled}
 
@@ -49,7 +49,7 @@ pub record Weavable (slots held next : List ℕ) : Type 0 where
 
 -- what stands where
 
-pub woven-length : (held next : List ℕ) → length next ≡ length held → length (woven held next) ≡ 2 * length held
+woven-length : (held next : List ℕ) → length next ≡ length held → length (woven held next) ≡ 2 * length held
 unfolding woven
 woven-length [] ns e = refl
 woven-length (k ∷ ks) [] e = absurd (omega arith)
@@ -59,7 +59,7 @@ woven-fit : {slots held next : List ℕ} → Weavable slots held next → length
 woven-fit {slots} {held} {next} W = W .slots-size ∙ sym (woven-length held next (W .next-size))
 
 -- slot v has the key and the next of the parts
-pub woven-at : (held next : List ℕ) (v : ℕ) → length next ≡ length held → v < length held
+woven-at : (held next : List ℕ) (v : ℕ) → length next ≡ length held → v < length held
     → (getD (woven held next) (2 * v) 0 ≡ getD held v 0) × (getD (woven held next) (2 * v + 1) 0 ≡ getD next v 0)
 unfolding woven
 woven-at [] ns v e l = absurd (omega arith)
@@ -69,16 +69,6 @@ woven-at (k ∷ ks) (n ∷ ns) (suc v) e l =
     let p : 2 * suc v ≡ suc (suc (2 * v)) = omega arith in
     let q : suc (suc (2 * v)) + 1 ≡ suc (suc (2 * v + 1)) = omega arith in
     rw (p, q) (woven-at ks ns v (omega arith) (omega arith))
-
-pub assembled-length : (r s keys stashed : ℕ) (P : Parts) → Scratch.Sized r s P
-    → length (assembled r s keys stashed (P .held) (P .next) (P .stash)) ≡ words-length r s
-unfolding assembled
-assembled-length r s keys stashed P Z =
-    omega (
-      arith,
-      length-append (woven (P .held) (P .next)) (P .stash),
-      woven-length (P .held) (P .next) (Z .next-size ∙ sym (Z .held-size)),
-    )
 
 -- comparing
 
@@ -151,20 +141,22 @@ headed (a ∷ b ∷ []) r s keys stashed l = absurd (omega arith)
 headed (a ∷ b ∷ c ∷ []) r s keys stashed l = absurd (omega arith)
 headed (a ∷ b ∷ c ∷ d ∷ ws) r s keys stashed l = refl
 
--- the parts, as code lends them
+-- the parts, as code lends them: from a to e
+module _ (r s : ℕ) (scratch : List ℕ) {a e : ℕ} where
+  stretch-lent : (at size : ℕ) → a ≡ at → e ≡ at + size → midOf a (e - a) scratch ≡ take size (drop at scratch)
+  stretch-lent at size start end = let n : e - a ≡ size = omega arith in rw (n, start)
 
-module _ (r s : ℕ) (scratch : List ℕ) where
-  pub held-lent : midOf (Scratch.held-at r s) (Scratch.next-at r s - Scratch.held-at r s) scratch ≡ parts r s scratch .held
+  pub held-lent : a ≡ Scratch.held-at r s → e ≡ Scratch.next-at r s → midOf a (e - a) scratch ≡ parts r s scratch .held
   unfolding parts
-  held-lent = let e : Scratch.next-at r s - Scratch.held-at r s ≡ 2 * r = omega arith in rw e
+  held-lent start end = stretch-lent (Scratch.held-at r s) (2 * r) start (omega arith)
 
-  pub next-lent : midOf (Scratch.next-at r s) (Scratch.sets-at r s - Scratch.next-at r s) scratch ≡ parts r s scratch .next
+  pub next-lent : a ≡ Scratch.next-at r s → e ≡ Scratch.sets-at r s → midOf a (e - a) scratch ≡ parts r s scratch .next
   unfolding parts
-  next-lent = let e : Scratch.sets-at r s - Scratch.next-at r s ≡ 2 * r = omega arith in rw e
+  next-lent start end = stretch-lent (Scratch.next-at r s) (2 * r) start (omega arith)
 
-  pub stash-lent : midOf (Scratch.stash-at r s) (Scratch.stash-at r s + s - Scratch.stash-at r s) scratch ≡ parts r s scratch .stash
+  pub stash-lent : {n : ℕ} → a ≡ Scratch.stash-at r s → n ≡ s → e ≡ a + n → midOf a (e - a) scratch ≡ parts r s scratch .stash
   unfolding parts
-  stash-lent = let e : Scratch.stash-at r s + s - Scratch.stash-at r s ≡ s = omega arith in rw e
+  stash-lent start size end = stretch-lent (Scratch.stash-at r s) s start (omega arith)
 
 -- all words from m on, and what comes after them
 module _ (m : ℕ) (xs : List ℕ) where
@@ -193,7 +185,7 @@ same-headed (a ∷ b ∷ c ∷ []) r s keys stashed body l p q = absurd (omega a
 same-headed (a ∷ b ∷ c ∷ d ∷ ws) r s keys stashed body l p q = rw (eq-eqb a r p, eq-eqb b s q)
 
 module _ {r s : ℕ} {ws scratch : List ℕ} (C : Comparable r s ws scratch) (keys stashed : ℕ) where
-  pub same-assembled : same ws (assembled-in r s keys stashed scratch)
+  same-assembled : same ws (assembled-in r s keys stashed scratch)
       ≡ (eqb (getD ws 2 0) keys
       && (eqb (getD ws 3 0) stashed
       && (same (midOf header-length (stash-at r - header-length) ws) (woven (parts r s scratch .held) (parts r s scratch .next))
@@ -214,6 +206,31 @@ module _ {r s : ℕ} {ws scratch : List ℕ} (C : Comparable r s ws scratch) (ke
       ∙ same-append (midOf header-length n ws) (drop n (drop header-length ws)) w (P .stash) l
       ∙ (rw (b, rest-all (stash-at r) ws)) in
       rw (← d) (same-headed ws r s keys stashed (w ++ P .stash) (omega arith) (C .slots) (C .places))
+
+  -- what the tests decide, in their order; w is word 2 as it is read
+  module _ {w : ℕ} (word : w ≡ getD ws 2 0) where
+    pub keys-differ : (w ≡ keys → ⊥) → false ≡ same ws (assembled-in r s keys stashed scratch)
+    keys-differ n = sym (same-assembled ∙ (rw (← word, ne-eqb w keys n)))
+
+    module _ (k : w ≡ keys) where
+      pub counts-differ : (getD ws 3 0 ≡ stashed → ⊥) → false ≡ same ws (assembled-in r s keys stashed scratch)
+      counts-differ n = sym (same-assembled ∙ (rw (← word, eq-eqb w keys k, ne-eqb (getD ws 3 0) stashed n)))
+
+      -- the slots are compared
+      module _ (t : getD ws 3 0 ≡ stashed) {start : ℕ} {held next : List ℕ} {b : Bool} (from : start ≡ stash-at r) (h : held ≡ parts r s scratch .held)
+          (n : next ≡ parts r s scratch .next) (compared : b ≡ same (midOf header-length (start - header-length) ws) (woven held next)) where
+        slots-decide : same ws (assembled-in r s keys stashed scratch)
+            ≡ (b && same (midOf (stash-at r) (length ws - stash-at r) ws) (parts r s scratch .stash))
+        slots-decide =
+            let q = rw (from, h, n) at compared in
+            same-assembled ∙ (rw (← word, eq-eqb w keys k, eq-eqb (getD ws 3 0) stashed t, ← q))
+
+        pub slots-differ : b ≡ false → false ≡ same ws (assembled-in r s keys stashed scratch)
+        slots-differ e = sym (slots-decide ∙ (rw e))
+
+        pub stash-decides : b ≡ true → {stash : List ℕ} {d : Bool} → stash ≡ parts r s scratch .stash → d ≡ same (midOf start (length ws - start) ws) stash
+            → d ≡ same ws (assembled-in r s keys stashed scratch)
+        stash-decides e p q = (rw (from, p) at q) ∙ sym (slots-decide ∙ (rw e))
 
 -- and so does writing: a heading, then the slots, then the stash, each put in its place
 module _ {r s : ℕ} {ws scratch : List ℕ} (W : Writable r s ws scratch) (keys stashed : ℕ) where

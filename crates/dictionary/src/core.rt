@@ -1,6 +1,5 @@
 // The steps of insert, remove and check.
 ghost use mathlib.Core.Path.{_≡_};
-ghost use Prim.Native.Nat.{_+_, _*_, _≤_, _<_};
 ghost use lib.ListN.{length, take, replicate};
 ghost use Rattle.layout.specs.Layout.{slots-of, places-of, params-of, scratch-length, keys-in};
 ghost use Rattle.layout.specs.Shape.{Sized, Shaped};

@@ -1,6 +1,7 @@
 -- `dictionary::core::check_words` meets its contract: 1 to 3, then whether the words are the image of their keys.
-use mathlib.Core.Path.{sym, _∙_}
-use Rattle.dictionary.specs.Core.{early-none, check-early, check-ready, told-tampered, told-keys}
+use mathlib.Core.Path.{_∙_}
+use Rattle.dictionary.specs.Laws.{Ready}
+use Rattle.dictionary.specs.Core.{check-early, early-ready, checked-tampered, checked-keys}
 use borrow.Author.Needs.{needs}
 use Rattle.dictionary.proofs.core.check_words.Statement.{statement}
 use Rattle.dictionary.proofs.core.check_words.Tie as tie
@@ -11,8 +12,15 @@ early-requires c κs = search needs
 returns : tie.Need-returns
 returns c = let a = c .before .early .ensures in a ∙ check-early _ _ _ (λ q. c .if1 .taken (a ∙ q))
 
+-- the words can be read
+abbrev start : tie.Else1 → tie.Start
+start e = e .before .before .before .before .before
+
+ready : (e : tie.Else1) → Ready (start e .args .tabulation .now) (start e .args .words .now) (start e .args .scratch .now)
+ready e = early-ready _ _ _ (e .before .early .ensures) (e .if1 .left)
+
 load-requires : tie.Need-load-requires
-load-requires c κs = early-none _ _ _ (sym (c .before .before .early .ensures) ∙ c .before .if1 .left)
+load-requires c κs = ready (c .before)
 
 enum-told : tie.Need-enum-told
 enum-told c = search needs
@@ -24,23 +32,13 @@ same-length : tie.Need-same-length
 same-length c = search needs
 
 returns-2 : tie.Need-returns-2
-returns-2 c =
-    let l = c .before .before .before .before in
-    let e = l .before .before in
-    let d = e .before .before .before .before .before in
-    let t = told-tampered _ _ (sym (c .enum-told2 .given .1) ∙ l .load .ensures .0) in
-    rw t at (check-ready (d .args .tabulation .now) (d .args .words .now) (d .args .scratch .now) (early-none _ _ _ (sym (e .before .early .ensures) ∙ e .if1 .left)))
+returns-2 c = let l = c .before .before .before .before in checked-tampered (ready (l .before .before)) (l .load .ensures .0) (c .enum-told2 .given .1)
 
 same-length-2 : tie.Need-same-length-2
 same-length-2 c = search needs
 
 returns-3 : tie.Need-returns-3
-returns-3 c =
-    let l = c .before .before .before .before in
-    let e = l .before .before in
-    let d = e .before .before .before .before .before in
-    let t = told-keys _ _ (sym (c .enum-told .given .1) ∙ l .load .ensures .0) .0 in
-    rw t at (check-ready (d .args .tabulation .now) (d .args .words .now) (d .args .scratch .now) (early-none _ _ _ (sym (e .before .early .ensures) ∙ e .if1 .left)))
+returns-3 c = let l = c .before .before .before .before in checked-keys (ready (l .before .before)) (l .load .ensures .0) (c .enum-told .given .1)
 
 pub check-words-spec : {M : Type 1} → statement M
 check-words-spec =

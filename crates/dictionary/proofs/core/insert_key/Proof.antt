@@ -1,28 +1,23 @@
 -- `dictionary::core::insert_key` meets its contract: the key is there, there is no room for a further key, or the set with it is built.
-use Prim.Native.Nat.{_+_, _≤_}
-use mathlib.Core.Path.{sym, _∙_}
+use Prim.Native.Nat.{_+_, _*_, _≤_}
+use mathlib.Core.Path.{_≡_, sym, _∙_}
+use mathlib.Core.Bool.{false}
 use native.Mathlib.Omega.{arith}
-use lib.ListN.{length}
-use lib.Seq.{length-take-le}
+use lib.ListN.{take}
+use Rattle.cuckoo.specs.Graph.{member}
+use Rattle.layout.specs.Layout.{slots-of, places-of}
 use Rattle.layout.specs.Shape.{shape}
 use Rattle.dictionary.specs.declared.Change.the-variants.{Insert}
-use Rattle.dictionary.specs.Core.{key-count, front-asc, insert-present, insert-crowded, insert-renewed, changed-front, changed-buildable}
+use Rattle.dictionary.specs.Core.{front-fits, front-length, front-asc, insert-present, insert-crowded, insert-renewed, changed-buildable, changed-renewed}
 use borrow.Author.Needs.{needs}
 use Rattle.dictionary.proofs.core.insert_key.Statement.{statement}
 use Rattle.dictionary.proofs.core.insert_key.Tie as tie
 
 slice-reshare-prefix-has : tie.Need-slice-reshare-prefix-has
-slice-reshare-prefix-has c =
-    let d = c .before .before .before in
-    let k = key-count (d .pre) in
-    omega (arith, d .pre .ready .room)
+slice-reshare-prefix-has c = front-fits (c .before .before .before .pre)
 
 slice-aggregate-has : tie.Need-slice-aggregate-has
-slice-aggregate-has c =
-    let d = c .before .before .before .before in
-    let k = key-count (d .pre) in
-    let fit : d .args .n ≤ length (d .args .scratch .now) = omega (arith, d .pre .ready .room) in
-    sym (length-take-le _ _ fit)
+slice-aggregate-has c = front-length (c .before .before .before .before .pre)
 
 has-requires : tie.Need-has-requires
 has-requires c κs = front-asc (c .before .before .before .before .pre)
@@ -51,19 +46,27 @@ wide-requires c κs = search needs
 same-length-2 : tie.Need-same-length-2
 same-length-2 c = search needs
 
+-- the key is not there
+abbrev start : tie.Else1 → tie.Start
+start e = e .before .before .before .before .before .before
+
+absent : (e : tie.Else1) → member (start e .args .key) (take (start e .args .n) (start e .args .scratch .now)) ≡ false
+absent e = sym (e .before .has .ensures) ∙ e .if1 .left
+
+-- and there is room for one more
+abbrev tested : tie.Else2 → tie.Else1
+tested r = r .before .before .before .before
+
+room : (r : tie.Else2) → start (tested r) .args .n + 1 ≤ 2 * slots-of (start (tested r) .args .words .now) + places-of (start (tested r) .args .words .now)
+room r = let w = r .before .wide .ensures in let l = r .if2 .left in omega arith
+
 returns-2 : tie.Need-returns-2
-returns-2 c =
-    let e = c .before .before .before .before in
-    insert-crowded (c .before .before .before .before .before .before .before .before .before .before .pre) (sym (e .before .has .ensures) ∙ e .if1 .left) (rw (c .before .wide .ensures) at (c .if2 .taken))
+returns-2 c = let e = c .before .before .before .before in insert-crowded (start e .pre) (absent e) (rw (c .before .wide .ensures) at (c .if2 .taken))
 
 insert-requires : tie.Need-insert-requires
 insert-requires c κs =
-    let e = c .before .before .before .before .before in
-    let d = c .before .before .before .before .before .before .before .before .before .before .before in
-    let k = key-count (d .pre) in
-    let w = c .before .before .wide .ensures in
-    let l = c .before .if2 .left in
-    (omega (arith, d .pre .ready .room), front-asc (d .pre), sym (e .before .has .ensures) ∙ e .if1 .left)
+    let e = tested (c .before) in
+    (omega (arith, room (c .before), start e .pre .ready .room), front-asc (start e .pre), absent e)
 
 add-renew : tie.Need-add-renew
 add-renew c = search needs
@@ -71,10 +74,7 @@ add-renew c = search needs
 renew-requires : tie.Need-renew-requires
 renew-requires c κs =
     let i = c .before .before .before .before in
-    let d = c .before .before .before .before .before .before .before .before .before .before .before .before .before .before .before .before in
-    let w = i .before .before .before .wide .ensures in
-    let l = i .before .before .if2 .left in
-    changed-buildable (d .pre) (i .insert .last .0) (d .args .n + 1) Insert (i .insert .kept .0) (omega arith) (i .insert .ensures .0)
+    changed-buildable (start (tested (i .before .before)) .pre) Insert _ _ (i .insert .kept .0) (room (i .before .before)) (i .insert .ensures .0)
 
 same-length-3 : tie.Need-same-length-3
 same-length-3 c = search needs
@@ -86,13 +86,8 @@ returns-3 : tie.Need-returns-3
 returns-3 c =
     let q = c .before .before .before .before in
     let i = q .before .before .before .before .before in
-    let e = i .before .before .before .before .before .before in
-    let d = c .before .before .before .before .before .before .before .before .before .before .before .before .before .before .before .before .before .before .before .before .before in
-    let w = i .before .before .before .wide .ensures in
-    let l = i .before .before .if2 .left in
-    let f = changed-front (d .pre) (i .insert .last .0) (d .args .n + 1) Insert (i .insert .kept .0) (omega arith) (i .insert .ensures .0) in
-    let t = insert-renewed (d .pre) (sym (e .before .has .ensures) ∙ e .if1 .left) in
-    ((rw f at (q .renew .ensures .0)) ∙ t .0, (rw f at (q .renew .ensures .1)) ∙ t .1)
+    let e = tested (i .before .before) in
+    changed-renewed (start e .pre) Insert _ _ (i .insert .kept .0) (room (i .before .before)) (i .insert .ensures .0) (insert-renewed (start e .pre) (absent e)) (q .renew .ensures)
 
 pub insert-key-spec : {M : Type 1} → statement M
 insert-key-spec =

@@ -1,8 +1,7 @@
 -- `dictionary::core::load` meets its contract: the keys that stand in the words are built, and the words compared with their image.
-use mathlib.Core.Path.{refl, sym, _∙_}
 use native.Mathlib.Omega.{arith}
 use Rattle.layout.specs.Shape.{shape}
-use Rattle.dictionary.specs.Core.{read-buildable, read-front, read-full, read-made}
+use Rattle.dictionary.specs.Core.{Collected, collected-buildable, collected-comparable, read-full, read-same, read-other}
 use borrow.Author.Needs.{needs}
 use Rattle.dictionary.proofs.core.load.Statement.{statement}
 use Rattle.dictionary.proofs.core.load.Tie as tie
@@ -16,14 +15,21 @@ shared-slice-read-s c = omega (arith, shape _ (c .before .before .before .before
 collect-keys-requires : tie.Need-collect-keys-requires
 collect-keys-requires c κs = let h = shape _ (c .before .before .before .before .before .before .pre .shape) in (h, omega (arith, c .before .before .before .before .before .before .pre .room))
 
+-- the keys are collected
+abbrev start : tie.After-collect-keys → tie.Start
+start k = k .before .before .before .before .before .before .before
+
+collected : (k : tie.After-collect-keys)
+    → Collected (start k .args .tabulation .now) (start k .args .words .now) (start k .args .scratch .now) (k .collect-keys .last .1 .0) (k .collect-keys .result)
+collected k = record {
+  ready = start k .pre;
+  same-room = k .collect-keys .kept .1 .0;
+  front = k .collect-keys .ensures .0;
+  count = k .collect-keys .ensures .1;
+}
+
 build-requires : tie.Need-build-requires
-build-requires c κs =
-    let k = c .before .before .before in
-    let d = k .before .before .before .before .before .before .before in
-    let n = k .collect-keys .ensures .1 in
-    let f = rw n at (k .collect-keys .ensures .0) in
-    let l = k .collect-keys .kept .1 .0 in
-    rw n (read-buildable _ _ _ _ (d .pre) l f)
+build-requires c κs = collected-buildable (collected (c .before .before .before))
 
 enum-known-count : tie.Need-enum-known-count
 enum-known-count c = search needs
@@ -35,27 +41,10 @@ same-length : tie.Need-same-length
 same-length c = search needs
 
 returns : tie.Need-returns
-returns c =
-    let b = c .before .before .before .before in
-    let k = b .before .before .before .before in
-    let d = k .before .before .before .before .before .before .before in
-    let n = k .collect-keys .ensures .1 in
-    let f = rw n at (k .collect-keys .ensures .0) in
-    let l = k .collect-keys .kept .1 .0 in
-    let B = rw (n, f) at (b .build .ensures) in
-    (read-full _ _ _ _ (d .pre) l f B (c .enum-told .given .1), read-front _ _ _ _ (d .pre) l f B)
+returns c = let b = c .before .before .before .before in read-full (collected (b .before .before .before .before)) (b .build .ensures) (c .enum-told .given .1)
 
 matches-requires : tie.Need-matches-requires
-matches-requires c κs =
-    let b = c .before .before .before .before .before .before in
-    let k = b .before .before .before .before in
-    let d = k .before .before .before .before .before .before .before in
-    let n = k .collect-keys .ensures .1 in
-    let f = rw n at (k .collect-keys .ensures .0) in
-    let l = k .collect-keys .kept .1 .0 in
-    let h = shape _ (d .pre .shape) in
-    let m = b .build .kept .0 in
-    record { shape = h; slots = refl; places = refl; room = omega (arith, d .pre .room) }
+matches-requires c κs = let b = c .before .before .before .before .before .before in collected-comparable (collected (b .before .before .before .before)) (b .build .kept .0)
 
 same-length-2 : tie.Need-same-length-2
 same-length-2 c = search needs
@@ -64,15 +53,7 @@ returns-2 : tie.Need-returns-2
 returns-2 c =
     let q = c .before .before .before .before in
     let b = q .before .before .before .before in
-    let k = b .before .before .before .before in
-    let d = k .before .before .before .before .before .before .before in
-    let n = k .collect-keys .ensures .1 in
-    let f = rw n at (k .collect-keys .ensures .0) in
-    let l = k .collect-keys .kept .1 .0 in
-    let B = rw (n, f) at (b .build .ensures) in
-    let e = read-made _ _ _ _ (d .pre) l f B (q .count .given .1) in
-    let t = e ∙ sym (rw n at (c .before .matches .ensures)) ∙ c .if1 .taken in
-    (rw (n, t), read-front _ _ _ _ (d .pre) l f B)
+    read-same (collected (b .before .before .before .before)) (b .build .ensures) (q .count .given .1) (c .before .matches .ensures) (c .if1 .taken)
 
 same-length-3 : tie.Need-same-length-3
 same-length-3 c = search needs
@@ -81,15 +62,7 @@ returns-3 : tie.Need-returns-3
 returns-3 c =
     let q = c .before .before .before .before in
     let b = q .before .before .before .before in
-    let k = b .before .before .before .before in
-    let d = k .before .before .before .before .before .before .before in
-    let n = k .collect-keys .ensures .1 in
-    let f = rw n at (k .collect-keys .ensures .0) in
-    let l = k .collect-keys .kept .1 .0 in
-    let B = rw (n, f) at (b .build .ensures) in
-    let e = read-made _ _ _ _ (d .pre) l f B (q .count .given .1) in
-    let t = e ∙ sym (rw n at (c .before .matches .ensures)) ∙ c .if1 .left in
-    (rw t, read-front _ _ _ _ (d .pre) l f B)
+    read-other (collected (b .before .before .before .before)) (b .build .ensures) (q .count .given .1) (c .before .matches .ensures) (c .if1 .left)
 
 pub load-spec : {M : Type 1} → statement M
 load-spec =

@@ -1,28 +1,23 @@
 -- `dictionary::core::remove_key` meets its contract: the key is not there, or the set without it is built.
-use Prim.Native.Nat.{_-_, _≤_}
-use mathlib.Core.Path.{sym, _∙_}
+use Prim.Native.Nat.{_+_, _-_, _*_, _≤_}
+use mathlib.Core.Path.{_≡_, sym, _∙_}
+use mathlib.Core.Bool.{true}
 use native.Mathlib.Omega.{arith}
 use borrow.Author.Tests.{not-true, not-false}
-use lib.ListN.{length}
-use lib.Seq.{length-take-le}
+use lib.ListN.{take}
+use Rattle.cuckoo.specs.Graph.{member}
+use Rattle.layout.specs.Layout.{slots-of, places-of}
 use Rattle.dictionary.specs.declared.Change.the-variants.{Remove}
-use Rattle.dictionary.specs.Core.{key-count, front-asc, remove-absent, remove-some, remove-renewed, changed-front, changed-buildable}
+use Rattle.dictionary.specs.Core.{key-count, front-fits, front-length, front-asc, remove-absent, remove-some, remove-renewed, changed-buildable, changed-renewed}
 use borrow.Author.Needs.{needs}
 use Rattle.dictionary.proofs.core.remove_key.Statement.{statement}
 use Rattle.dictionary.proofs.core.remove_key.Tie as tie
 
 slice-reshare-prefix-has : tie.Need-slice-reshare-prefix-has
-slice-reshare-prefix-has c =
-    let d = c .before .before .before in
-    let k = key-count (d .pre) in
-    omega (arith, d .pre .ready .room)
+slice-reshare-prefix-has c = front-fits (c .before .before .before .pre)
 
 slice-aggregate-has : tie.Need-slice-aggregate-has
-slice-aggregate-has c =
-    let d = c .before .before .before .before in
-    let k = key-count (d .pre) in
-    let fit : d .args .n ≤ length (d .args .scratch .now) = omega (arith, d .pre .ready .room) in
-    sym (length-take-le _ _ fit)
+slice-aggregate-has c = front-length (c .before .before .before .before .pre)
 
 has-requires : tie.Need-has-requires
 has-requires c κs = front-asc (c .before .before .before .before .pre)
@@ -33,22 +28,27 @@ same-length c = search needs
 returns : tie.Need-returns
 returns c = remove-absent (c .before .before .before .before .before .before .pre) (sym (c .before .has .ensures) ∙ not-true _ (c .if1 .taken))
 
+-- the key is there
+abbrev start : tie.Else1 → tie.Start
+start e = e .before .before .before .before .before .before
+
+present : (e : tie.Else1) → member (start e .args .key) (take (start e .args .n) (start e .args .scratch .now)) ≡ true
+present e = sym (e .before .has .ensures) ∙ not-false _ (e .if1 .left)
+
+few : (e : tie.Else1) → start e .args .n - 1 ≤ 2 * slots-of (start e .args .words .now) + places-of (start e .args .words .now)
+few e = omega (arith, key-count (start e .pre))
+
 delete-requires : tie.Need-delete-requires
-delete-requires c κs =
-    let e = c .before in
-    let d = c .before .before .before .before .before .before .before in
-    let k = key-count (d .pre) in
-    (omega (arith, d .pre .ready .room), front-asc (d .pre), sym (e .before .has .ensures) ∙ not-false _ (e .if1 .left))
+delete-requires c κs = let e = c .before in (front-fits (start e .pre), front-asc (start e .pre), present e)
 
 sub-renew : tie.Need-sub-renew
-sub-renew c = let e = c .before .before .before .before .before .before in remove-some (c .before .before .before .before .before .before .before .before .before .before .before .before .pre) (sym (e .before .has .ensures) ∙ not-false _ (e .if1 .left))
+sub-renew c = let e = c .before .before .before .before .before .before in remove-some (start e .pre) (present e)
 
 renew-requires : tie.Need-renew-requires
 renew-requires c κs =
     let i = c .before .before .before .before in
-    let d = c .before .before .before .before .before .before .before .before .before .before .before .before in
-    let k = key-count (d .pre) in
-    changed-buildable (d .pre) (i .delete .last .0) (d .args .n - 1) Remove (i .delete .kept .0) (omega arith) (i .delete .ensures .0)
+    let e = i .before .before in
+    changed-buildable (start e .pre) Remove _ _ (i .delete .kept .0) (few e) (i .delete .ensures .0)
 
 same-length-2 : tie.Need-same-length-2
 same-length-2 c = search needs
@@ -61,11 +61,7 @@ returns-2 c =
     let q = c .before .before .before .before in
     let i = q .before .before .before .before .before in
     let e = i .before .before in
-    let d = c .before .before .before .before .before .before .before .before .before .before .before .before .before .before .before .before .before in
-    let k = key-count (d .pre) in
-    let f = changed-front (d .pre) (i .delete .last .0) (d .args .n - 1) Remove (i .delete .kept .0) (omega arith) (i .delete .ensures .0) in
-    let t = remove-renewed (d .pre) (sym (e .before .has .ensures) ∙ not-false _ (e .if1 .left)) in
-    ((rw f at (q .renew .ensures .0)) ∙ t .0, (rw f at (q .renew .ensures .1)) ∙ t .1)
+    changed-renewed (start e .pre) Remove _ _ (i .delete .kept .0) (few e) (i .delete .ensures .0) (remove-renewed (start e .pre) (present e)) (q .renew .ensures)
 
 pub remove-key-spec : {M : Type 1} → statement M
 remove-key-spec =

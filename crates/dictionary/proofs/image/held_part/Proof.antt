@@ -23,9 +23,7 @@ part-result-end : tie.Need-part-result-end
 part-result-end c = search needs
 
 returns : tie.Need-returns
-returns c =
-    let d = c .before .before .before .before in
-    (rw (c .before .before .held-start .ensures, c .before .next-start .ensures) (held-lent (d .args .r) (d .args .s) (d .args .scratch .now)), search needs)
+returns c = (held-lent _ _ _ (c .before .before .held-start .ensures) (c .before .next-start .ensures), search needs)
 
 pub held-part-spec : {M : Type 1} → statement M
 held-part-spec =

@@ -1,7 +1,6 @@
 -- `dictionary::image::matches` meets its contract: the image is compared word by word in the heading, then part by part.
-use mathlib.Core.Path.{sym, _∙_}
-use borrow.Author.Tests.{eq-eqb, ne-eqb, not-true, not-false}
-use Rattle.dictionary.specs.Weave.{same-assembled}
+use borrow.Author.Tests.{not-true, not-false}
+use Rattle.dictionary.specs.Weave.{keys-differ, counts-differ, slots-differ, stash-decides}
 use borrow.Author.Needs.{needs}
 use Rattle.dictionary.proofs.image.matches.Statement.{statement}
 use Rattle.dictionary.proofs.image.matches.Tie as tie
@@ -13,20 +12,13 @@ wide-requires : tie.Need-wide-requires
 wide-requires c κs = search needs
 
 returns : tie.Need-returns
-returns c =
-    let d = c .before .before .before .before .before in
-    sym (same-assembled (d .pre) (d .args .keys) (d .args .stashed) ∙ (rw (← c .before .wide .ensures, ne-eqb _ _ (c .if1 .taken))))
+returns c = keys-differ (c .before .before .before .before .before .pre) _ _ (c .before .wide .ensures) (c .if1 .taken)
 
 shared-slice-read-if2 : tie.Need-shared-slice-read-if2
 shared-slice-read-if2 c = search needs
 
 returns-2 : tie.Need-returns-2
-returns-2 c =
-    let e = c .before .before in
-    let d = e .before .before .before .before .before in
-    sym
-    (same-assembled (d .pre) (d .args .keys) (d .args .stashed)
-    ∙ (rw (← e .before .wide .ensures, eq-eqb _ _ (e .if1 .left), ne-eqb _ _ (c .if2 .taken))))
+returns-2 c = let e = c .before .before in counts-differ (e .before .before .before .before .before .pre) _ _ (e .before .wide .ensures) (e .if1 .left) (c .if2 .taken)
 
 stash-start-requires : tie.Need-stash-start-requires
 stash-start-requires c κs = search needs
@@ -54,13 +46,8 @@ returns-3 c =
     let n = c .before .before .before in
     let f = n .before .before .before in
     let e = f .before .before in
-    let d = e .before .before .before .before .before in
-    let q =
-    rw (n .before .before .stash-start .ensures, n .before .held-part .ensures .0, n .next-part .ensures .0)
-    at (c .before .same-slots .ensures) in
-    sym
-    (same-assembled (d .pre) (d .args .keys) (d .args .stashed)
-    ∙ (rw (← e .before .wide .ensures, eq-eqb _ _ (e .if1 .left), eq-eqb _ _ (f .if2 .left), sym q ∙ not-true _ (c .if3 .taken))))
+    slots-differ (e .before .before .before .before .before .pre) _ _ (e .before .wide .ensures) (e .if1 .left) (f .if2 .left) (n .before .before .stash-start .ensures)
+    (n .before .held-part .ensures .0) (n .next-part .ensures .0) (c .before .same-slots .ensures) (not-true _ (c .if3 .taken))
 
 mul-same-words : tie.Need-mul-same-words
 mul-same-words c = search needs
@@ -86,15 +73,9 @@ returns-4 c =
     let n = i .before .before .before in
     let f = n .before .before .before in
     let e = f .before .before in
-    let d = e .before .before .before .before .before in
-    let q =
-    rw (n .before .before .stash-start .ensures, n .before .held-part .ensures .0, n .next-part .ensures .0)
-    at (i .before .same-slots .ensures) in
-    let z = rw (n .before .before .stash-start .ensures, c .before .stash-part .ensures .0) at (c .same-words .ensures) in
-    z
-    ∙ sym
-    (same-assembled (d .pre) (d .args .keys) (d .args .stashed)
-    ∙ (rw (← e .before .wide .ensures, eq-eqb _ _ (e .if1 .left), eq-eqb _ _ (f .if2 .left), sym q ∙ not-false _ (i .if3 .left))))
+    stash-decides (e .before .before .before .before .before .pre) _ _ (e .before .wide .ensures) (e .if1 .left) (f .if2 .left) (n .before .before .stash-start .ensures)
+    (n .before .held-part .ensures .0) (n .next-part .ensures .0) (i .before .same-slots .ensures) (not-false _ (i .if3 .left))
+    (c .before .stash-part .ensures .0) (c .same-words .ensures)
 
 pub matches-spec : {M : Type 1} → statement M
 matches-spec =

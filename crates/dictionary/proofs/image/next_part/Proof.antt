@@ -23,9 +23,7 @@ part-result-end : tie.Need-part-result-end
 part-result-end c = search needs
 
 returns : tie.Need-returns
-returns c =
-    let d = c .before .before .before .before in
-    (rw (c .before .before .next-start .ensures, c .before .sets-start .ensures) (next-lent (d .args .r) (d .args .s) (d .args .scratch .now)), search needs)
+returns c = (next-lent _ _ _ (c .before .before .next-start .ensures) (c .before .sets-start .ensures), search needs)
 
 pub next-part-spec : {M : Type 1} → statement M
 next-part-spec =

@@ -1,4 +1,5 @@
 -- `dictionary::image::stash_part` meets its contract: s words from where the stash begins.
+use mathlib.Core.Path.{refl}
 use Rattle.dictionary.specs.Weave.{stash-lent}
 use borrow.Author.Needs.{needs}
 use Rattle.dictionary.proofs.image.stash_part.Statement.{statement}
@@ -26,9 +27,7 @@ part-result-end : tie.Need-part-result-end
 part-result-end c = search needs
 
 returns : tie.Need-returns
-returns c =
-    let d = c .before .before .before .before in
-    (rw (c .before .before .stash-start .ensures, c .before .wide .ensures) (stash-lent (d .args .r) (d .args .s) (d .args .scratch .now)), search needs)
+returns c = (stash-lent _ _ _ (c .before .before .stash-start .ensures) (c .before .wide .ensures) refl, search needs)
 
 pub stash-part-spec : {M : Type 1} → statement M
 stash-part-spec =
