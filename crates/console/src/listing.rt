@@ -5,6 +5,8 @@ ghost use Rattle.layout.specs.Shape.{Shaped};
 ghost use Rattle.console.specs.Short.{room};
 use crate::rows;
 use crate::rows::ROOM;
+use layout::HEADER_LENGTH;
+use layout::SLOT_WIDTH;
 use words::wide;
 
 // One slot, if it is filled.
@@ -25,9 +27,9 @@ fn list_table(slots: &[u32], table: u32, out: &mut [u8; ROOM], start: usize) -> 
 {
     let mut at = start;
     let mut slot: u32 = 0;
-    while 2 * wide(slot) + 1 < slots.len() {
-        let key = slots[2 * wide(slot)];
-        let next = slots[2 * wide(slot) + 1];
+    while SLOT_WIDTH * wide(slot) + 1 < slots.len() {
+        let key = slots[SLOT_WIDTH * wide(slot)];
+        let next = slots[SLOT_WIDTH * wide(slot) + 1];
         at = list_slot(&mut *out, at, table, slot, key, next);
         slot += 1;
     }
@@ -54,9 +56,9 @@ fn list_words(words: &[u32], out: &mut [u8; ROOM], start: usize) -> usize
     ensures { λ end. ⌜ end ≤ room ⌝ }
 {
     let r = words[0];
-    let middle = 4 + 2 * wide(r);
+    let middle = HEADER_LENGTH + SLOT_WIDTH * wide(r);
     let end = layout::stash_start(r);
-    let second = list_table(&words[4..middle], 0, &mut *out, start);
+    let second = list_table(&words[HEADER_LENGTH..middle], 0, &mut *out, start);
     let third = list_table(&words[middle..end], 1, &mut *out, second);
     list_stash(layout::stash(words), &mut *out, third)
 }

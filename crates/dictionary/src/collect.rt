@@ -8,6 +8,8 @@ ghost use Rattle.ordered.specs.Keys.{sorted, distinct};
 ghost use Rattle.layout.specs.Layout.{slots-of, places-of, key-words, keys-in};
 ghost use Rattle.layout.specs.Shape.{Shaped};
 ghost use Rattle.dictionary.specs.Collect.{picked, nonzero};
+use layout::HEADER_LENGTH;
+use layout::SLOT_WIDTH;
 use layout::stash_start;
 use ordered::drop_doubles;
 use ordered::sort;
@@ -50,7 +52,14 @@ fn gather_keys(words: &[u32], scratch: &mut [u32]) -> usize
 {
     let r = words[0];
     let s = words[1];
-    let n = gather(words, 4, 2, 2 * wide(r), &mut *scratch, 0);
+    let n = gather(
+        words,
+        HEADER_LENGTH,
+        SLOT_WIDTH,
+        2 * wide(r),
+        &mut *scratch,
+        0,
+    );
     gather(words, stash_start(r), 1, wide(s), &mut *scratch, n)
 }
 

@@ -13,6 +13,8 @@ use build::parts::held_start;
 use build::parts::next_start;
 use build::parts::sets_start;
 use build::parts::stash_start;
+use layout::HEADER_LENGTH;
+use layout::SLOT_WIDTH;
 use words::wide;
 
 // The parts of scratch that the image is made of.
@@ -51,7 +53,7 @@ fn same_slot(slots: &[u32], held: &[u32], next: &[u32], slot: usize) -> bool
     requires { ⌜ Weavable (now slots) (now held) (now next) × (slot < length (now held)) ⌝ }
     ensures { λ b. ⌜ b ≡ slot-same (now (slots .entry)) (now (held .entry)) (now (next .entry)) slot ⌝ }
 {
-    slots[2 * slot] == held[slot] && slots[2 * slot + 1] == next[slot]
+    slots[SLOT_WIDTH * slot] == held[slot] && slots[SLOT_WIDTH * slot + 1] == next[slot]
 }
 
 // Whether the words of all slots are those of the parts.
@@ -98,7 +100,7 @@ pub fn matches(words: &[u32], scratch: &[u32], r: u32, s: u32, keys: usize, stas
     let rest = layout::stash_start(r);
     let held = held_part(scratch, r, s);
     let next = next_part(scratch, r, s);
-    if !same_slots(&words[4..rest], held, next) {
+    if !same_slots(&words[HEADER_LENGTH..rest], held, next) {
         return false;
     }
     same_words(&words[rest..], stash_part(scratch, r, s))
@@ -122,8 +124,8 @@ fn write_slots(slots: &mut [u32], held: &[u32], next: &[u32])
 {
     let mut slot = 0;
     while slot < held.len() {
-        slots[2 * slot] = held[slot];
-        slots[2 * slot + 1] = next[slot];
+        slots[SLOT_WIDTH * slot] = held[slot];
+        slots[SLOT_WIDTH * slot + 1] = next[slot];
         slot += 1;
     }
 }
@@ -149,6 +151,6 @@ pub fn write_image(words: &mut [u32], scratch: &[u32], r: u32, s: u32, keys: usi
     let held = held_part(scratch, r, s);
     let next = next_part(scratch, r, s);
     write_heading(words, r, s, keys as u32, stashed);
-    write_slots(&mut words[4..rest], held, next);
+    write_slots(&mut words[HEADER_LENGTH..rest], held, next);
     copy(&mut words[rest..], stash_part(scratch, r, s));
 }

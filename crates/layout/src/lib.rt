@@ -19,6 +19,12 @@ use words::wide;
 // Document 01's 4, as far as this crate gives it: the view of words whose heading counts more stashed keys than there are places.
 pub const NOT_CANONICAL: u32 = 4;
 
+// The words before the slots: r, s, the number of keys and the number of stashed keys.
+pub const HEADER_LENGTH: usize = 4;
+
+// The words of a slot: its key, then its next.
+pub const SLOT_WIDTH: usize = 2;
+
 // The most places of a stash.
 pub const MAX_PLACES: u32 = 64;
 
@@ -41,7 +47,7 @@ pub fn stash_start(r: u32) -> usize
     requires { ⌜ r ≤ max-slots ⌝ }
     ensures { λ n. ⌜ n ≡ stash-at r ⌝ }
 {
-    4 + 4 * wide(r)
+    HEADER_LENGTH + SLOT_WIDTH * (2 * wide(r))
 }
 
 // The length of the words of a dictionary.
@@ -56,7 +62,7 @@ pub fn length_for(r: u32, s: u32) -> usize
 pub fn is_shaped(words: &[u32]) -> bool
     ensures { λ b. ⌜ b ≡ shaped (now (words .entry)) ⌝ }
 {
-    if words.len() < 4 {
+    if words.len() < HEADER_LENGTH {
         return false;
     }
     let r = words[0];
@@ -72,7 +78,7 @@ fn in_slot(words: &[u32], slot: u32, key: u32) -> bool
     requires { ⌜ (key-at slot < length (now words)) × (slot < 4096) ⌝ }
     ensures { λ b. ⌜ b ≡ eqb (getD (now (words .entry)) (key-at slot) 0) key ⌝ }
 {
-    words[4 + 2 * wide(slot)] == key
+    words[HEADER_LENGTH + SLOT_WIDTH * wide(slot)] == key
 }
 
 // Whether the key is one of some words. Every word is looked at, so that the compiler can compare several at once.

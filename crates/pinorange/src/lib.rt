@@ -52,7 +52,7 @@ pub extern "C" fn pinorange_stash(words: &[u32], offset: &mut u32, length: &mut 
         *length = 0;
         return n;
     }
-    *offset = 4 + 4 * words[0];
+    *offset = layout::stash_start(words[0]) as u32;
     *length = words[3];
     0
 }

@@ -1,7 +1,7 @@
 -- `layout::is_shaped` meets its contract: its tests are the definition's, in their order.
 use mathlib.Core.Path.{sym, _∙_}
 use borrow.Author.Tests.{le-leb, lt-leb, not-true, not-false}
-use Rattle.layout.specs.Layout.{shaped}
+use Rattle.layout.specs.Layout.{header-length, shaped}
 use Rattle.layout.specs.Shape.{sized}
 use borrow.Author.Needs.{needs}
 use Rattle.layout.proofs.is_shaped.Statement.{statement}
@@ -22,7 +22,7 @@ are-sizes-requires c κs = search needs
 
 returns-2 : tie.Need-returns-2
 unfolding shaped
-returns-2 c = rw (le-leb 4 _ (c .before .before .before .before .if1 .left), sym (c .before .are-sizes .ensures) ∙ not-true _ (c .if2 .taken))
+returns-2 c = rw (le-leb header-length _ (c .before .before .before .before .if1 .left), sym (c .before .are-sizes .ensures) ∙ not-true _ (c .if2 .taken))
 
 length-for-requires : tie.Need-length-for-requires
 length-for-requires c κs = sized _ _ (sym (c .before .are-sizes .ensures) ∙ not-false _ (c .if2 .left))
@@ -30,7 +30,7 @@ length-for-requires c κs = sized _ _ (sym (c .before .are-sizes .ensures) ∙ n
 returns-3 : tie.Need-returns-3
 unfolding shaped
 returns-3 c = let d = c .before in
-    rw (c .length-for .ensures, le-leb 4 _ (d .before .before .before .before .if1 .left), sym (d .before .are-sizes .ensures) ∙ not-false _ (d .if2 .left))
+    rw (c .length-for .ensures, le-leb header-length _ (d .before .before .before .before .if1 .left), sym (d .before .are-sizes .ensures) ∙ not-false _ (d .if2 .left))
 
 pub is-shaped-spec : {M : Type 1} → statement M
 is-shaped-spec =

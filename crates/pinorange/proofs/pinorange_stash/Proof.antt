@@ -1,7 +1,8 @@
 -- `pinorange::pinorange_stash` meets its contract: a view that is not refused has a small offset.
-use mathlib.Core.Path.{sym, _∙_}
+use mathlib.Core.Path.{_≡_, sym, _∙_}
 use native.Mathlib.Omega.{arith}
 use borrow.Author.Tests.{eq-eqb, ne-eqb}
+use Rattle.layout.specs.Answers.{view-refusal}
 use Rattle.layout.specs.Shape.{viewed}
 use Rattle.pinorange.specs.Out.{offset-out, length-out}
 use borrow.Author.Needs.{needs}
@@ -18,24 +19,28 @@ returns c =
     let t = ne-eqb _ 0 (λ e. c .if1 .taken (n ∙ e)) in
     (n, (simp t, simp t))
 
-shared-slice-read-offset : tie.Need-shared-slice-read-offset
-shared-slice-read-offset c = omega (arith, viewed _ (sym (c .before .before .stash-refusal .ensures) ∙ c .before .if1 .left))
+-- the view is not refused
+accepted : (e : tie.Else1) → view-refusal (e .before .before .before .args .words .now) ≡ 0
+accepted e = sym (e .before .stash-refusal .ensures) ∙ e .if1 .left
 
-mul-offset : tie.Need-mul-offset
-mul-offset c = omega (arith, viewed _ (sym (c .before .before .stash-refusal .ensures) ∙ c .before .if1 .left))
+shared-slice-read-stash-start : tie.Need-shared-slice-read-stash-start
+shared-slice-read-stash-start c = omega (arith, viewed _ (accepted (c .before)))
 
-add-offset : tie.Need-add-offset
-add-offset c = omega (arith, viewed _ (sym (c .before .before .stash-refusal .ensures) ∙ c .before .if1 .left))
+stash-start-requires : tie.Need-stash-start-requires
+stash-start-requires c κs = omega (arith, viewed _ (accepted (c .before)))
+
+cast-offset : tie.Need-cast-offset
+cast-offset c = omega (arith, c .stash-start .ensures, viewed _ (accepted (c .before .before)))
 
 shared-slice-read-length : tie.Need-shared-slice-read-length
-shared-slice-read-length c = omega (arith, viewed _ (sym (c .before .before .before .stash-refusal .ensures) ∙ c .before .before .if1 .left))
+shared-slice-read-length c = omega (arith, viewed _ (accepted (c .before .before .before)))
 
 returns-2 : tie.Need-returns-2
 unfolding offset-out length-out
 returns-2 c =
-    let n = sym (c .before .before .before .stash-refusal .ensures) ∙ c .before .before .if1 .left in
+    let n = accepted (c .before .before .before) in
     let t = eq-eqb _ 0 n in
-    (sym n, (simp t (omega arith), simp t))
+    (sym n, (simp t (c .before .stash-start .ensures), simp t))
 
 pub pinorange-stash-spec : {M : Type 1} → statement M
 pinorange-stash-spec =
@@ -43,8 +48,8 @@ pinorange-stash-spec =
     (tie.spec
     stash-refusal-requires
     returns
-    shared-slice-read-offset
-    mul-offset
-    add-offset
+    shared-slice-read-stash-start
+    stash-start-requires
+    cast-offset
     shared-slice-read-length
     returns-2)

@@ -2,6 +2,7 @@
 use mathlib.Core.Path.{_∙_}
 use Prim.Native.Nat.{_*_}
 use native.Mathlib.Omega.{arith}
+use Rattle.layout.specs.Layout.{header-length, slot-width}
 use Rattle.dictionary.specs.Collect.{nonzero-few, gathered-keys, gathered-count}
 use borrow.Author.Needs.{needs}
 use Rattle.dictionary.proofs.collect.gather_keys.Statement.{statement}
@@ -32,7 +33,7 @@ gather-requires-2 : tie.Need-gather-requires-2
 gather-requires-2 c κs =
     let g = c .before .before .before .before .before in
     let w = g .before .before in
-    let l = nonzero-few (w .before .before .before .before .before .args .words .now) 4 2 (2 * w .wide .result) in
+    let l = nonzero-few (w .before .before .before .before .before .args .words .now) header-length slot-width (2 * w .wide .result) in
     (search needs, search needs, omega arith)
 
 same-length : tie.Need-same-length
