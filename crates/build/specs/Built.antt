@@ -85,7 +85,7 @@ module _ {a b : ℕ → ℕ} {other : ℕ → ℕ → ℕ} (turn : (c v w : ℕ)
     labels-is = label-all linking-is words size
 
     module _ (s : ℕ) where
-      pub noting-is : Stashed a b S (labels a b other m S words) m (linking a b other m S .held) (replicate s 0) (noting a b other m S words s)
+      noting-is : Stashed a b S (labels a b other m S words) m (linking a b other m S .held) (replicate s 0) (noting a b other m S words s)
       unfolding noting
       noting-is = stashed m fits asc solid (linking-is .whole) labels-is (replicate s 0)
 

@@ -87,7 +87,7 @@ module _ (held : List ℕ) where
   ]
 
 module _ (a b : ℕ → ℕ) (held : List ℕ) where
-  pub put-length : (words : List ℕ) (c x : ℕ) → length (put-next a b held words c x) ≡ length words
+  put-length : (words : List ℕ) (c x : ℕ) → length (put-next a b held words c x) ≡ length words
   unfolding put-next
   put-length words c x = put-at-length held (put-at held words c (a c) x) c (b c) x ∙ put-at-length held words c (a c) x
 

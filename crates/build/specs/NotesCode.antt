@@ -107,58 +107,66 @@ answer-overflow N = go (N .overflow)
     go true e = refl
     go false e = absurd (let z : _≡_ {A = ℕ} 0 1 = cc in omega arith)
 
--- the four cases of a key, over scratch
-module _ {T : List ℕ} {r s : ℕ} {xs : List ℕ} (R : Room T r s xs) (k c : ℕ) where
-  -- scratch is then ys, and the answer is n
-  abbrev Told : List ℕ → StashCount → Type 0
-  Told ys n =
-      (parts r s ys ≡ key-noted (tables T r) (parts r s xs) k c) × (n ≡ answer (noting-after (tables T r) (parts r s xs) k c))
+-- the cases of a key, over scratch
+module _ {T : List ℕ} {r s : ℕ} {xs : List ℕ} (R : Room T r s xs) where
+  abbrev F : Family
+  F = tables T r
 
-  pub key-held : holding (tables T r) (parts r s xs .held) c ≡ true → Told xs (Keys k)
-  unfolding note-key
-  key-held t = rw t (refl, refl)
+  abbrev P : Parts
+  P = parts r s xs
 
-  module _ (t : holding (tables T r) (parts r s xs .held) c ≡ false) {i : ℕ} (N : NoteAt r s (label-of (slot-0 (tables T r)) (parts r s xs .next) c) i) where
-    abbrev note : ℕ
-    note = getD (parts r s xs .sets) (label-of (slot-0 (tables T r)) (parts r s xs .next) c) 0
+  -- the label of a key, and the note there
+  abbrev label : ℕ → ℕ
+  label c = label-of (slot-0 F) (P .next) c
 
-    pub key-first : getD xs i 0 ≡ 0 → Told (set xs i c) (Keys k)
+  abbrev note : ℕ → ℕ
+  note c = getD (P .sets) (label c) 0
+
+  -- four in the first pass, where the stash has k keys so far
+  module _ (k c : ℕ) where
+    -- scratch is then ys, and the answer is n
+    abbrev Told : List ℕ → StashCount → Type 0
+    Told ys n = (parts r s ys ≡ key-noted F P k c) × (n ≡ answer (noting-after F P k c))
+
+    pub key-held : holding F (P .held) c ≡ true → Told xs (Keys k)
     unfolding note-key
-    key-first z = rw (t, eq-eqb note 0 (sym (note-word (R .enough) N) ∙ z)) (note-set (R .enough) N c, refl)
+    key-held t = rw t (refl, refl)
 
-    module _ (nz : getD xs i 0 ≡ 0 → ⊥) where
-      taken : note ≡ 0 → ⊥
-      taken z = nz (note-word (R .enough) N ∙ z)
-
-      pub key-full : s ≤ k → Told xs Overflow
+    module _ (t : holding F (P .held) c ≡ false) {i : ℕ} (N : NoteAt r s (label c) i) where
+      pub key-first : getD xs i 0 ≡ 0 → Told (set xs i c) (Keys k)
       unfolding note-key
-      key-full u =
-          let full : length (parts r s xs .stash) ≤ k = omega (arith, parts-fit (R .enough) .stash-size) in
-          rw (t, ne-eqb note 0 taken, le-ltb k (length (parts r s xs .stash)) full) (refl, refl)
+      key-first z = rw (t, eq-eqb (note c) 0 (sym (note-word (R .enough) N) ∙ z)) (note-set (R .enough) N c, refl)
 
-      pub key-stashed : {j : ℕ} → j ≡ stash-at r s + k → k < s → Told (set xs j c) (Keys (k + 1))
-      unfolding note-key
-      key-stashed at u =
-          let free : k < length (parts r s xs .stash) = omega (arith, parts-fit (R .enough) .stash-size) in
-          rw (t, ne-eqb note 0 taken, lt-ltb k (length (parts r s xs .stash)) free) (part-set (stash-part (R .enough)) at u c, rw (add-one k))
+      module _ (nz : getD xs i 0 ≡ 0 → ⊥) where
+        taken : note c ≡ 0 → ⊥
+        taken z = nz (note-word (R .enough) N ∙ z)
 
--- the three cases of a key in the second pass
-module _ {T : List ℕ} {r s : ℕ} {xs : List ℕ} (R : Room T r s xs) (c : ℕ) where
-  pub notes-passed : holding (tables T r) (parts r s xs .held) c ≡ false → parts r s xs ≡ held-key-noted (tables T r) (parts r s xs) c
-  unfolding note-held-key
-  notes-passed t = rw t
+        pub key-full : s ≤ k → Told xs Overflow
+        unfolding note-key
+        key-full u =
+            let full : length (P .stash) ≤ k = omega (arith, parts-fit (R .enough) .stash-size) in
+            rw (t, ne-eqb (note c) 0 taken, le-ltb k (length (P .stash)) full) (refl, refl)
 
-  module _ (t : holding (tables T r) (parts r s xs .held) c ≡ true) {i : ℕ} (N : NoteAt r s (label-of (slot-0 (tables T r)) (parts r s xs .next) c) i) where
-    abbrev noted-before : ℕ
-    noted-before = getD (parts r s xs .sets) (label-of (slot-0 (tables T r)) (parts r s xs .next) c) 0
+        pub key-stashed : {j : ℕ} → j ≡ stash-at r s + k → k < s → Told (set xs j c) (Keys (k + 1))
+        unfolding note-key
+        key-stashed at u =
+            let free : k < length (P .stash) = omega (arith, parts-fit (R .enough) .stash-size) in
+            rw (t, ne-eqb (note c) 0 taken, lt-ltb k (length (P .stash)) free) (part-set (stash-part (R .enough)) at u c, rw (add-one k))
 
-    pub notes-first : getD xs i 0 ≡ 0 → parts r s (set xs i c) ≡ held-key-noted (tables T r) (parts r s xs) c
+  -- and three in the second
+  module _ (c : ℕ) where
+    pub notes-passed : holding F (P .held) c ≡ false → P ≡ held-key-noted F P c
     unfolding note-held-key
-    notes-first z = rw (t, eq-eqb noted-before 0 (sym (note-word (R .enough) N) ∙ z)) (note-set (R .enough) N c)
+    notes-passed t = rw t
 
-    pub notes-kept : (getD xs i 0 ≡ 0 → ⊥) → parts r s xs ≡ held-key-noted (tables T r) (parts r s xs) c
-    unfolding note-held-key
-    notes-kept nz = rw (t, ne-eqb noted-before 0 (λ z. nz (note-word (R .enough) N ∙ z)))
+    module _ (t : holding F (P .held) c ≡ true) {i : ℕ} (N : NoteAt r s (label c) i) where
+      pub notes-first : getD xs i 0 ≡ 0 → parts r s (set xs i c) ≡ held-key-noted F P c
+      unfolding note-held-key
+      notes-first z = rw (t, eq-eqb (note c) 0 (sym (note-word (R .enough) N) ∙ z)) (note-set (R .enough) N c)
+
+      pub notes-kept : (getD xs i 0 ≡ 0 → ⊥) → P ≡ held-key-noted F P c
+      unfolding note-held-key
+      notes-kept nz = rw (t, ne-eqb (note c) 0 (λ z. nz (note-word (R .enough) N ∙ z)))
 
 -- the i-th of the first n words is next
 pub next-key : (n : ℕ) (words : List ℕ) (i : ℕ) → n ≤ length words → i < n → drop i (take n words) ≡ getD words i 0 ∷ drop (i + 1) (take n words)
@@ -169,6 +177,7 @@ next-key n words i long l =
 pub no-key : (n : ℕ) (words : List ℕ) (i : ℕ) → n ≤ i → drop i (take n words) ≡ []
 no-key n words i l = drop-of-length-le (take n words) {i = i} (simp length-take (omega arith))
 
+-- a noting that has not ended is the one whose words are in the parts
 noting-is : (P Q : Parts) (M : Noting) {k : ℕ} → Q ≡ with-noting P M → M .overflow ≡ false → M .count ≡ k → M ≡ noting-in Q k
 noting-is P Q M e f g = rw (e, ← f, ← g)
 

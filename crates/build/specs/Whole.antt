@@ -22,7 +22,7 @@ use Rattle.build.specs.Notes.{Noting}
 use Rattle.build.specs.Built as Passes-of
 use Rattle.build.specs.Built.{linking, labels, noting, notes, held, nexts, built, canonical, linking-is, labels-is, built-tables}
 use Rattle.build.specs.Scratch.{Parts, Sized, parts, glue, with-next, parts-sized, parts-glue}
-use Rattle.build.specs.Access.{Room, Fit, parts-fit, held-sized, next-sized, sets-sized}
+use Rattle.build.specs.Access.{tables, Room, Fit, parts-fit, held-sized, next-sized, sets-sized}
 use Rattle.build.specs.Passes.{answer, noting-of, noted-parts, noted-held-parts, finished-parts, last-seen-parts, chained-parts, blanked-parts}
 use Rattle.build.specs.Passes.{noted-sized, noted-held-sized, finished-sized, last-seen-sized, chained-sized, blanked-sized, labels-fit}
 use Rattle.build.specs.Outcome.{Buildable, Build, full, made, Built, stash-keys}
@@ -70,10 +70,10 @@ verdict false false t w = fit refl (ltb-false _ _ t) (cc) (cc) (cc) (cc)
 
 -- What the build needs, read over the parts.
 module _ {r s n : ℕ} {tabulation scratch : List ℕ} (B : Buildable r s n tabulation scratch) where
-  abbrev pub F : Family
-  F = record { tabulation = tabulation; slots = r }
+  abbrev F : Family
+  F = tables tabulation r
 
-  abbrev pub P : Parts
+  abbrev P : Parts
   P = parts r s scratch
 
   abbrev S : List ℕ
@@ -191,9 +191,9 @@ module _ {r s n : ℕ} {tabulation scratch : List ℕ} (B : Buildable r s n tabu
   noted-answer g = g ∙ ap (λ (Q : Parts). answer (noting-of (F B) Q s n)) labelled-parts
 
 -- the rest, call by call: the passes change neither the keys nor, until the last two, the labels
-module _ {tabulation : List ℕ} {r s : ℕ} {x0 : List ℕ} (R : Room tabulation r s x0) (n : ℕ) (C : Chainable (record { tabulation = tabulation; slots = r }) n (parts r s x0)) where
+module _ {tabulation : List ℕ} {r s : ℕ} {x0 : List ℕ} (R : Room tabulation r s x0) (n : ℕ) (C : Chainable (tables tabulation r) n (parts r s x0)) where
   abbrev T : Family
-  T = record { tabulation = tabulation; slots = r }
+  T = tables tabulation r
 
   abbrev Q0 : Parts
   Q0 = parts r s x0
