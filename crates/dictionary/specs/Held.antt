@@ -39,23 +39,23 @@ module _ {P : Params} {S ws : List ℕ} (h : Holds P S ws) where
   held-some = sized (P .slots) (P .places) (h .range) .some
 
   -- such words say r and s, and their set
-  pub held-params : params-of (P .tabulation) ws ≡ P
+  held-params : params-of (P .tabulation) ws ≡ P
   held-params = image-of-params (h .is)
 
-  pub held-keys : keys-in ws ≡ S
+  held-keys : keys-in ws ≡ S
   held-keys = image-of-keys (h .is) held-some
 
   pub held-shaped : shaped ws ≡ true
   held-shaped = rw (h .is .is) (image-shaped P S (h .range) (h .is .fit))
 
-  pub held-canonical : canonical (P .tabulation) ws ≡ true
+  held-canonical : canonical (P .tabulation) ws ≡ true
   held-canonical = rw (h .is .is) (image-canonical P S (h .range) (h .is .valid) (h .is .fit))
 
   held-scratch : scratch-length (slots-of ws) (places-of ws) ≡ scratch-length (P .slots) (P .places)
   held-scratch = ap (λ (Q : Params). scratch-length (Q .slots) (Q .places)) held-params
 
 -- Words that pass hold the set of the keys that stand in them.
-pub passed-holds : (tabulation ws : List ℕ) → shaped ws ≡ true → canonical tabulation ws ≡ true → Holds (params-of tabulation ws) (keys-in ws) ws
+passed-holds : (tabulation ws : List ℕ) → shaped ws ≡ true → canonical tabulation ws ≡ true → Holds (params-of tabulation ws) (keys-in ws) ws
 passed-holds tabulation ws formed c = record { range = sized-true (slots-of ws) (places-of ws) (shape ws formed .sizes); is = canonical-true tabulation ws c }
 
 -- the new set
@@ -67,7 +67,7 @@ inserted-in key S d = (λ i. with-cases key S i, λ c. elim c [ inl e ↦ rw e (
 pub removed-in : (key : ℕ) (S : List ℕ) (d : ℕ) → In d (changed Remove key S) ↔ (In d S × (key ≡ d → ⊥))
 removed-in key S d = (λ i. (out-in key S i, out-ne key S i), λ p. in-out key S (p .1) (p .0))
 
-pub with-valid : (key : ℕ) {S : List ℕ} → blank key ≡ false → ValidSet S → ValidSet (with-key key S)
+with-valid : (key : ℕ) {S : List ℕ} → blank key ≡ false → ValidSet S → ValidSet (with-key key S)
 with-valid key {S} b valid = record {
   asc = asc-with key (valid .asc);
   solid = λ d i. elim (with-cases key S i) [ inl e ↦ rw e b | inr k ↦ valid .solid d k ];
@@ -114,7 +114,7 @@ module _ (P : Params) (key : ℕ) (S : List ℕ) where
       (a .0, not-false _ (b .0))
 
 -- A change that is not refused leads to a set that fits: an insert since 8 was tried, a removal in any case.
-pub accepts-fits : (kind : Change) (P : Params) (key : ℕ) {S : List ℕ} → ValidSet S → fits P S ≡ true
+accepts-fits : (kind : Change) (P : Params) (key : ℕ) {S : List ℕ} → ValidSet S → fits P S ≡ true
     → first-refusal ((blank-key, blank key) ∷ set-refusals kind P key S) ≡ done → (blank key ≡ false) × (fits P (changed kind key S) ≡ true)
 accepts-fits Insert P key {S} valid e a = let p = insert-accepts P key S a in (p .0, p .2)
 accepts-fits Remove P key {S} valid e a = let p = remove-accepts P key S a in (p .0, without-fits P valid key e)
@@ -144,7 +144,7 @@ module _ {P : Params} {S ws : List ℕ} (h : Holds P S ws) (full : length (P .ta
       rw (eq-eqb (length (P .tabulation)) tabulation-length full, held-shaped h, held-canonical h, held-scratch h)
 
   module _ (scratch : List ℕ) (room : scratch-length (P .slots) (P .places) ≤ length scratch) (key : ℕ) where
-    pub held-set : (kind : Change)
+    held-set : (kind : Change)
         → change-refusal kind (P .tabulation) ws scratch key ≡ first-refusal ((blank-key, blank key) ∷ set-refusals kind P key S)
     held-set kind = held-refusal kind scratch key ∙ (rw (le-ltb (length scratch) (scratch-length (P .slots) (P .places)) room))
 
@@ -222,7 +222,7 @@ pub held-changed : {P : Params} {S ws : List ℕ} → Holds P S ws → (kind : C
 held-changed {P} {S} {ws} h kind scratch key e = rw (held-params h, held-keys h) at (change-accepted kind (P .tabulation) ws scratch key e)
 
 -- An insert that comes to the test of 8 is one of a new key,
-pub held-tried : {P : Params} {S ws : List ℕ} → Holds P S ws → (scratch : List ℕ) (key : ℕ)
+held-tried : {P : Params} {S ws : List ℕ} → Holds P S ws → (scratch : List ℕ) (key : ℕ)
     → (change-outcome Insert (P .tabulation) ws scratch key .answer ≡ done) ⊎ (change-outcome Insert (P .tabulation) ws scratch key .answer ≡ stash-full)
     → Ready (P .tabulation) ws scratch × (blank key ≡ false) × (member key S ≡ false)
 held-tried {P} {S} {ws} h scratch key d =

@@ -58,7 +58,7 @@ part {P} cs ds q =
     record { full = q .full; before = q .before; accepted = q .accepted; laid = q .laid; allowed = allowed-part (P .tabulation) cs ds (q .allowed) }
 
 -- and the rest goes on with the words that it left
-pub run-rest : (t ws : List ℕ) (cs ds : List Call) → run t ws (cs ++ ds) ≡ run t ws cs ++ run t (words-after t ws cs) ds
+run-rest : (t ws : List ℕ) (cs ds : List Call) → run t ws (cs ++ ds) ≡ run t ws cs ++ run t (words-after t ws cs) ds
 unfolding run words-after
 run-rest t ws [] ds = refl
 run-rest t ws (c ∷ cs) ds = rw (run-rest t (step t ws c .words) cs ds)
@@ -87,7 +87,7 @@ pub data Like (t : List ℕ) : Call → Call → Type 0 where
   other : (x x′ : Other) → ((ws : List ℕ) → x .answer ws ≡ x′ .answer ws) → ((ws : List ℕ) → x .words ws ≡ x′ .words ws)
       → Like t (Call.other x) (Call.other x′)
 
-pub like-step : (t ws : List ℕ) {c c′ : Call} → Like t c c′ → step t ws c ≡ step t ws c′
+like-step : (t ws : List ℕ) {c c′ : Call} → Like t c c′ → step t ws c ≡ step t ws c′
 unfolding step
 like-step t ws (change kind {l} {l′} {scratch} {scratch′} counters counters′ key e f) =
     rw (e, change-any-scratch (lent-of t l′) ws scratch scratch′ f kind key)
@@ -101,7 +101,7 @@ pub data Alike (t : List ℕ) : List Call → List Call → Type 0 where
   end : Alike t [] []
   then : {c c′ : Call} {cs cs′ : List Call} → Like t c c′ → Alike t cs cs′ → Alike t (c ∷ cs) (c′ ∷ cs′)
 
-pub alike-run : (t ws : List ℕ) {cs cs′ : List Call} → Alike t cs cs′ → run t ws cs ≡ run t ws cs′
+alike-run : (t ws : List ℕ) {cs cs′ : List Call} → Alike t cs cs′ → run t ws cs ≡ run t ws cs′
 unfolding run
 alike-run t ws end = refl
 alike-run t ws (then {c} {c′} {cs} {cs′} l a) = rw (like-step t ws l, alike-run t (step t ws c′ .words) a)

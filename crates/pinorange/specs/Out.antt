@@ -5,7 +5,7 @@ use mathlib.Core.Path.{_≡_, refl, ap}
 use mathlib.Core.Bool.{Bool, cond, true, false}
 use mathlib.Core.List.{List, [], _∷_}
 use lib.Dec.{eqb}
-use lib.ListN.{length, take, drop}
+use lib.ListN.{take, drop}
 use Rattle.tabulation.specs.Refusal.{done}
 use Rattle.layout.specs.Layout.{slots-of, stash-count, stash-at}
 use Rattle.layout.specs.Answers.{lookup-values, view-refusal, view-of}
