@@ -4,7 +4,6 @@ ghost use mathlib.Core.Path.{_≡_};
 ghost use mathlib.Core.Bool.{cond};
 ghost use Prim.Native.Nat.{_+_, _*_, _≤_, _<_};
 ghost use lib.Dec.{ltb};
-ghost use lib.ListN.{replicate};
 ghost use Rattle.forest.specs.Held.{rerooted};
 ghost use Rattle.partition.specs.Words.{Representative, Mergeable, rep-of, size-of, united};
 ghost use Rattle.build.specs.Scratch.{parts, glue, with-held, with-sets};
@@ -160,14 +159,4 @@ pub fn label_slots(scratch: &mut [u32], r: u32, s: u32)
         scratch[at] = label;
         v += 1;
     }
-}
-
-// With the labels made the partition is done with: its words are cleared for the notes.
-pub fn clear_sets(scratch: &mut [u32], r: u32, s: u32)
-    requires { ⌜ Enough r s (now scratch) ⌝ }
-    ensures { λ _. ⌜ now (scratch .exit) ≡ glue (with-sets (parts r s (now (scratch .entry))) (replicate (2 * r) 0)) ⌝ }
-{
-    let start = sets_start(r, s);
-    let end = stash_start(r, s);
-    words::fill(&mut scratch[start..end], 0);
 }

@@ -4,7 +4,6 @@ use native.Mathlib.Omega.{arith}
 use lib.ListN.{length, length-append}
 use Rattle.lines.specs.Decimal.{digits-32, digits-64}
 use Rattle.lines.specs.Row.{answer-row, insert-row, remove-row, lookup-row, error-row, slot-row, stash-row, book-row, row-room}
-use Rattle.lines.specs.declared.Looked.{Looked}
 use Rattle.lines.specs.declared.Looked.the-variants.{Present, Absent, Refused}
 
 -- the bytes of the buffer that rows are gathered in

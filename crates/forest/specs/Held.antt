@@ -1,21 +1,21 @@
 -- The words `held` at the slots that a tabulation gives: what the contracts of this crate cite, and every law that the crates above use.
 -- F is a tabulation and a number of slots to a table (`Family`); its slots are 0 to 2r − 1, and `held` has 2r words. Assumes nothing.
 use Prim.Native.Nat.{ℕ, suc, _*_, _<_, _≤_}
-use mathlib.Core.Path.{_≡_, sym, _∙_}
-use mathlib.Core.Bool.{Bool, true, false, cond}
-use mathlib.Core.List.{List, _∷_, List·Memᴰ as In}
+use mathlib.Core.Path.{_≡_, sym}
+use mathlib.Core.Bool.{Bool, cond}
+use mathlib.Core.List.{List, _∷_}
 use native.Mathlib.Omega.{arith}
 use lib.Dec.{ltb}
 use lib.ListN.{length}
 use borrow.Author.Tests.{lt-ltb, le-ltb}
 use Rattle.tabulation.specs.Hash.{Family}
 use Rattle.tabulation.specs.Slots.{slot-0, slot-1, slot-0-lt, slot-1-le, slot-1-lt, slots-apart}
-use Rattle.cuckoo.specs.Joined.{Joined, edge}
+use Rattle.cuckoo.specs.Joined.{Joined}
 use Rattle.cuckoo.specs.Seating.{Ends, from-a, from-b}
-use Rattle.forest.specs.Oriented.{Oriented, OrientedForest, standing, standing-true, standing-false}
-use Rattle.forest.specs.Reroot.{reroot, length-reroot}
+use Rattle.forest.specs.Oriented.{Oriented, OrientedForest, standing}
+use Rattle.forest.specs.Reroot.{reroot}
 use Rattle.forest.specs.Way.{lowest-slot}
-use Rattle.forest.specs.Link.{Once, one-more, keys-fit, links}
+use Rattle.forest.specs.Link.{Once, keys-fit, links}
 use Rattle.forest.specs.Finish.{finish-tree, exchange, finish-cycle, Spanned, TreeComponent, CycleComponent, Finished, finishes-tree, finishes-cycle}
 
 -- the other slot of a key that stands in a slot
@@ -51,14 +51,6 @@ finished-cycle F h key = finish-cycle (slot-0 F) (slot-1 F) (other F) (budget F)
 abbrev pub holding : Family → List ℕ → ℕ → Bool
 holding F h key = standing (slot-0 F) (slot-1 F) h key
 
--- of an oriented forest the keys that `held` holds are those of the forest
-module _ (F : Family) {G h : List ℕ} {key : ℕ} (W : OrientedForest (slot-0 F) (slot-1 F) G h) where
-  pub holding-true : In key G → holding F h key ≡ true
-  holding-true i = standing-true W i
-
-  pub holding-false : (key ≡ 0 → ⊥) → (In key G → ⊥) → holding F h key ≡ false
-  holding-false nz n = standing-false W nz n
-
 module _ (F : Family) (some : 0 < F .slots) where
   -- `other` is the other of a key's two slots, and the slots of a key have words
   pub other-end : (key v w : ℕ) → Ends (slot-0 F) (slot-1 F) key v w → other F v key ≡ w
@@ -75,12 +67,6 @@ module _ (F : Family) (some : 0 < F .slots) where
       (apart : Joined (slot-0 F) (slot-1 F) G (slot-0 F key) (slot-1 F key) → ⊥) where
     pub link-oriented : OrientedForest (slot-0 F) (slot-1 F) (key ∷ G) (rerooted F h key v)
     link-oriented = links other-end (slot-count F) slots-fit (budget F) (omega (arith, keys-fit W once)) W size nz e apart
-
-    pub link-once : Once (key ∷ G)
-    link-once = one-more (λ i. apart (edge i)) once
-
-    pub link-size : length (rerooted F h key v) ≡ slot-count F
-    link-size = length-reroot (other F) (budget F) h key v ∙ size
 
   -- A component is finished by its smallest key, or by its key outside the forest.
   module _ {K T : List ℕ} (P : Spanned (slot-0 F) (slot-1 F) K T) (few : length T ≤ slot-count F) {h : List ℕ} {key : ℕ}

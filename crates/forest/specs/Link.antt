@@ -13,7 +13,7 @@ use Rattle.cuckoo.specs.Sets.{eq?, Sub, in-out, out-shorter, asc-keep, Asc, non
 use Rattle.cuckoo.specs.Joined.{Joined, jrefl, jsym, jtrans, mono, within, more, joined?, true-joined, false-joined}
 use Rattle.cuckoo.specs.Seating.{Ends, ends-flip, ends-edge, ends-cycle}
 use Rattle.cuckoo.specs.Forest.{forest, forest-in, forest-no, in-forest, spans-key}
-use Rattle.forest.specs.Oriented.{off-set, emptied, Forest, Oriented, OrientedForest, end-near, forest-sub, forest-more, recast, move, join}
+use Rattle.forest.specs.Oriented.{off-set, emptied, Forest, Oriented, OrientedForest, end-near, forest-more, recast, move, join}
 use Rattle.forest.specs.Reroot.{reroot, Rerooted, reroots, ends-fit}
 
 -- a list that has no key twice
@@ -166,15 +166,6 @@ module _ (a b : ℕ → ℕ) where
     all-F = λ x i l. absurd (omega arith);
     low = λ x i. elim i [ ];
   })
-
-  -- So when all keys of S have been through, `held` is an oriented forest of the forest of S, which has no more keys than there are slots.
-  pub grow-oriented : {S h : List ℕ} → Asc S → OrientedForest a b (grow S []) h → OrientedForest a b (forest a b S) h
-  grow-oriented asc W =
-      let g = grow-is asc in
-      record {
-        forest = forest-sub (g .1) (W .forest);
-        each = λ p. recast (λ c i k. g .0 c i) (λ c i k. g .1 c i) jrefl (λ x k. refl) (W .each p);
-      }
 
   pub forest-fits : {S h : List ℕ} → Asc S → OrientedForest a b (forest a b S) h → length (forest a b S) ≤ length h
   unfolding forest

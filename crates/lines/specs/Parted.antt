@@ -3,11 +3,11 @@
 use Prim.Native.Nat.{ℕ, suc, _+_, _-_, _≤_, _<_}
 use mathlib.Core.Path.{_≡_, refl, sym, _∙_, ap}
 use mathlib.Core.Bool.{cond}
-use mathlib.Core.List.{List, [], _∷_, _++_, append-nil, append-assoc}
+use mathlib.Core.List.{List, [], _∷_, _++_, append-nil}
 use native.Mathlib.Omega.{arith}
 use lib.Dec.{eqb}
 use lib.ListN.{length, take, drop, getD, length-append, length-drop, drop-of-length-le}
-use lib.Seq.{take-all, take-append-seam, drop-cons, append-snoc, split-at}
+use lib.Seq.{take-all, take-append-seam, drop-cons, append-snoc}
 use mathlib.Core.Logic.{inl, inr}
 use native.Mathlib.Numerals.{add-one}
 use borrow.Author.Tests.{eq-eqb, ne-eqb}
@@ -144,15 +144,6 @@ module _ (sep : ℕ) where
   unfolding place-of
   place-byte b n = rw (ne-eqb b sep n)
 
-  pub place-before : (t : List ℕ) → Lacks sep (take (place-of sep t) t)
-  unfolding place-of
-  place-before [] = refl
-  place-before (b ∷ t) =
-      elim (eq? b sep) [
-        | inl e ↦ rw (eq-eqb b sep e)
-        | inr n ↦ rw (ne-eqb b sep n) (rw (ne-eqb b sep n) (ap suc (place-before t)))
-      ]
-
   -- there is always a piece
   pub parted-some : (t : List ℕ) → (p : List ℕ) × ((ps : List (List ℕ)) × (parted sep t ≡ p ∷ ps))
   unfolding parted
@@ -185,16 +176,6 @@ lines-last b p e = rw (parted-one newline (b ∷ p) e)
 -- "nothing after the last newline is no line"
 pub lines-closed : (p : List ℕ) → Lacks newline p → lines-of (p ++ (newline ∷ [])) ≡ p ∷ []
 lines-closed p e = lines-ended p [] e ∙ ap (λ (ls : List (List ℕ)). p ∷ ls) lines-none
-
--- with p held of the current line and the first newline of what comes at a place: `find`, `feed_all` and the next line
-pub lines-next : (p t : List ℕ) → Lacks newline p → place-of newline t < length t
-    → lines-of (p ++ t) ≡ (p ++ take (place-of newline t) t) ∷ lines-of (drop (suc (place-of newline t)) t)
-lines-next p t e h =
-    let k = place-of newline t in
-    let s = split-at t k 0 h ∙ ap (λ (b : ℕ). take k t ++ (b ∷ drop (suc k) t)) (place-at newline t h) in
-    ap (λ (r : List ℕ). lines-of (p ++ r)) s
-    ∙ ap lines-of (sym (append-assoc p (take k t) (newline ∷ drop (suc k) t)))
-    ∙ lines-ended (p ++ take k t) (drop (suc k) t) (place-join newline p (take k t) e (place-before newline t))
 
 -- what a reader hands on that takes the input byte by byte and has p of the current line: at a newline p, and at the end p if it is not empty
 unfoldable pub read-on : List ℕ → List ℕ → List (List ℕ)

@@ -210,19 +210,6 @@ pub fn feed(line: Line, byte: u8) -> Line
     next
 }
 
-// Any number of bytes more.
-pub fn feed_all(line: Line, bytes: &[u8]) -> Line
-    ensures { λ r. ⌜ ((l : List ℕ) → Holds line l → Holds r (l ++ now (bytes .entry))) ⌝ }
-{
-    let mut next = line;
-    let mut i = 0;
-    while i < bytes.len() {
-        next = feed(next, bytes[i]);
-        i += 1;
-    }
-    next
-}
-
 // Whether nothing of the line was read yet: at the end of the input, that there is no line.
 pub fn is_empty(line: Line) -> bool
     ensures { λ r. ⌜ ((l : List ℕ) → Holds line l → r ≡ eqb (length l) 0) ⌝ }
