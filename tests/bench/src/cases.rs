@@ -1,6 +1,7 @@
 //! What is measured: books and sets of keys of a wanted size that fit.
 
 use std::collections::BTreeSet;
+use std::fmt;
 
 use reference::hash::hashes;
 use reference::house::HOUSE;
@@ -22,18 +23,47 @@ pub struct Board {
     pub words: Vec<u32>,
 }
 
+/// How many keys a dictionary has, and how they meet.
+#[derive(Clone, Copy)]
+pub enum Load {
+    /// Random keys under the house book, this many to a hundred slots.
+    Percent(usize),
+    /// Random keys under the house book, all that fit but one: every slot is filled, and the stash but for one place.
+    Full,
+    /// One path through all slots; see [`path`].
+    Path,
+    /// All keys have the same two slots: two sit, 63 are stashed, and one more fits.
+    OnePlace,
+}
+
+impl fmt::Display for Load {
+    fn fmt(&self, f: &mut fmt::Formatter) -> fmt::Result {
+        match self {
+            Load::Percent(percent) => write!(f, "{percent} %"),
+            Load::Full => write!(f, "full"),
+            Load::Path => write!(f, "path"),
+            Load::OnePlace => write!(f, "one place"),
+        }
+    }
+}
+
 /// What is measured in one row of a table: dictionaries of one size and load, under one tabulation.
 pub struct Case {
-    /// What load or shape it has.
-    pub load: String,
+    pub load: Load,
     pub r: u32,
     pub tabulation: Vec<u16>,
     pub boards: Vec<Board>,
 }
 
 impl Case {
-    /// Each set of keys makes a board; its last key is the extra one.
-    fn new(load: String, r: u32, tabulation: Vec<u16>, sets: Vec<Vec<u32>>) -> Case {
+    pub fn new(r: u32, load: Load) -> Case {
+        let (tabulation, sets) = match load {
+            Load::Percent(percent) => house(r, 2 * r as usize * percent / 100),
+            Load::Full => house(r, 2 * r as usize + PLACES as usize - 1),
+            Load::Path => path(r),
+            Load::OnePlace => (vec![0; 2_048], vec![(1..=PLACES + 2).collect()]),
+        };
+        // The last key of a set is the extra one.
         let board = |mut keys: Vec<u32>| {
             let extra = keys.pop().expect("a set of a case has keys");
             keys.sort_unstable();
@@ -120,28 +150,21 @@ fn fitting_keys(rng: &mut Rng, tabulation: &[u16], r: u32, count: usize) -> Vec<
     keys
 }
 
-/// The house book with random keys.
-fn house(load: String, r: u32, count: usize) -> Case {
+/// A book and the sets of keys to use with it.
+type Sets = (Vec<u16>, Vec<Vec<u32>>);
+
+/// The house book, and sets of one key more than `count`.
+fn house(r: u32, count: usize) -> Sets {
     let set = |seed: u64| {
         let mut rng = Rng::new(u64::from(r) << 32 | (count as u64) << 8 | seed);
         fitting_keys(&mut rng, &HOUSE, r, count + 1)
     };
-    Case::new(load, r, HOUSE.to_vec(), (0..SETS).map(set).collect())
-}
-
-/// As many keys as `percent` of the slots.
-fn loaded(r: u32, percent: usize) -> Case {
-    house(format!("{percent} %"), r, 2 * r as usize * percent / 100)
-}
-
-/// All the keys that fit but one: every slot is filled, and the stash but for one place.
-fn full(r: u32) -> Case {
-    house("full".to_string(), r, 2 * r as usize + PLACES as usize - 1)
+    (HOUSE.to_vec(), (0..SETS).map(set).collect())
 }
 
 /// A book under which the keys 1 to 2r - 1 are one path through all slots, and ascending they join stretches of one length, doubling it: every set is
 /// deep, and half of it moves. `r` is a power of two from 128 on.
-fn path(r: u32) -> Case {
+fn path(r: u32) -> Sets {
     let bits = (2 * r).trailing_zeros();
     // Key k is edge e of the path, its bits reversed: the highest bit of k says whether e is even.
     let edge = |k: u32| k.reverse_bits() >> (32 - bits);
@@ -159,26 +182,14 @@ fn path(r: u32) -> Case {
     let extra = 1 << (bits - 1);
     let mut keys: Vec<u32> = (1..2 * r).filter(|k| *k != extra).collect();
     keys.push(extra);
-    Case::new("path".to_string(), r, tabulation, vec![keys])
-}
-
-/// A book under which all keys have the same two slots: two sit, 63 are stashed, and one more fits.
-fn one_place(r: u32) -> Case {
-    let keys = (1..=PLACES + 2).collect();
-    Case::new("one place".to_string(), r, vec![0; 2_048], vec![keys])
+    (tabulation, vec![keys])
 }
 
 /// The sizes that are measured. The first and the last are compared.
-const SIZES: [u32; 3] = [128, 512, 1_024];
+pub const SIZES: [u32; 3] = [128, 512, 1_024];
 
-/// The cases of one size.
-fn of_size(r: u32) -> Vec<Case> {
-    let mut cases: Vec<Case> = [12, 25, 49, 73].map(|percent| loaded(r, percent)).into();
-    cases.extend([full(r), path(r), one_place(r)]);
-    cases
-}
-
-/// All cases, size by size, in the order of the tables.
-pub fn all() -> Vec<Vec<Case>> {
-    SIZES.map(of_size).into()
-}
+/// The loads at each size.
+#[rustfmt::skip]
+pub const LOADS: [Load; 7] = [
+    Load::Percent(12), Load::Percent(25), Load::Percent(49), Load::Percent(73), Load::Full, Load::Path, Load::OnePlace,
+];

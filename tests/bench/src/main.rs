@@ -9,7 +9,7 @@ use std::collections::HashSet;
 use std::hint::black_box;
 use std::time::Instant;
 
-use cases::{Board, Case};
+use cases::{Board, Case, LOADS, SIZES};
 use library::{Change, Counters};
 
 /// The calls of one partner.
@@ -33,53 +33,76 @@ const TWIN: Partner = Partner {
     lookup: twin::lookup,
 };
 
-const ROUNDS: usize = 60;
+const ROUNDS: usize = 100;
 
-/// Nanoseconds of insert, remove and check.
-type Times = [f64; 3];
+/// A number for each of insert, remove and check.
+type Calls = [f64; 3];
 
-/// Keeps the time of a call if it is the shortest so far. The call must be accepted.
-fn keep_time(best: &mut f64, call: impl FnOnce() -> u32) {
+/// What is found of a case: the library's nanoseconds, of each board the shortest, and the mean over the boards; and the library's time to the twin's, the
+/// median over all pairs of calls that followed each other at once, so that a processor that changes its speed does not change the ratio.
+struct Found {
+    nanoseconds: Calls,
+    ratios: Calls,
+}
+
+/// The time of a call, in nanoseconds. The call must be accepted.
+fn time(call: impl FnOnce() -> u32) -> f64 {
     let start = Instant::now();
     let answer = call();
     let time = start.elapsed().as_nanos() as f64;
     assert_eq!(answer, 0, "a call of a case is refused");
-    *best = best.min(time);
+    time
 }
 
-/// One round of a partner: the extra key into every board, then out of every board, then a check of every board. The boards are taken in turn for each call,
-/// so that a call does not find what the one before it did with the same set.
-fn round(partner: &Partner, case: &Case, scratch: &mut [u32], best: &mut [Times]) {
+fn median(mut numbers: Vec<f64>) -> f64 {
+    numbers.sort_by(f64::total_cmp);
+    numbers[numbers.len() / 2]
+}
+
+/// One call of a partner on its words of a board: 0 insert, 1 remove, 2 check.
+fn call(
+    partner: &Partner,
+    number: usize,
+    case: &Case,
+    extra: u32,
+    words: &mut [u32],
+    scratch: &mut [u32],
+) -> u32 {
     let book = &case.tabulation;
     let mut counters = Counters::default();
-    let mut all: Vec<Vec<u32>> = case.boards.iter().map(|board| board.words.clone()).collect();
-    let boards = || case.boards.iter();
-    for ((board, words), best) in boards().zip(&mut all).zip(&mut *best) {
-        let call = || (partner.insert)(book, words, scratch, &mut counters, board.extra);
-        keep_time(&mut best[0], call);
+    match number {
+        0 => (partner.insert)(book, words, scratch, &mut counters, extra),
+        1 => (partner.remove)(book, words, scratch, &mut counters, extra),
+        _ => (partner.check)(book, words, scratch),
     }
-    for ((board, words), best) in boards().zip(&mut all).zip(&mut *best) {
-        let call = || (partner.remove)(book, words, scratch, &mut counters, board.extra);
-        keep_time(&mut best[1], call);
-    }
-    for (words, best) in all.iter().zip(best) {
-        keep_time(&mut best[2], || (partner.check)(book, words, scratch));
-    }
-    assert!(boards().zip(&all).all(|(board, words)| board.words == *words), "{}", case.name());
 }
 
-/// The times of both partners, whose rounds alternate: of each board the shortest, and the mean over the boards.
-fn changes(case: &Case) -> [Times; 2] {
+/// In each round the extra key goes into every board, then out of every board, then every board is checked. The boards are taken in turn for each call, so that
+/// a call does not find what the one before it did with the same set; on each board the partners follow each other, in turn the one or the other first.
+fn changes(case: &Case) -> Found {
     let mut scratch = case.scratch();
-    let mut best = [vec![[f64::MAX; 3]; case.boards.len()], vec![[f64::MAX; 3]; case.boards.len()]];
-    for _ in 0..ROUNDS {
-        for (partner, best) in [&LIBRARY, &TWIN].into_iter().zip(&mut best) {
-            round(partner, case, &mut scratch, best);
+    let words: Vec<Vec<u32>> = case.boards.iter().map(|board| board.words.clone()).collect();
+    let mut words = [words.clone(), words];
+    let mut best = vec![[f64::MAX; 3]; case.boards.len()];
+    let mut ratios = [const { Vec::new() }; 3];
+    for round in 0..ROUNDS {
+        for number in 0..3 {
+            for (i, board) in case.boards.iter().enumerate() {
+                let mut times = [0.0; 2];
+                for turn in 0..2 {
+                    let who = (round + turn) % 2;
+                    let (partner, words) = ([&LIBRARY, &TWIN][who], &mut words[who][i]);
+                    times[who] =
+                        time(|| call(partner, number, case, board.extra, words, &mut scratch));
+                }
+                assert_eq!(words[0][i], words[1][i], "the partners differ: {}", case.name());
+                best[i][number] = best[i][number].min(times[0]);
+                ratios[number].push(times[0] / times[1]);
+            }
         }
     }
-    best.map(|times| {
-        [0, 1, 2].map(|call| times.iter().map(|t| t[call]).sum::<f64>() / times.len() as f64)
-    })
+    let mean = |number: usize| best.iter().map(|b| b[number]).sum::<f64>() / best.len() as f64;
+    Found { nanoseconds: [0, 1, 2].map(mean), ratios: ratios.map(median) }
 }
 
 /// As many keys as the board has, none of them in it.
@@ -89,7 +112,7 @@ fn others(board: &Board) -> Vec<u32> {
     spread.filter(|key| *key != 0 && !inside.contains(key)).take(inside.len()).collect()
 }
 
-/// Nanoseconds of a lookup of some keys, the shortest of many rounds: library, twin, and std's HashSet.
+/// A lookup of some keys: the library's nanoseconds, the shortest of many rounds, and the medians of its time to the twin's and to that of std's HashSet.
 fn lookups(case: &Case, board: &Board, asked: &[u32]) -> [f64; 3] {
     let set: HashSet<u32> = board.keys.iter().copied().collect();
     let by = |partner: &Partner, key: u32| {
@@ -102,55 +125,49 @@ fn lookups(case: &Case, board: &Board, asked: &[u32]) -> [f64; 3] {
         black_box(asked.iter().map(|key| find(*key)).sum::<u32>());
         start.elapsed().as_nanos() as f64 / asked.len() as f64
     };
-    let mut best = [f64::MAX; 3];
-    for _ in 0..20 * ROUNDS {
-        let times = [
+    let rounds = (0..20 * ROUNDS).map(|_| {
+        [
             time(&|key| by(&LIBRARY, key)),
             time(&|key| by(&TWIN, key)),
             time(&|key| u32::from(set.contains(&key))),
-        ];
-        for (best, time) in best.iter_mut().zip(times) {
-            *best = best.min(time);
-        }
-    }
-    best
+        ]
+    });
+    let times: Vec<[f64; 3]> = rounds.collect();
+    let ratio = |partner: usize| median(times.iter().map(|t| t[0] / t[partner]).collect());
+    [times.iter().map(|t| t[0]).fold(f64::MAX, f64::min), ratio(1), ratio(2)]
 }
 
-fn print_changes(sizes: &[Vec<Case>]) {
+fn print_changes(sizes: &[[Case; LOADS.len()]]) {
     println!("| case | keys | insert µs | ratio | remove µs | ratio | check µs | ratio |");
     println!("|---|---|---|---|---|---|---|---|");
-    let times: Vec<Vec<[Times; 2]>> =
+    let found: Vec<Vec<Found>> =
         sizes.iter().map(|cases| cases.iter().map(changes).collect()).collect();
-    for (case, [ours, theirs]) in sizes.iter().flatten().zip(times.iter().flatten()) {
+    for (case, found) in sizes.iter().flatten().zip(found.iter().flatten()) {
         print!("| {} | {} |", case.name(), case.keys());
-        for (our, their) in ours.iter().zip(theirs) {
-            print!(" {:.1} | {:.2} |", our / 1_000.0, our / their);
+        for (time, ratio) in found.nanoseconds.iter().zip(found.ratios) {
+            print!(" {:.1} | {ratio:.2} |", time / 1_000.0);
         }
         println!();
     }
     let (first, last) = (&sizes[0], &sizes[sizes.len() - 1]);
     println!("\n| r = {} against r = {} | insert | remove | check |", last[0].r, first[0].r);
     println!("|---|---|---|---|");
-    for ((case, small), large) in first.iter().zip(&times[0]).zip(&times[sizes.len() - 1]) {
-        let growth = [0, 1, 2].map(|call| format!("{:.1}", large[0][call] / small[0][call]));
+    for ((case, small), large) in first.iter().zip(&found[0]).zip(&found[sizes.len() - 1]) {
+        let growth = large.nanoseconds.iter().zip(small.nanoseconds);
+        let growth: Vec<String> = growth.map(|(l, s)| format!("{:.1}", l / s)).collect();
         println!("| {} | {} |", case.load, growth.join(" | "));
     }
 }
 
 fn print_lookups<'a>(cases: impl Iterator<Item = &'a Case>) {
-    println!("\n| lookup | keys | library ns | twin ns | ratio | HashSet ns | ratio |");
-    println!("|---|---|---|---|---|---|---|");
+    println!("\n| lookup | keys | library ns | to the twin | to HashSet |");
+    println!("|---|---|---|---|---|");
     for case in cases {
         let board = &case.boards[0];
         for (what, asked) in [("its keys", board.keys.clone()), ("others", others(board))] {
             let [ours, twin, std] = lookups(case, board, &asked);
-            println!(
-                "| {}, {what} | {} | {ours:.1} | {twin:.1} | {:.2} | {std:.1} | {:.2} |",
-                case.name(),
-                asked.len(),
-                ours / twin,
-                ours / std
-            );
+            let name = format!("{}, {what}", case.name());
+            println!("| {name} | {} | {ours:.1} | {twin:.2} | {std:.2} |", asked.len());
         }
     }
 }
@@ -180,17 +197,22 @@ fn one(partner: &str, call: &str, case: &Case) {
 fn main() {
     let words: Vec<String> = std::env::args().skip(1).collect();
     let words: Vec<&str> = words.iter().map(String::as_str).collect();
-    let sizes = cases::all();
-    let mut cases = sizes.iter().flatten();
+    let of_size = |r: u32| LOADS.map(|load| Case::new(r, load));
     match words[..] {
         [] => {
+            let sizes = SIZES.map(of_size);
             print_changes(&sizes);
-            print_lookups(cases);
+            print_lookups(sizes.iter().flatten());
         }
-        ["cases"] => cases.for_each(|case| println!("{}|{}", case.name(), case.keys())),
+        ["cases"] => SIZES
+            .map(of_size)
+            .iter()
+            .flatten()
+            .for_each(|case| println!("{}|{}", case.name(), case.keys())),
         ["one", partner, call, number] => {
             let number: usize = number.parse().expect("the number of a case");
-            one(partner, call, cases.nth(number).expect("a case"))
+            let (size, load) = (number / LOADS.len(), number % LOADS.len());
+            one(partner, call, &Case::new(SIZES[size], LOADS[load]))
         }
         _ => panic!("see the top of main.rs"),
     }

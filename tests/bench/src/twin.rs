@@ -7,14 +7,19 @@ use library::Counters;
 const TABULATION_LENGTH: usize = 2_048;
 const HEADER: usize = 4;
 
+/// The slot of a key in a table of r slots.
+#[inline]
+fn hash(tabulation: &[u16; TABULATION_LENGTH], table: usize, r: u32, key: u32) -> u32 {
+    let bytes = key.to_le_bytes();
+    let entry = |i: usize| u32::from(tabulation[1_024 * table + 256 * i + usize::from(bytes[i])]);
+    (entry(0) + entry(1) + entry(2) + entry(3)) % r
+}
+
 /// The two slots of a key in the row of both tables' slots.
 #[inline]
 fn ends(tabulation: &[u16; TABULATION_LENGTH], r: u32, key: u32) -> (usize, usize) {
-    let [b0, b1, b2, b3] = key.to_le_bytes().map(usize::from);
-    let entry = |i: usize| u32::from(tabulation[i]);
-    let sum0 = entry(b0) + entry(256 + b1) + entry(512 + b2) + entry(768 + b3);
-    let sum1 = entry(1_024 + b0) + entry(1_280 + b1) + entry(1_536 + b2) + entry(1_792 + b3);
-    ((sum0 % r) as usize, (r + sum1 % r) as usize)
+    let [first, second] = [0, 1].map(|table| hash(tabulation, table, r, key));
+    (first as usize, (r + second) as usize)
 }
 
 /// r and s, if the words have the shape that their heading tells.
@@ -35,11 +40,10 @@ pub fn lookup(tabulation: &[u16], words: &[u32], key: u32, present: &mut u32) ->
     if key == 0 {
         return 5;
     }
-    let (first, second) = ends(tabulation, r, key);
-    let stash = &words[HEADER + 4 * r as usize..];
-    let stands = words[HEADER + 2 * first] == key
-        || words[HEADER + 2 * second] == key
-        || stash.contains(&key);
+    let holds = |slot: u32| words[HEADER + 2 * slot as usize] == key;
+    let stands = holds(hash(tabulation, 0, r, key))
+        || holds(r + hash(tabulation, 1, r, key))
+        || words[HEADER + 4 * r as usize..].contains(&key);
     *present = u32::from(stands);
     0
 }
