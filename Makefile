@@ -4,6 +4,7 @@
 
 # Builds the console and the house book, and shows two heads with different pasts and one list.
 run:
+	@echo 'proving and building the console; the first time takes some minutes'
 	@rt check console house_book >/dev/null
 	@sample/run
 
@@ -16,7 +17,7 @@ test:
 quick:
 	@tests/run --quick
 
-# Instructions and times of the library against a Rust twin: the tables of docs/BENCHMARKS.md. Some minutes; nothing is asserted.
+# Instructions and times of the library against a Rust twin: the tables of docs/BENCHMARKS.md, in some minutes. No time is asserted, but both must give the same.
 bench:
 	@tests/bench/run
 

@@ -1,8 +1,13 @@
 /* The card list of a pump head: a dictionary in lent words whose content is a function of the set of keys alone (libpinorange.a).
  *
  * Every call below is proved: it reads and writes nothing outside the memory that it is lent, for every content and length, and returns. What each
- * call promises is stated in crates/pinorange/src/lib.rt; docs/01-scope.md has the table of numbers. No pointer may be null, and no two lent pieces
- * of memory may overlap. */
+ * call promises is stated in crates/pinorange/src/lib.rt; docs/01-scope.md has the table of numbers, in the words of the trade: key is its card, slot
+ * its pocket, table its rack, stash its drawer, tabulation its spread book, scratch its work sheet, counters its meter, words its list.
+ *
+ * What the caller sees to: no pointer is null (a length of 0 needs one, too), pointers are aligned, and no two lent pieces of memory overlap. One
+ * tabulation goes with a dictionary; under another its words are, in general, the image of no set (4). No call keeps state of its own. The promises hold when
+ * a call returns: let nothing else touch the same words or scratch meanwhile. After a reset in the middle of a call, zero the scratch, and check.
+ * "The set" is the set whose canonical image the words are, under the lent tabulation. */
 #ifndef PINORANGE_H
 #define PINORANGE_H
 
@@ -12,9 +17,10 @@
 extern "C" {
 #endif
 
-/* The other numbers that a call answers. They are tried in the order of the numbers. */
+/* The other numbers that a call answers. They are tried in the order of the numbers. Of a call on words, PINORANGE_WRONG_SHAPE (2) says: there are fewer than
+ * 4 words, word 0 (r) is not 1 to 1,024, word 1 (s) is above 64, or there are not PINORANGE_WORDS(r, s). */
 #define PINORANGE_SHORT_SCRATCH 3u /* the scratch is shorter than PINORANGE_SCRATCH(r, s) */
-#define PINORANGE_NOT_CANONICAL 4u /* the words are the canonical image of no set */
+#define PINORANGE_NOT_CANONICAL 4u /* under the lent tabulation the words are the canonical image of no set */
 #define PINORANGE_KEY_PRESENT 6u   /* insert of a key that is in the set */
 #define PINORANGE_KEY_ABSENT 7u    /* remove of a key that is not in the set */
 #define PINORANGE_STASH_FULL 8u    /* the new set cannot be placed: its stash would have more than s keys */
@@ -37,7 +43,8 @@ struct pinorange_counters {
 uint32_t pinorange_init(uint32_t *words, size_t words_length, uint32_t r, uint32_t s, struct pinorange_counters *counters);
 
 /* Puts a key into the set. Done (0): the words are the canonical image of the set with the key, in every word.
- * Refused (1 to 6 or 8, tried in that order): the words stay. 8 exactly when no placement of the new set exists.
+ * Refused (1 to 6 or 8, tried in that order): the words stay. 8 exactly when there is no way at all to give each key of the new set one of its two slots
+ * or one of the s stash places, no slot two keys.
  * The scratch is zero over its full length afterwards, refused or not; its old content has no effect. The counters move on by one. */
 uint32_t pinorange_insert(const uint16_t *tabulation, size_t tabulation_length, uint32_t *words, size_t words_length,
                           uint32_t *scratch, size_t scratch_length, struct pinorange_counters *counters, uint32_t key);

@@ -1,4 +1,4 @@
-/* The hashes of a key, for whoever links the hashing alone (libtabulation.a), without the dictionary.
+/* The hashes of a key, for whoever links the hashing alone (libtabulation.a), without the dictionary. libpinorange.a has this call, too: link one of the two.
  *
  * The function below is proved: it reads nothing outside the `length` entries it is lent, writes nothing but the two
  * out-parameters, and returns for every input. The promise is stated in crates/tabulation/src/lib.rt. */
@@ -27,7 +27,8 @@ extern "C" {
  * Done (0): `*table0` and `*table1` are the key's hashes, both below r: in table k the sum, over the bytes b0 (lowest) to b3 of the
  *   key, of entry 1024 k + 256 i + bi, modulo r.
  * Refused (1, 2 or 5, tried in that order): `*table0` and `*table1` stay as they were.
- * The tabulation is never written. `table0` and `table1` must not be null, and must not be the same. */
+ * The tabulation is never written. No pointer may be null (a length of 0 needs one, too), all are aligned, and `table0` and `table1` lie apart from
+ * each other and from the tabulation. */
 uint32_t pinorange_hashes(const uint16_t *tabulation, size_t length, uint32_t r, uint32_t key, uint32_t *table0,
                           uint32_t *table1);
 

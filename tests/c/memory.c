@@ -21,15 +21,14 @@ static uint16_t tabulation[PINORANGE_TABULATION_LENGTH];
 static struct pinorange_counters counters;
 static uint32_t accepted;
 
-static void *nothing(void *unused)
-{
-    return unused;
-}
+static unsigned char *base; /* where the calls' own stack begins: a local of the function that calls them */
 
 /* Every call, the changes up to a full stash: with cycles, with full components, with refusals. */
 static void *all_calls(void *unused)
 {
     uint32_t present, offset, length, table0, table1;
+    unsigned char local;
+    base = &local;
     pinorange_house(tabulation, PINORANGE_TABULATION_LENGTH);
     pinorange_init(words, PINORANGE_WORDS(R, S), R, S, &counters);
     for (uint32_t i = 1; i <= 1800; i++)
@@ -45,8 +44,8 @@ static void *all_calls(void *unused)
     return unused;
 }
 
-/* The bytes of stack that a thread uses, the library's own start of a thread included. */
-static size_t stack_of(void *(*body)(void *))
+/* The bytes of stack that the calls use: from the caller's locals down to the last byte that lost its paint. */
+static size_t stack_of_all_calls(void)
 {
     pthread_attr_t attributes;
     pthread_t thread;
@@ -55,19 +54,19 @@ static size_t stack_of(void *(*body)(void *))
     if (!stack || pthread_attr_init(&attributes) || pthread_attr_setstack(&attributes, stack, STACK_BYTES))
         exit(2);
     memset(stack, PAINT, STACK_BYTES);
-    if (pthread_create(&thread, &attributes, body, NULL) || pthread_join(thread, NULL))
+    if (pthread_create(&thread, &attributes, all_calls, NULL) || pthread_join(thread, NULL))
         exit(2);
     while (left < STACK_BYTES && stack[left] == PAINT)
         left++;
     pthread_attr_destroy(&attributes);
+    left = (size_t)(base - stack) - left;
     free(stack);
-    return STACK_BYTES - left;
+    return left;
 }
 
 int main(void)
 {
-    size_t idle = stack_of(nothing), used = stack_of(all_calls);
-    size_t stack = used > idle ? used - idle : 0;
+    size_t stack = stack_of_all_calls();
     size_t sum = CODE_BYTES + sizeof words + sizeof scratch + sizeof tabulation + sizeof counters + stack;
 
     printf("code and constants %u\nwords %zu\nscratch %zu\ntabulation %zu\ncounters %zu\nstack %zu\n", CODE_BYTES, sizeof words, sizeof scratch,

@@ -16,7 +16,7 @@ use Rattle.cuckoo.specs.Forest.{forest}
 use Rattle.forest.specs.Oriented.{OrientedForest, forest-sub, recast}
 use Rattle.forest.specs.Reroot.{reroot, length-reroot}
 use Rattle.forest.specs.Link.{forest-none, grow, grow-none, grow-pass, grow-link, grow-is, links, forest-fits, Once, no-key, one-more, keys-fit}
-use Rattle.partition.specs.Words.{max-slots, singletons-of, rep-of, size-of, united}
+use Rattle.partition.specs.Words.{max-points, singletons-of, rep-of, size-of, united}
 use Rattle.partition.specs.Partition.{Partition, start}
 use Rattle.partition.specs.United.{add-between}
 
@@ -59,11 +59,11 @@ pub record Sound (a b : ℕ → ℕ) (m : ℕ) (P : Linking) : Type 0 where
   pub once : Once keys
 
 module _ {a b : ℕ → ℕ} where
-  linked-none : {m : ℕ} → m ≤ max-slots → Linked a b m [] (unlinked m)
+  linked-none : {m : ℕ} → m ≤ max-points → Linked a b m [] (unlinked m)
   unfolding unlinked
   linked-none {m} few = record { size = length-replicate m 0; whole = forest-none a b m; parts = start m few }
 
-  pub sound-start : {m : ℕ} → m ≤ max-slots → Sound a b m (unlinked m)
+  pub sound-start : {m : ℕ} → m ≤ max-points → Sound a b m (unlinked m)
   sound-start few = record { keys = []; linked = linked-none few; once = no-key }
 
   -- the forest has no more keys than there are slots
@@ -131,7 +131,7 @@ module _ {a b : ℕ → ℕ} {other : ℕ → ℕ → ℕ} (turn : (c v w : ℕ)
     | inr n ↦ record { keys = c ∷ Q .keys; linked = link-new (Q .linked) (Q .once) nz n; once = one-more (λ i. n (edge i)) (Q .once) }
   ]
 
-  module _ (few : m ≤ max-slots) {S : List ℕ} (asc : Asc S) (solid : (c : ℕ) → In c S → c ≡ 0 → ⊥) where
+  module _ (few : m ≤ max-points) {S : List ℕ} (asc : Asc S) (solid : (c : ℕ) → In c S → c ≡ 0 → ⊥) where
     -- Law of step 1: the held words are an oriented forest of Kruskal's forest of S, and the sets are its trees.
     pub link-all : Linked a b m (forest a b S) (link-keys a b other (suc m) S (unlinked m))
     link-all =

@@ -57,7 +57,7 @@ fn reroot_held(scratch: &mut [u32], tabulation: &[u16], r: u32, s: u32, slot: u3
     forest::reroot(&mut scratch[start..end], tabulation, r, slot, carry);
 }
 
-// What is found of a key: its two slots, and their representatives.
+// What is found of a key: its two slots, `first` and `second`, and the representatives of their sets, `one` and `two`.
 struct Ends {
     first: u32,
     second: u32,

@@ -4,16 +4,16 @@ ghost use Prim.Native.Nat.{_+_, _≤_};
 ghost use lib.ListN.{length};
 ghost use Rattle.lines.specs.Row.{row-room};
 ghost use Rattle.console.specs.Short.{room};
-use dictionary::Change;
 use layout::Found;
 use libc::STDOUT_FILENO;
 use lines::Looked;
 use lines::ROW_ROOM;
+use outcome::Change;
 
 // The bytes of the buffer.
 pub const ROOM: usize = 4096;
 
-// Writes out the first bytes of some.
+// Writes out the first `count` bytes.
 fn write_front(bytes: &[u8], count: usize)
     requires { ⌜ count ≤ length (now bytes) ⌝ }
 {

@@ -4,11 +4,11 @@ ghost use Rattle.console.specs.Short.{room};
 use crate::rows;
 use crate::rows::ROOM;
 use counters::Counters;
-use dictionary::Change;
 use libc::STDIN_FILENO;
 use lines::Command;
 use lines::Line;
 use lines::NEWLINE;
+use outcome::Change;
 
 // What the lines so far left behind: the counters, and where the next row goes in the buffer.
 pub struct Done {

@@ -17,7 +17,7 @@ use Rattle.cuckoo.specs.Walks.{Distinct, nil, new, stay, step, reached, 
 use Rattle.cuckoo.specs.Walks.{walk-near, walk-mono, walk-keys, walk-out, closed-on, simple-cycle, cycle-walk}
 
 module _ (a b : ℕ → ℕ) where
-  -- A cycle of R (the paper's 'loop'): a closed walk along at least one key of R and along none twice.
+  -- A cycle of R (document 01's 'loop'): a closed walk along at least one key of R and along none twice.
   pub record Cycle (R : List ℕ) : Type 0 where
     pub key : ℕ
     pub closed : ClosedWalk a b R key

@@ -2,7 +2,7 @@
 -- this crate is theorems about it. The rule is section 3.1 of "History-Independent Cuckoo Hashing" (Naor, Segev, Wieder) in the
 -- words of document 01, "The canonical image".
 --
--- The cuckoo graph: slots (the paper's 'pockets') are points, and each key c (a 'card') is a line between its two slots, `a c` in
+-- The cuckoo graph: slots (document 01's 'pockets') are points, and each key c (a 'card') is a line between its two slots, `a c` in
 -- table 0 and `b c` in table 1. A set of keys is a strictly ascending list of numbers, none of them 0; 0 stands for "no key".
 -- Nothing here knows how slots are numbered, how keys are hashed or how a dictionary lies in words.
 use Prim.Native.Nat.{ℕ, zero, suc}
@@ -49,11 +49,11 @@ module _ (a b : ℕ → ℕ) where
   unfoldable pub joined : List ℕ → ℕ → ℕ → Bool
   joined R u v = eqb (label R u) (label R v)
 
-  -- the keys of v's component (the paper's 'group')
+  -- the keys of v's component (document 01's 'group')
   unfoldable pub component : List ℕ → ℕ → List ℕ
   component R v = keep (λ d. joined R v (a d)) R
 
-  -- c lies on a cycle (the paper's 'loop'): the other keys join its two slots as well.
+  -- c lies on a cycle (document 01's 'loop'): the other keys join its two slots as well.
   unfoldable pub onCycle : List ℕ → ℕ → Bool
   onCycle R c = member c R && joined (without c R) (a c) (b c)
 
@@ -74,7 +74,7 @@ module _ (a b : ℕ → ℕ) where
   unfoldable pub seated : List ℕ → List ℕ
   seated S = settle (length S) S
 
-  -- the stash (the paper's 'drawer'), "ascending": the keys that settling takes away
+  -- the stash (document 01's 'drawer'), "ascending": the keys that settling takes away
   unfoldable pub stash : List ℕ → List ℕ
   stash S = let T = seated S in keep (λ c. not (member c T)) S
 

@@ -25,15 +25,15 @@ use Rattle.build.specs.declared.notes.StashCount.{StashCount}
 use Rattle.build.specs.declared.notes.StashCount.the-variants.{Keys as StashKeys, Overflow}
 use Rattle.dictionary.specs.Weave.{Comparable, assembled-in, assembled-image}
 use Rattle.dictionary.specs.Collect.{keys-in-few}
-use Rattle.dictionary.specs.Outcome.{changed, set-refusals, change-refusal, change-outcome, check-outcome}
-use Rattle.dictionary.specs.Laws.{Ready, change-refused}
-use Rattle.dictionary.specs.Held.{one-too-many, changed-valid}
+use Rattle.outcome.specs.Outcome.{changed, set-refusals, change-refusal, change-outcome, check-outcome}
+use Rattle.outcome.specs.Laws.{Ready, change-refused}
+use Rattle.outcome.specs.Held.{one-too-many, changed-valid}
 use Rattle.layout.specs.Fitting.{without-fits}
 use Rattle.cuckoo.specs.Sets.{Asc, eq?}
-use Rattle.dictionary.specs.declared.Change.{Change}
-use Rattle.dictionary.specs.declared.Change.the-variants.{Insert, Remove}
+use Rattle.outcome.specs.declared.Change.{Change}
+use Rattle.outcome.specs.declared.Change.the-variants.{Insert, Remove}
 use Rattle.dictionary.specs.declared.Loaded.{Loaded}
-use Rattle.dictionary.specs.declared.Loaded.the-variants.{Keys, Tampered}
+use Rattle.dictionary.specs.declared.Loaded.the-variants.{Keys, NotCanonical}
 
 -- 1, 2 and 3, which need no set
 unfoldable pub early-refusal : List ℕ → List ℕ → ℕ → ℕ
@@ -46,7 +46,7 @@ early-refusal tabulation ws len =
 
 -- the words read as a set: not canonical, or n keys, which stand at the front of scratch
 abbrev pub loaded : List ℕ → List ℕ → Loaded
-loaded tabulation ws = cond (canonical tabulation ws) (Keys (length (keys-in ws))) Tampered
+loaded tabulation ws = cond (canonical tabulation ws) (Keys (length (keys-in ws))) NotCanonical
 
 -- the answer and the words that a new set leads to
 abbrev pub new-answer : Params → List ℕ → ℕ
@@ -137,7 +137,7 @@ module _ {tabulation ws scratch mid : List ℕ} {n : ℕ} (R : Collected tabulat
     keys-built : Build (family P) (places-of ws) (keys-in ws) after count
     keys-built = rw (R .front) at (B .built)
 
-    pub read-full : count ≡ Overflow → Told Tampered
+    pub read-full : count ≡ Overflow → Told NotCanonical
     unfolding canonical
     read-full e =
         elim keys-built [
@@ -161,7 +161,7 @@ module _ {tabulation ws scratch mid : List ℕ} {n : ℕ} (R : Collected tabulat
         pub read-same : b ≡ true → Told (Keys n)
         read-same t = (rw (R .count, canonical-same ∙ sym compared ∙ t), front-kept)
 
-        pub read-other : b ≡ false → Told Tampered
+        pub read-other : b ≡ false → Told NotCanonical
         read-other t = (rw (canonical-same ∙ sym compared ∙ t), front-kept)
 
 -- A new set: the first n words of scratch, built.
@@ -293,17 +293,17 @@ refusals-front (r ∷ rs) ts n = go (r .1) (refusals-front rs ts) n
 
 -- what reading the words told
 module _ (tabulation ws : List ℕ) where
-  told-tampered : Tampered ≡ loaded tabulation ws → canonical tabulation ws ≡ false
+  told-tampered : NotCanonical ≡ loaded tabulation ws → canonical tabulation ws ≡ false
   told-tampered = go (canonical tabulation ws)
     where
-      go : (t : Bool) → Tampered ≡ cond t (Keys (length (keys-in ws))) Tampered → t ≡ false
+      go : (t : Bool) → NotCanonical ≡ cond t (Keys (length (keys-in ws))) NotCanonical → t ≡ false
       go true e = absurd (let z : _≡_ {A = ℕ} 0 1 = cc in omega arith)
       go false e = refl
 
   told-keys : {n : ℕ} → Keys n ≡ loaded tabulation ws → (canonical tabulation ws ≡ true) × (n ≡ length (keys-in ws))
   told-keys {n} = go (canonical tabulation ws)
     where
-      go : (t : Bool) → Keys n ≡ cond t (Keys (length (keys-in ws))) Tampered → (t ≡ true) × (n ≡ length (keys-in ws))
+      go : (t : Bool) → Keys n ≡ cond t (Keys (length (keys-in ws))) NotCanonical → (t ≡ true) × (n ≡ length (keys-in ws))
       go true e = (refl, cc)
       go false e = absurd (let z : _≡_ {A = ℕ} 0 1 = cc in omega arith)
 
@@ -347,7 +347,7 @@ module _ (tabulation ws scratch : List ℕ) where
 
 -- check, once its words are read
 module _ {tabulation ws scratch : List ℕ} (ready : Ready tabulation ws scratch) {l : Loaded} (told : l ≡ loaded tabulation ws) where
-  pub checked-tampered : l ≡ Tampered → not-canonical ≡ check-outcome tabulation ws scratch .answer
+  pub checked-tampered : l ≡ NotCanonical → not-canonical ≡ check-outcome tabulation ws scratch .answer
   checked-tampered e = rw (told-tampered tabulation ws (sym e ∙ told)) at (check-ready tabulation ws scratch ready)
 
   pub checked-keys : {n : ℕ} → l ≡ Keys n → done ≡ check-outcome tabulation ws scratch .answer
@@ -384,7 +384,7 @@ module _ (tabulation ws scratch : List ℕ) (kind : Change) (key : ℕ) where
 
   module _ (ready : Ready tabulation ws scratch) {l : Loaded} (told : l ≡ loaded tabulation ws) where
     -- 4
-    pub left-tampered : l ≡ Tampered → Left not-canonical ws
+    pub left-tampered : l ≡ NotCanonical → Left not-canonical ws
     left-tampered e =
         left-refused (rw (told-tampered tabulation ws (sym e ∙ told)) at (change-ready tabulation ws scratch ready kind key)) (λ q. omega arith)
 

@@ -1,8 +1,5 @@
--- What insert, remove and check answer and leave (Outcome): the definitions. Then laws: of all inputs (Laws), of a dictionary that holds a set (Held);
--- and what the code's steps mean (Collect, Assembled, Weave, Core).
-pub mod Outcome
-pub mod Laws
-pub mod Held
+-- What the steps of the code mean: the keys that stand in words (Collect), the image as it lies in scratch (Assembled, Weave), and the steps of insert,
+-- remove and check (Core). What a whole call promises is in the crate `outcome`.
 pub mod Assembled
 pub mod Collect
 pub mod Weave

@@ -4,17 +4,17 @@ ghost use lib.ListN.{length, take, replicate};
 ghost use Rattle.layout.specs.Layout.{slots-of, places-of, params-of, scratch-length, keys-in};
 ghost use Rattle.layout.specs.Shape.{Sized, Shaped};
 ghost use Rattle.build.specs.Outcome.{Buildable};
-ghost use Rattle.dictionary.specs.Laws.{Ready};
+ghost use Rattle.outcome.specs.Laws.{Ready};
 ghost use Rattle.dictionary.specs.Core.{early-refusal, loaded, new-answer, new-words, Settable, set-answer, set-words};
-ghost use Rattle.dictionary.specs.Outcome.{change-outcome, check-outcome};
-ghost use Rattle.dictionary.specs.declared.Change.the-variants.{Insert, Remove};
-use crate::Change;
+ghost use Rattle.outcome.specs.Outcome.{change-outcome, check-outcome};
+ghost use Rattle.outcome.specs.declared.Change.the-variants.{Insert, Remove};
 use crate::Loaded;
 use crate::collect::collect_keys;
 use crate::image::matches;
 use crate::image::write_image;
 use build::notes::StashCount;
 use layout::NOT_CANONICAL;
+use outcome::Change;
 use tabulation::BLANK_KEY;
 use tabulation::TABULATION_LENGTH;
 use tabulation::WRONG_SHAPE;
@@ -41,7 +41,7 @@ fn scratch_for(r: u32, s: u32) -> usize
     8 * wide(r) + 4 * wide(s)
 }
 
-// 1, 2, 3, or 0.
+// The refusals that need no look at the set: 1, 2 or 3, or 0 if none applies.
 fn early(tabulation: &[u16], words: &[u32], room: usize) -> u32
     ensures { λ n. ⌜ n ≡ early-refusal (now (tabulation .entry)) (now (words .entry)) room ⌝ }
 {
@@ -68,12 +68,12 @@ fn load(tabulation: &[u16], words: &[u32], scratch: &mut [u32]) -> Loaded
     let n = collect_keys(words, &mut *scratch);
     let count = build::build(&mut *scratch, tabulation, r, s, n);
     let StashCount::Keys(stashed) = count else {
-        return Loaded::Tampered;
+        return Loaded::NotCanonical;
     };
     if matches(words, &*scratch, r, s, n, stashed) {
         return Loaded::Keys(n);
     }
-    Loaded::Tampered
+    Loaded::NotCanonical
 }
 
 // The first n words of scratch are a new set: 8, or its image is written.
@@ -108,7 +108,7 @@ fn insert_key(tabulation: &[u16], words: &mut [u32], scratch: &mut [u32], n: usi
     renew(tabulation, &mut *words, &mut *scratch, n + 1)
 }
 
-// The same, without the key.
+// The keys at the front of scratch are the set of the words, and the key is not blank: the set without the key.
 fn remove_key(tabulation: &[u16], words: &mut [u32], scratch: &mut [u32], n: usize, key: u32) -> u32
     requires { ⌜ Settable (now tabulation) (now words) (now scratch) n key ⌝ }
     ensures answered { λ a. ⌜ a ≡ set-answer Remove (now (tabulation .entry)) (now (words .entry)) key ⌝ }

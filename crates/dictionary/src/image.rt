@@ -130,7 +130,7 @@ fn write_slots(slots: &mut [u32], held: &[u32], next: &[u32])
     }
 }
 
-// Writes a stretch of one length with the target.
+// Copies `source` over `target`; both have the same length.
 fn copy(target: &mut [u32], source: &[u32])
     requires { ⌜ length (now target) ≡ length (now source) ⌝ }
     ensures { λ _. ⌜ now (target .exit) ≡ now (source .entry) ⌝ }

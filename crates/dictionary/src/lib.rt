@@ -5,25 +5,20 @@ ghost use mathlib.Core.Path.{_≡_};
 ghost use lib.ListN.{length};
 ghost use Rattle.counters.specs.Counters.{counted};
 ghost use Rattle.layout.specs.Answers.{fresh-refusal, fresh-words};
-ghost use Rattle.dictionary.specs.Outcome.{change-outcome};
+ghost use Rattle.outcome.specs.Outcome.{change-outcome};
 use counters::Counted;
 use counters::Counters;
 use counters::with_counts;
+use outcome::Change;
 
 mod collect;
 pub mod core;
 mod image;
 
-// Which change of the set a call asks for.
-pub enum Change {
-    Insert,
-    Remove,
-}
-
 // What reading words as a set gives: how many keys, or that they are the image of no set.
 pub enum Loaded {
     Keys(usize),
-    Tampered,
+    NotCanonical,
 }
 
 // `update` with counts in and counts out, for callers that hold the counters by value.

@@ -8,9 +8,9 @@ use Rattle.tabulation.specs.Refusal.{done}
 use Rattle.tabulation.specs.Hash.{tabulation-length}
 use Rattle.layout.specs.Layout.{Params}
 use Rattle.layout.specs.Answers.{lookup-refusal, lookup-values, view-refusal, view-of, fresh-refusal, fresh-words}
-use Rattle.dictionary.specs.declared.Change.{Change}
+use Rattle.outcome.specs.declared.Change.{Change}
 use Rattle.counters.specs.declared.Counters.{Counters}
-use Rattle.dictionary.specs.Outcome.{change-outcome, check-outcome}
+use Rattle.outcome.specs.Outcome.{change-outcome, check-outcome}
 
 -- "One book of the right length goes through it; a call may lend one of a wrong length instead."
 pub data Lent : Type 0 where

@@ -16,11 +16,11 @@ use Rattle.tabulation.specs.Refusal.{done, stash-full, first-refusal}
 use Rattle.tabulation.specs.Slots.{slot-0, slot-1}
 use Rattle.layout.specs.Layout.{Params, family, scratch-length, image}
 use Rattle.layout.specs.Canonical.{image-one}
-use Rattle.dictionary.specs.declared.Change.{Change}
-use Rattle.dictionary.specs.declared.Change.the-variants.{Insert, Remove}
+use Rattle.outcome.specs.declared.Change.{Change}
+use Rattle.outcome.specs.declared.Change.the-variants.{Insert, Remove}
 use Rattle.counters.specs.declared.Counters.{Counters}
-use Rattle.dictionary.specs.Laws.{change-tabulation, change-any-scratch, check-any-scratch}
-use Rattle.dictionary.specs.Held.{held-some, held-undone, held-eight}
+use Rattle.outcome.specs.Laws.{change-tabulation, change-any-scratch, check-any-scratch}
+use Rattle.outcome.specs.Held.{held-some, held-undone, held-eight}
 use Rattle.history.specs.Calls.{Lent, own, wrong, lent-of, Other, Call, Step, step, run, words-after, Allowed, none, more, Sequence}
 use Rattle.history.specs.Model.{requests, Reply, lookup-tests, model, set-after}
 use Rattle.history.specs.History.{pictured, history, lookup-number, lookup-value}

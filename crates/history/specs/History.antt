@@ -17,11 +17,11 @@ use Rattle.layout.specs.Layout.{Params, ValidSet, fits, image}
 use Rattle.layout.specs.Answers.{lookup-refusal, lookup-values}
 use Rattle.layout.specs.Look.{image-lookup-values, image-view-refusal, image-view}
 use Rattle.layout.specs.Fresh.{empty-valid, empty-fits, fresh-sizes, fresh-image}
-use Rattle.dictionary.specs.declared.Change.{Change}
-use Rattle.dictionary.specs.declared.Change.the-variants.{Insert, Remove}
-use Rattle.dictionary.specs.Outcome.{changed, set-refusals, change-outcome, check-outcome}
-use Rattle.dictionary.specs.Laws.{change-answer, change-refused, change-tabulation, check-tabulation, check-words}
-use Rattle.dictionary.specs.Held.{Holds, held-refusal, held-shaped, held-changed, held-check}
+use Rattle.outcome.specs.declared.Change.{Change}
+use Rattle.outcome.specs.declared.Change.the-variants.{Insert, Remove}
+use Rattle.outcome.specs.Outcome.{changed, set-refusals, change-outcome, check-outcome}
+use Rattle.outcome.specs.Laws.{change-answer, change-refused, change-tabulation, check-tabulation, check-words}
+use Rattle.outcome.specs.Held.{Holds, held-refusal, held-shaped, held-changed, held-check}
 use Rattle.history.specs.Calls.{Lent, own, wrong, lent-of, Call, Step, step, run, words-after, MayStand, Allowed, none, more, Sequence}
 use Rattle.history.specs.Model.{request, requests, Reply, new-set, wrong-length, too-short, change-tests, lookup-tests, check-tests}
 use Rattle.history.specs.Model.{reply, model, set-after}

@@ -10,8 +10,8 @@ use Rattle.ordered.specs.Keys.{with-key}
 use Rattle.tabulation.specs.Refusal.{done, wrong-tabulation, short-scratch, blank-key, key-present, key-absent, stash-full, first-refusal}
 use Rattle.tabulation.specs.Hash.{tabulation-length, blank}
 use Rattle.layout.specs.Layout.{Params, stash-of, scratch-length, fits}
-use Rattle.dictionary.specs.declared.Change.{Change}
-use Rattle.dictionary.specs.declared.Change.the-variants.{Insert, Remove}
+use Rattle.outcome.specs.declared.Change.{Change}
+use Rattle.outcome.specs.declared.Change.the-variants.{Insert, Remove}
 use Rattle.history.specs.Calls.{Lent, lent-of, Call, Answer, step}
 
 -- What the model is fed: "each call's kind and arguments, what the sheet and the meter hold aside"; so of the scratch its length. For a call of

@@ -5,15 +5,14 @@ use mathlib.Core.Path.{_≡_, refl, _∙_}
 use mathlib.Core.Bool.{true, false, and-false}
 use mathlib.Core.Logic.{inl, inr}
 use mathlib.Core.List.{List, [], _∷_, List·Memᴰ·head as here, List·Memᴰ·tail as there}
-use native.Mathlib.Nat.{mod-one}
 use native.Mathlib.Omega.{arith}
 use borrow.Author.Tests.{eq-eqb, ne-eqb, lt-ltb, le-ltb}
 use lib.Dec.{eqb}
 use lib.ListN.{length}
 use Rattle.cuckoo.specs.Graph.{without, label, joined, component, onCycle, cyclic, spare, settle, seated, stash, root, sits, occupant, next, slot-key, slot-next}
 use Rattle.cuckoo.specs.Sets.{test, Asc, none, some}
-use Rattle.tabulation.specs.Hash.{hash}
-use Rattle.layout.specs.Layout.{Params, fits, image}
+use Rattle.tabulation.specs.Hash.{hash-lt}
+use Rattle.layout.specs.Layout.{Params, family, fits, image}
 use Rattle.layout.specs.Fitting.{fits-length}
 use Rattle.layout.specs.Ends.{Known, fits-by, slot-words-by, image-by, fits-known, image-known}
 
@@ -39,8 +38,9 @@ module _ (tabulation : List ℕ) where
 
   -- every key has slot 0 in table 0 and slot 1 in table 1, whatever the tabulation
   one-slot : (S : List ℕ) → Known smallest left right S
-  unfolding hash
-  one-slot S = record { at-0 = λ c i. mod-one _; at-1 = λ c i. rw mod-one }
+  one-slot S =
+      let F = family smallest in
+      record { at-0 = λ c i. omega (arith, hash-lt F 0 c (omega arith)); at-1 = λ c i. omega (arith, hash-lt F 1 c (omega arith)) }
 
 -- one key is no cycle, so a key with one other is not spare
 out-lone : (c : ℕ) → without c (c ∷ []) ≡ []

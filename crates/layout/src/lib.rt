@@ -73,7 +73,7 @@ pub fn is_shaped(words: &[u32]) -> bool
     words.len() == length_for(r, s)
 }
 
-// Whether the key stands in a slot.
+// Whether the key stands in a slot. There are never as many as 4,096, so that the index fits.
 fn in_slot(words: &[u32], slot: u32, key: u32) -> bool
     requires { ⌜ (key-at slot < length (now words)) × (slot < 4096) ⌝ }
     ensures { λ b. ⌜ b ≡ eqb (getD (now (words .entry)) (key-at slot) 0) key ⌝ }

@@ -23,7 +23,7 @@ letter-B = 66
 abbrev pub letter-R : ℕ
 letter-R = 82
 
--- fields parted by commas; "every printed line ends with a newline"
+-- "fields parted by commas"; each printed line ends with a newline
 abbrev pub row : List (List ℕ) → List ℕ
 row [] = newline ∷ []
 row (f ∷ []) = f ++ (newline ∷ [])

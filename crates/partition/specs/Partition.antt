@@ -10,7 +10,7 @@ use lib.Pow.{pow-mono}
 use Rattle.cuckoo.specs.Graph.{label}
 use Rattle.cuckoo.specs.Sets.{le?}
 use Rattle.cuckoo.specs.Joined.{Joined, past, along, back, jrefl, more, split}
-use Rattle.partition.specs.Words.{max-slots, max-steps, singletons-of, Representative, walk-stop, rep-of, size-of, Mergeable}
+use Rattle.partition.specs.Words.{max-points, max-steps, singletons-of, Representative, walk-stop, rep-of, size-of, Mergeable}
 use Rattle.partition.specs.Tally.{tally, tally-le, tally-two, tally-ext, tally-one}
 use Rattle.partition.specs.Chain.{Chain, top, chain-rep, chain-walk}
 
@@ -34,7 +34,7 @@ module _ (a b : ℕ → ℕ) where
   pub record Partition (R : List ℕ) (n : ℕ) (words : List ℕ) : Type 0 where
     -- a word for each slot of the two tables
     pub long : length words ≡ n
-    pub few : n ≤ max-slots
+    pub few : n ≤ max-points
     -- each slot's parents lead to a representative, in few steps
     pub reached : (v : ℕ) → v < n → Reached words v
     -- the size that stands with a representative is the number of its slots
@@ -48,7 +48,7 @@ unfolding rep-of
 rep-self words {r} h = walk-stop words max-steps r (h .marked)
 
 -- the walk's budget suffices, since no set has more than 2 to the 11th slots
-pub reached-rep : {words : List ℕ} {v : ℕ} (h : Reached words v) → size-of words (h .rep) ≤ max-slots → rep-of words v ≡ h .rep
+pub reached-rep : {words : List ℕ} {v : ℕ} (h : Reached words v) → size-of words (h .rep) ≤ max-points → rep-of words v ≡ h .rep
 unfolding rep-of
 reached-rep h l =
     elim (le? (h .steps) max-steps) [
@@ -123,7 +123,7 @@ module _ (n : ℕ) where
   unfolding size-of
   one-slot v l = omega (arith, length-singletons, word v l)
 
-  pub start : {a b : ℕ → ℕ} → n ≤ max-slots → Partition a b [] n (singletons-of n)
+  pub start : {a b : ℕ → ℕ} → n ≤ max-points → Partition a b [] n (singletons-of n)
   unfolding label
   start few = record {
     long = length-singletons;

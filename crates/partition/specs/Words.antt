@@ -11,9 +11,9 @@ use borrow.Author.Tests.{lt-ltb, le-ltb}
 use lib.Dec.{ltb}
 use lib.ListN.{length, getD, set, replicate}
 
--- two tables of at most 1,024 slots
-abbrev pub max-slots : ℕ
-max-slots = 2048
+-- the most slots of both tables together, at most 1,024 each
+abbrev pub max-points : ℕ
+max-points = 2048
 
 -- Union by size keeps every chain of parents short: each parent at least doubles the size of the set, and 2 to the 11th is 2,048.
 abbrev pub max-steps : ℕ

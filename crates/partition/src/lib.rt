@@ -3,7 +3,7 @@
 ghost use mathlib.Core.Path.{_≡_};
 ghost use Prim.Native.Nat.{_≤_, _<_};
 ghost use lib.ListN.{length};
-ghost use Rattle.partition.specs.Words.{max-slots, singletons-of, Representative, rep-of, size-of, Mergeable, linked, united};
+ghost use Rattle.partition.specs.Words.{max-points, singletons-of, Representative, rep-of, size-of, Mergeable, linked, united};
 
 // The most parents that a slot of at most 2,048 can have on its way to the representative: each doubles the size of the set, and
 // 2 to the 11th is 2,048.
@@ -11,7 +11,7 @@ const MAX_STEPS: u32 = 11;
 
 // Each slot alone in its set.
 pub fn singletons(words: &mut [u32])
-    requires { ⌜ length (now words) ≤ max-slots ⌝ }
+    requires { ⌜ length (now words) ≤ max-points ⌝ }
     ensures { λ _. ⌜ now (words .exit) ≡ singletons-of (length (now (words .entry))) ⌝ }
 {
     let alone = words.len() as u32 + 1;
@@ -20,7 +20,7 @@ pub fn singletons(words: &mut [u32])
 
 // The representative of a slot's set (`find`).
 pub fn representative(words: &[u32], slot: u32) -> u32
-    requires { ⌜ (length (now words) ≤ max-slots) × (slot < length (now words)) ⌝ }
+    requires { ⌜ (length (now words) ≤ max-points) × (slot < length (now words)) ⌝ }
     ensures { λ r. ⌜ r ≡ rep-of (now (words .entry)) slot ⌝ }
 {
     let n = words.len() as u32;
@@ -39,7 +39,7 @@ pub fn representative(words: &[u32], slot: u32) -> u32
 
 // The number of slots in the set of a representative.
 pub fn size(words: &[u32], rep: u32) -> u32
-    requires { ⌜ (length (now words) ≤ max-slots) × Representative (now words) rep ⌝ }
+    requires { ⌜ (length (now words) ≤ max-points) × Representative (now words) rep ⌝ }
     ensures { λ s. ⌜ s ≡ size-of (now (words .entry)) rep ⌝ }
 {
     words[rep as usize] - words.len() as u32
@@ -47,7 +47,7 @@ pub fn size(words: &[u32], rep: u32) -> u32
 
 // The set of `child` joins the set of `parent`.
 fn link(words: &mut [u32], child: u32, parent: u32)
-    requires { ⌜ (length (now words) ≤ max-slots) × Mergeable (now words) child parent ⌝ }
+    requires { ⌜ (length (now words) ≤ max-points) × Mergeable (now words) child parent ⌝ }
     ensures { λ _. ⌜ now (words .exit) ≡ linked (now (words .entry)) child parent ⌝ }
 {
     let word = words[parent as usize];
@@ -59,7 +59,7 @@ fn link(words: &mut [u32], child: u32, parent: u32)
 // Makes one set of the sets of two different representatives: the smaller goes under the larger, and where they are as large, the
 // second under the first.
 pub fn unite(words: &mut [u32], first: u32, second: u32)
-    requires { ⌜ (length (now words) ≤ max-slots) × Mergeable (now words) first second ⌝ }
+    requires { ⌜ (length (now words) ≤ max-points) × Mergeable (now words) first second ⌝ }
     ensures { λ _. ⌜ now (words .exit) ≡ united (now (words .entry)) first second ⌝ }
 {
     if size(words, first) < size(words, second) {

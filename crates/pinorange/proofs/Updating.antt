@@ -45,10 +45,10 @@ use denote.Triple.Spec.{Meets, tripleOf}
 use denote.Triple.Clauses.{Clauses, closing, ensured, lasts}
 use denote.Triple.Walked.{Stays, stay-ref, gave-slice, stay-dropped, walkOf, AllGo, goes-dropped, goes-ref, goes-gave-slice, Walks, ends-at, walked, walk-meets}
 use denote.Exit.{yes}
-use Rattle.dictionary.specs.Outcome.{change-outcome}
+use Rattle.outcome.specs.Outcome.{change-outcome}
 use Rattle.counters.specs.Counters.{counted}
-use Rattle.dictionary.specs.declared.Change.{Change}
-use Rattle.dictionary.specs.declared.Change.the-variants.{Insert, Remove}
+use Rattle.outcome.specs.declared.Change.{Change}
+use Rattle.outcome.specs.declared.Change.the-variants.{Insert, Remove}
 use Rattle.counters.specs.declared.Counted.{Counted}
 use Rattle.counters.specs.declared.Counters.{Counters}
 use Rattle.dictionary.proofs.Change as K

@@ -4,13 +4,13 @@ ghost use mathlib.Core.Path.{_≡_};
 ghost use lib.ListN.{length};
 ghost use Rattle.tabulation.specs.Answer.{hashes-refusal, written};
 ghost use Rattle.layout.specs.Answers.{lookup-refusal, view-refusal, fresh-refusal, fresh-words};
-ghost use Rattle.dictionary.specs.Outcome.{change-outcome, check-outcome};
+ghost use Rattle.outcome.specs.Outcome.{change-outcome, check-outcome};
 ghost use Rattle.counters.specs.Counters.{counted};
 ghost use Rattle.pinorange.specs.House.{house-answer, Housed};
 ghost use Rattle.pinorange.specs.Out.{present-out, offset-out, length-out};
 use counters::Counters;
-use dictionary::Change;
 use layout::Found;
+use outcome::Change;
 use tabulation::TABULATION_LENGTH;
 use tabulation::WRONG_TABULATION;
 

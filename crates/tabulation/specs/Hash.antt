@@ -1,5 +1,5 @@
--- The hash of a key in a table, by simple tabulation (document 01, "Where a card may sit"; the paper's 'place' of a card in a rack).
--- What callers use of `hash` is its law `hash-lt`; its text may change behind its name.
+-- The hash of a key in a table, by simple tabulation (document 01, "Where a card may sit"; document 01's 'place' of a card in a rack).
+-- What callers use of `hash` is its law `hash-lt`; its text may change behind its name. The worked rows K1 to K12 alone compute with it.
 use Prim.Native.Nat.{ℕ, zero, suc, _+_, _*_, _/_, _%_, _<_, _≤_}
 use mathlib.Core.Path.{_≡_}
 use mathlib.Core.Bool.{Bool, true, false, _&&_, false≢true}
@@ -9,7 +9,7 @@ use borrow.Author.Tests.{leb-true, le-leb}
 use lib.Dec.{eqb, leb}
 use lib.ListN.{getD}
 
--- the tabulation (the paper's 'spread book') is 2,048 numbers
+-- the tabulation (document 01's 'spread book') is 2,048 numbers
 abbrev pub tabulation-length : ℕ
 tabulation-length = 2048
 

@@ -1,5 +1,5 @@
-// The hashes of a key (the paper's "places of a card"): one function for both tables, and the public call that gives both hashes or a
-// refusal. Crates above use what it promises and the laws of specs/Hash.antt, and nothing else of it. The till maker links it alone.
+// The hashes of a key (document 01's "places of a card"): one function for both tables, and the public call that gives both hashes or a
+// refusal. Crates above use what it promises and the laws of specs/; the worked rows K1 to K12 alone compute with its text. The till maker links it alone.
 ghost use mathlib.Core.Path.{_≡_};
 ghost use Prim.Native.Nat.{_+_, _*_, _≤_, _<_};
 ghost use lib.ListN.{length};

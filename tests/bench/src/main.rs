@@ -112,7 +112,8 @@ fn others(board: &Board) -> Vec<u32> {
     spread.filter(|key| *key != 0 && !inside.contains(key)).take(inside.len()).collect()
 }
 
-/// A lookup of some keys: the library's nanoseconds, the shortest of many rounds, and the medians of its time to the twin's and to that of std's HashSet.
+/// A lookup of some keys on one board, where each is found by the table it stands in: the library's nanoseconds, the shortest of many rounds, and the medians
+/// of its time to the twin's and to that of std's HashSet. All three must agree.
 fn lookups(case: &Case, board: &Board, asked: &[u32]) -> [f64; 3] {
     let set: HashSet<u32> = board.keys.iter().copied().collect();
     let by = |partner: &Partner, key: u32| {
@@ -120,10 +121,13 @@ fn lookups(case: &Case, board: &Board, asked: &[u32]) -> [f64; 3] {
         (partner.lookup)(&case.tabulation, &board.words, key, &mut present);
         present
     };
+    let present = asked.iter().filter(|key| set.contains(key)).count() as u32;
     let time = |find: &dyn Fn(u32) -> u32| {
         let start = Instant::now();
-        black_box(asked.iter().map(|key| find(*key)).sum::<u32>());
-        start.elapsed().as_nanos() as f64 / asked.len() as f64
+        let found = black_box(asked.iter().map(|key| find(*key)).sum::<u32>());
+        let time = start.elapsed().as_nanos() as f64 / asked.len() as f64;
+        assert_eq!(found, present, "{}", case.name());
+        time
     };
     let rounds = (0..20 * ROUNDS).map(|_| {
         [

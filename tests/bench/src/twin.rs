@@ -1,6 +1,6 @@
 //! The partner of the benchmark: insert, remove, check and lookup as a Rust engineer would write them for speed, with the same promise (answers, words,
 //! scratch and counters of the specification) and the same algorithm (collect, sort, build, compare; change, build, write), in lent scratch and
-//! without allocation. Where std has something faster than plain code, as its sort, it is used. The test below holds it against the library.
+//! without allocation. Where std has something faster than plain code, as its sort, it is used. Every call that is timed is compared with the library's.
 
 use library::Counters;
 

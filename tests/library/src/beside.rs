@@ -149,14 +149,19 @@ impl Beside {
         (self.count(Kind::Lookup, got), present == 1)
     }
 
-    /// The stash view: its number. The part is the caller's own memory.
+    /// The stash view: its number. Offset and length name a part of the caller's own words, or nothing.
     pub fn stash(&mut self, words: &[u32]) -> u32 {
         let answer = number(reference::calls::stash_answer(words));
         let expected = reference::calls::stash(words);
-        let (got, part) = crate::stash(words);
-        assert_eq!((got, part), (answer, expected), "view of {words:?}");
+        let mut lent = Guarded::new(words, GUARD);
+        let (got, offset, length) = crate::stash(lent.lent());
+        assert_eq!(lent.content(), words, "the view changed the words");
+        assert_eq!(got, answer, "view of {words:?}");
         if got == 0 {
-            assert_eq!(part.as_ptr(), expected.as_ptr(), "the view is no part of the lent words");
+            assert_eq!(&words[offset as usize..][..length as usize], expected, "{words:?}");
+            assert_eq!(offset, 4 + 4 * words[0], "the view does not begin with the stash");
+        } else {
+            assert_eq!((offset, length), (0, 0), "a refused view is not empty");
         }
         self.count(Kind::Stash, got)
     }
@@ -166,7 +171,9 @@ impl Beside {
             Ok(both) => (0, both),
             Err(refusal) => (refusal.number(), [OLD, !OLD]),
         };
-        let got = crate::hashes(tabulation, r, key, [OLD, !OLD]);
+        let mut book = Guarded::new(tabulation, 0x5A5A);
+        let got = crate::hashes(book.lent(), r, key, [OLD, !OLD]);
+        assert_eq!(book.content(), tabulation, "hashing changed the tabulation");
         assert_eq!(got, (answer, both), "hashes of {key} with r = {r}");
         self.count(Kind::Hashes, got.0)
     }

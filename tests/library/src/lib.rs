@@ -129,11 +129,11 @@ pub fn lookup(tabulation: &[u16], words: &[u32], key: u32, present: &mut u32) ->
     }
 }
 
-/// What the stash view answers, and the stretch of the words that it names.
-pub fn stash(words: &[u32]) -> (u32, &[u32]) {
+/// What the stash view answers, and the offset and length of the stretch that it names.
+pub fn stash(words: &[u32]) -> (u32, u32, u32) {
     let (mut offset, mut length) = (u32::MAX, u32::MAX);
     let answer = unsafe { pinorange_stash(words.as_ptr(), words.len(), &mut offset, &mut length) };
-    (answer, &words[offset as usize..][..length as usize])
+    (answer, offset, length)
 }
 
 /// What the hashing answers, and what its two out-parameters hold after it when they held `old` before.

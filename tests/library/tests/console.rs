@@ -11,6 +11,8 @@ use reference::samples::{random_tabulation, test_tabulation};
 
 const PROGRAM: &str = concat!(env!("CARGO_MANIFEST_DIR"), "/../../target/bin/console");
 
+const HOUSE_BOOK: &str = concat!(env!("CARGO_MANIFEST_DIR"), "/../../target/bin/house_book");
+
 /// A folder of its own for one test, removed at its end.
 struct Folder(PathBuf);
 
@@ -53,6 +55,7 @@ fn printed(folder: &Folder, book: Option<&[u8]>, input: &[u8]) -> Vec<u8> {
     let writer = std::thread::spawn(move || drop(stdin.write_all(&bytes)));
     let output = child.wait_with_output().expect("the program's output");
     writer.join().expect("the writing thread");
+    assert!(output.status.success(), "the console ended with {}", output.status);
     output.stdout
 }
 
@@ -206,4 +209,17 @@ fn the_largest_session() {
         input += &format!("A,{}\n", rng.next_u32());
     }
     compare(&folder, Some(&book_of(&reference::house::HOUSE)), input.as_bytes());
+}
+
+/// The program that writes the house book writes the table that the specification's rule gives.
+#[test]
+fn the_house_book() {
+    let folder = Folder::new("house");
+    let status = Command::new(HOUSE_BOOK)
+        .current_dir(&folder.0)
+        .status()
+        .expect("house_book, built by rt check");
+    assert!(status.success());
+    let written = fs::read(folder.0.join("book.bin")).expect("book.bin");
+    assert_eq!(written, book_of(&reference::house::HOUSE));
 }

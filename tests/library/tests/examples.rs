@@ -1,7 +1,7 @@
 //! Worked examples through the built library: the edges of the sizes, and the test board of the specification.
 
 use library::beside::{Beside, Kind};
-use library::{change, fresh, insert, lookup, stash, words_length, Counters};
+use library::{change, fresh, insert, lookup, remove, stash, words_length, Counters};
 use reference::samples::test_tabulation;
 
 #[test]
@@ -51,7 +51,41 @@ fn the_smallest_dictionary() {
     assert_eq!(change(insert, &tabulation, &mut words, 7), 8);
 }
 
-/// K9, K10, K11, a cycle with a key that hangs from it, and a tree; and the words of the console's listing.
+/// The sets of K1 to K11, in every word, and K7 and K10 by a removal.
+#[test]
+fn the_rows_of_the_test_board() {
+    let tabulation = test_tabulation();
+    for (s, keys, removed) in [
+        (1, &[][..], None),
+        (1, &[17], None),
+        (1, &[1, 17], None),
+        (1, &[1, 65], None),
+        (1, &[1, 65, 129], None),
+        (2, &[1, 65, 129, 193], None),
+        (1, &[1, 65, 129], Some(65)),
+        (1, &[17, 65, 129], None),
+        (1, &[1, 33, 34, 65, 98], None),
+        (1, &[1, 33, 34, 65, 98], Some(33)),
+        (1, &[1, 34, 65, 98, 225], None),
+    ] {
+        let mut words = fresh(4, s);
+        for key in keys.iter().rev() {
+            assert_eq!(change(insert, &tabulation, &mut words, *key), 0, "{key} of {keys:?}");
+        }
+        if let Some(key) = removed {
+            assert_eq!(change(remove, &tabulation, &mut words, key), 0);
+        }
+        let left: Vec<u32> = keys.iter().copied().filter(|key| Some(*key) != removed).collect();
+        assert_eq!(Some(words), reference::image::image(&tabulation, 4, s, &left), "{keys:?}");
+    }
+    // K6: the fourth key of one pair of slots has no place with s = 1.
+    let mut words = fresh(4, 1);
+    for (key, answer) in [(1, 0), (65, 0), (129, 0), (193, 8)] {
+        assert_eq!(change(insert, &tabulation, &mut words, key), answer);
+    }
+}
+
+/// K9, K10, K11, a cycle with a key that hangs from it, and a tree, slot by slot as the specification writes them; and the words of the console's listing.
 #[test]
 fn the_test_board() {
     let tabulation = test_tabulation();
@@ -75,7 +109,7 @@ fn the_test_board() {
         assert_eq!(change(insert, &tabulation, &mut words, key), answer);
     }
     assert_eq!(words, [2, 1, 3, 1, 0, 0, 1, 33, 33, 1, 0, 0, 65]);
-    assert_eq!(stash(&words), (0, &[65][..]));
+    assert_eq!(stash(&words), (0, 12, 1));
     let mut present = 9;
     assert_eq!((lookup(&tabulation, &words, 65, &mut present), present), (0, 1));
 }
@@ -89,7 +123,7 @@ fn the_house_tabulation() {
     beside.report(&[Kind::House]);
 }
 
-/// Every heading with every length: nothing wraps, and nothing is read outside.
+/// Headings at the edges of their ranges and of 32 bits, with lengths that go with some: nothing wraps, and nothing is read outside.
 #[test]
 fn huge_headings_and_wrong_lengths() {
     let mut beside = Beside::new();

@@ -105,7 +105,9 @@ impl Board {
             Reply::Answer(answer) => reference::answer::number(answer),
             Reply::Lookup(answer) => answer.map_or_else(Refusal::number, |_| 0),
             Reply::Stash(part) => {
-                assert_eq!(library::stash(&self.words), (0, &part[..]));
+                let (answer, offset, length) = library::stash(&self.words);
+                assert_eq!(answer, 0);
+                assert_eq!(&self.words[offset as usize..][..length as usize], &part[..]);
                 0
             }
         };
@@ -321,10 +323,10 @@ fn any_keys(rng: &mut Rng, count: usize) -> Vec<u32> {
     keys
 }
 
-/// Sets of every size with r from 1 to 1,024, from empty to over-full: `check` builds the set and compares every word with the reference's image, an insert
+/// 1,200 sets with r from 1 to 1,024, from empty to over-full: `check` builds the set and compares every word with the reference's image, an insert
 /// builds one key more, a remove one key less.
 #[test]
-fn every_size_and_load() {
+fn sets_of_all_sizes_and_loads() {
     let mut rng = Rng::new(45);
     let mut beside = Beside::new();
     let mut counters = Counters::default();
@@ -369,9 +371,9 @@ fn every_size_and_load() {
     assert!(built > 450 && full > 150 && stashed > 3_000);
 }
 
-/// Every word of small images changed to many values: 2 for words 0 and 1, and otherwise as the reference says.
+/// Each word of 300 small images changed to six values: 2 for words 0 and 1, and otherwise as the reference says.
 #[test]
-fn every_single_damage() {
+fn damages_of_one_word() {
     let mut rng = Rng::new(46);
     let mut beside = Beside::new();
     let (mut tampered, mut another) = (0, 0);

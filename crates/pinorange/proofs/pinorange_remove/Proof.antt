@@ -2,7 +2,7 @@
 use contract.Running.{givenOf, tables, tablesOf}
 use denote.Triple.Spec.{tripleOf}
 use denote.Triple.Table.{entered, cited}
-use Rattle.dictionary.specs.declared.Change.the-variants.{Remove}
+use Rattle.outcome.specs.declared.Change.the-variants.{Remove}
 use Rattle.dictionary.proofs.update_counted.Symbol as callee-def
 use Rattle.dictionary.proofs.update_counted.Symbol.{name as #callee}
 use Rattle.dictionary.proofs.update_counted.Met as callee-thm

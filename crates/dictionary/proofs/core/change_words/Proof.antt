@@ -1,5 +1,5 @@
 -- `dictionary::core::change_words` meets its contract: 1 to 3, then 4, then 5, then what the set decides.
-use Rattle.dictionary.specs.Laws.{Ready}
+use Rattle.outcome.specs.Laws.{Ready}
 use Rattle.dictionary.specs.Core.{Settable, early-ready, settable, left-early, left-tampered, left-blank, left-set}
 use borrow.Author.Needs.{needs}
 use Rattle.dictionary.proofs.core.change_words.Statement.{statement}

@@ -1,6 +1,6 @@
 -- `dictionary::core::check` meets its contract: what `check_words` answers, and cleared scratch.
 use mathlib.Core.Path.{sym, _∙_}
-use Rattle.dictionary.specs.Laws.{check-scratch}
+use Rattle.outcome.specs.Laws.{check-scratch}
 use borrow.Author.Needs.{needs}
 use Rattle.dictionary.proofs.core.check.Statement.{statement}
 use Rattle.dictionary.proofs.core.check.Tie as tie

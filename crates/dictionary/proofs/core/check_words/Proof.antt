@@ -1,6 +1,6 @@
 -- `dictionary::core::check_words` meets its contract: 1 to 3, then whether the words are the image of their keys.
 use mathlib.Core.Path.{_∙_}
-use Rattle.dictionary.specs.Laws.{Ready}
+use Rattle.outcome.specs.Laws.{Ready}
 use Rattle.dictionary.specs.Core.{check-early, early-ready, checked-tampered, checked-keys}
 use borrow.Author.Needs.{needs}
 use Rattle.dictionary.proofs.core.check_words.Statement.{statement}

@@ -7,7 +7,7 @@ use lib.ListN.{take}
 use Rattle.cuckoo.specs.Graph.{member}
 use Rattle.layout.specs.Layout.{slots-of, places-of}
 use Rattle.layout.specs.Shape.{shape}
-use Rattle.dictionary.specs.declared.Change.the-variants.{Insert}
+use Rattle.outcome.specs.declared.Change.the-variants.{Insert}
 use Rattle.dictionary.specs.Core.{front-fits, front-length, front-asc, insert-present, insert-crowded, insert-renewed, changed-buildable, changed-renewed}
 use borrow.Author.Needs.{needs}
 use Rattle.dictionary.proofs.core.insert_key.Statement.{statement}

@@ -7,7 +7,7 @@ use borrow.Author.Tests.{not-true, not-false}
 use lib.ListN.{take}
 use Rattle.cuckoo.specs.Graph.{member}
 use Rattle.layout.specs.Layout.{slots-of, places-of}
-use Rattle.dictionary.specs.declared.Change.the-variants.{Remove}
+use Rattle.outcome.specs.declared.Change.the-variants.{Remove}
 use Rattle.dictionary.specs.Core.{key-count, front-fits, front-length, front-asc, remove-absent, remove-some, remove-renewed, changed-buildable, changed-renewed}
 use borrow.Author.Needs.{needs}
 use Rattle.dictionary.proofs.core.remove_key.Statement.{statement}

@@ -1,6 +1,6 @@
 -- `dictionary::core::update` meets its contract: what `change_words` answers and leaves, and cleared scratch.
 use mathlib.Core.Path.{sym, _∙_}
-use Rattle.dictionary.specs.Laws.{change-scratch}
+use Rattle.outcome.specs.Laws.{change-scratch}
 use borrow.Author.Needs.{needs}
 use Rattle.dictionary.proofs.core.update.Statement.{statement}
 use Rattle.dictionary.proofs.core.update.Tie as tie

@@ -24,10 +24,10 @@ use Rattle.layout.specs.Image.{image-shaped}
 use Rattle.layout.specs.Standing.{keys-in-valid}
 use Rattle.layout.specs.Canonical.{canonical, ImageOf, canonical-true, image-canonical, image-of-params, image-of-keys}
 use Rattle.layout.specs.Fitting.{without-valid, without-fits, fits-length, fits-placement, full-placement}
-use Rattle.dictionary.specs.declared.Change.{Change}
-use Rattle.dictionary.specs.declared.Change.the-variants.{Insert, Remove}
-use Rattle.dictionary.specs.Outcome.{changed, set-refusals, change-refusal, change-outcome, check-outcome}
-use Rattle.dictionary.specs.Laws.{Ready, passed-over, change-answer, change-done, change-set, change-passed}
+use Rattle.outcome.specs.declared.Change.{Change}
+use Rattle.outcome.specs.declared.Change.the-variants.{Insert, Remove}
+use Rattle.outcome.specs.Outcome.{changed, set-refusals, change-refusal, change-outcome, check-outcome}
+use Rattle.outcome.specs.Laws.{Ready, passed-over, change-answer, change-done, change-set, change-passed}
 
 -- The words are a dictionary that holds S: r and s are in their ranges, and the words are the image of S, a set that fits.
 pub record Holds (P : Params) (S ws : List ℕ) : Type 0 where

@@ -11,8 +11,8 @@ use Rattle.tabulation.specs.Refusal.{done, wrong-tabulation, wrong-shape, short
 use Rattle.tabulation.specs.Hash.{tabulation-length, blank}
 use Rattle.layout.specs.Layout.{Params, params-of, slots-of, places-of, scratch-length, shaped, fits, image, keys-in}
 use Rattle.layout.specs.Canonical.{canonical}
-use Rattle.dictionary.specs.declared.Change.{Change}
-use Rattle.dictionary.specs.declared.Change.the-variants.{Insert, Remove}
+use Rattle.outcome.specs.declared.Change.{Change}
+use Rattle.outcome.specs.declared.Change.the-variants.{Insert, Remove}
 
 pub record Outcome : Type 0 where
   pub answer : ℕ

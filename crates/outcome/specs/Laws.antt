@@ -14,9 +14,9 @@ use Rattle.tabulation.specs.Refusal.{done, wrong-tabulation, wrong-shape, short
 use Rattle.tabulation.specs.Hash.{tabulation-length, blank}
 use Rattle.layout.specs.Layout.{Params, params-of, slots-of, places-of, scratch-length, shaped, image, keys-in}
 use Rattle.layout.specs.Canonical.{canonical, ImageOf, canonical-iff, not-canonical-iff}
-use Rattle.dictionary.specs.declared.Change.{Change}
-use Rattle.dictionary.specs.declared.Change.the-variants.{Insert, Remove}
-use Rattle.dictionary.specs.Outcome.{changed, set-refusals, first-refusals, change-refusal, change-outcome, check-outcome}
+use Rattle.outcome.specs.declared.Change.{Change}
+use Rattle.outcome.specs.declared.Change.the-variants.{Insert, Remove}
+use Rattle.outcome.specs.Outcome.{changed, set-refusals, first-refusals, change-refusal, change-outcome, check-outcome}
 
 -- the numbers
 

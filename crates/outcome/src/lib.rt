@@ -1,0 +1,8 @@
+// What insert, remove and check answer and leave, as definitions and laws, apart from the code that does it: `dictionary` has the code, and `history` the
+// theorem about whole sequences, which needs these alone.
+
+// Which change of the set a call asks for.
+pub enum Change {
+    Insert,
+    Remove,
+}
