@@ -22,7 +22,7 @@ use Rattle.counters.specs.declared.Counters.{Counters}
 use Rattle.outcome.specs.Laws.{change-tabulation, change-any-scratch, check-any-scratch}
 use Rattle.outcome.specs.Held.{held-some, held-undone, held-eight}
 use Rattle.history.specs.Calls.{Lent, own, wrong, lent-of, Other, Call, Step, step, run, words-after, Allowed, none, more, Sequence}
-use Rattle.history.specs.Model.{requests, Reply, lookup-tests, model, set-after}
+use Rattle.history.specs.Model.{request, requests, Reply, lookup-tests, model, set-after}
 use Rattle.history.specs.History.{pictured, history, lookup-number, lookup-value}
 
 -- the set with which the model ends
@@ -47,6 +47,16 @@ any-run t ws (Call.lookup l key ∷ cs) n = more tt (any-run t _ cs (λ x i. n x
 any-run t ws (Call.check l scratch ∷ cs) n = more tt (any-run t _ cs (λ x i. n x (there i)))
 any-run t ws (Call.view ∷ cs) n = more tt (any-run t _ cs (λ x i. n x (there i)))
 any-run t ws (Call.other x ∷ cs) n = absurd (n x (here refl))
+
+-- "of the list it knows only what lay was given": what the model is fed of the five kinds of calls does not depend on the words.
+pub fed-alike : (t ws : List ℕ) (cs : List Call) → ((x : Other) → In (Call.other x) cs → ⊥) → requests t ws cs ≡ map (λ c. request c done) cs
+unfolding requests
+fed-alike t ws [] n = refl
+fed-alike t ws (Call.change kind l scratch counters key ∷ cs) n = rw (fed-alike t _ cs (λ x i. n x (there i)))
+fed-alike t ws (Call.lookup l key ∷ cs) n = rw (fed-alike t _ cs (λ x i. n x (there i)))
+fed-alike t ws (Call.check l scratch ∷ cs) n = rw (fed-alike t _ cs (λ x i. n x (there i)))
+fed-alike t ws (Call.view ∷ cs) n = rw (fed-alike t _ cs (λ x i. n x (there i)))
+fed-alike t ws (Call.other x ∷ cs) n = absurd (n x (here refl))
 
 -- a part of a sequence from its beginning is a sequence
 allowed-part : (t : List ℕ) {ws : List ℕ} (cs ds : List Call) → Allowed t ws (cs ++ ds) → Allowed t ws cs

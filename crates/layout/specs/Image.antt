@@ -18,6 +18,10 @@ use Rattle.layout.specs.Shape.{sized, shape-true}
 
 -- the kinds of positions
 
+-- "The length is exactly 4 + 4r + s words"
+pub exact-length : (r s : ℕ) → words-length r s ≡ 4 + 4 * r + s
+exact-length r s = omega arith
+
 -- Position i of words with r and s: in the header, at a slot's key or next, or in the stash.
 data Position (r s i : ℕ) : Type 0 where
   in-header : i < header-length → Position r s i
