@@ -14,7 +14,7 @@ use Rattle.cuckoo.specs.Sets.{Asc}
 use Rattle.cuckoo.specs.Seating.{Ends}
 use Rattle.cuckoo.specs.Forest.{forest}
 use Rattle.forest.specs.Held.{other, slot-count, other-end, slots-fit}
-use Rattle.partition.specs.Words.{max-slots}
+use Rattle.partition.specs.Words.{max-points}
 use Rattle.build.specs.Slots.{listed, is-listed}
 use Rattle.build.specs.Held.{Occupied}
 use Rattle.build.specs.Link.{Linking, unlinked, link-keys, Linked, link-all, forest-few}
@@ -73,7 +73,7 @@ drop-zeros zero s = let e : s - 0 ≡ s = omega arith in rw e
 drop-zeros (suc k) zero = let e : 0 - suc k ≡ 0 = omega arith in rw e
 drop-zeros (suc k) (suc s) = let e : suc s - suc k ≡ s - k = omega arith in rw e (drop-zeros k s)
 
-module _ {a b : ℕ → ℕ} {other : ℕ → ℕ → ℕ} (turn : (c v w : ℕ) → Ends a b c v w → other v c ≡ w) {m : ℕ} (few : m ≤ max-slots)
+module _ {a b : ℕ → ℕ} {other : ℕ → ℕ → ℕ} (turn : (c v w : ℕ) → Ends a b c v w → other v c ≡ w) {m : ℕ} (few : m ≤ max-points)
     (fits : (c : ℕ) → (a c < m) × (b c < m)) {S : List ℕ} (asc : Asc S) (solid : (c : ℕ) → In c S → c ≡ 0 → ⊥) where
   pub linking-is : Linked a b m (forest a b S) (linking a b other m S)
   unfolding linking
