@@ -51,8 +51,8 @@ use Rattle.outcome.specs.declared.Change.{Change}
 use Rattle.outcome.specs.declared.Change.the-variants.{Insert, Remove}
 use Rattle.counters.specs.declared.Counted.{Counted}
 use Rattle.counters.specs.declared.Counters.{Counters}
-use Rattle.dictionary.proofs.Change as K
-use Rattle.dictionary.proofs.Change.Laws as K′
+use Rattle.outcome.proofs.Change as K
+use Rattle.outcome.proofs.Change.Laws as K′
 use Rattle.counters.proofs.Counters as T
 use Rattle.counters.proofs.Counters.Laws as T′
 use Rattle.counters.proofs.Counted as R
