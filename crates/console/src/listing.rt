@@ -5,8 +5,8 @@ ghost use Rattle.layout.specs.Shape.{Shaped};
 ghost use Rattle.console.specs.Short.{room};
 use crate::rows;
 use crate::rows::ROOM;
-use layout::HEADER_LENGTH;
-use layout::SLOT_WIDTH;
+use access::HEADER_LENGTH;
+use access::SLOT_WIDTH;
 use words::wide;
 
 // One slot, if it is filled.
@@ -57,10 +57,10 @@ fn list_words(words: &[u32], out: &mut [u8; ROOM], start: usize) -> usize
 {
     let r = words[0];
     let middle = HEADER_LENGTH + SLOT_WIDTH * wide(r);
-    let end = layout::stash_start(r);
+    let end = access::stash_start(r);
     let second = list_table(&words[HEADER_LENGTH..middle], 0, &mut *out, start);
     let third = list_table(&words[middle..end], 1, &mut *out, second);
-    list_stash(layout::stash(words), &mut *out, third)
+    list_stash(access::stash(words), &mut *out, third)
 }
 
 // Words that do not have the shape of a dictionary have no listing.
@@ -68,7 +68,7 @@ pub fn list(words: &[u32], out: &mut [u8; ROOM], start: usize) -> usize
     requires { ⌜ start ≤ room ⌝ }
     ensures { λ end. ⌜ end ≤ room ⌝ }
 {
-    if layout::is_shaped(words) {
+    if access::is_shaped(words) {
         return list_words(words, out, start);
     }
     start

@@ -100,13 +100,13 @@ fn run(tabulation: &[u16], words: &mut [u32], scratch: &mut [u32], r: u32, s: u3
 fn run_part(tabulation: &[u16], words: &mut [u32], scratch: &mut [u32], r: u32, s: u32)
     requires { ⌜ Sized r s × (words-length r s ≤ length (now words)) ⌝ }
 {
-    let end = layout::length_for(r, s);
+    let end = access::length_for(r, s);
     run(tabulation, &mut words[..end], scratch, r, s);
 }
 
 // Words and scratch for the largest sizes.
 fn run_sized(tabulation: &[u16; TABULATION_LENGTH], r: u32, s: u32) {
-    if !layout::are_sizes(r, s) {
+    if !access::are_sizes(r, s) {
         rows::print_no_sizes();
         return;
     }

@@ -56,7 +56,7 @@ fn lookup(tabulation: &[u16], words: &[u32], out: &mut [u8; ROOM], key: u32, don
     requires { ⌜ done .at ≤ room ⌝ }
     ensures { λ r. ⌜ r .at ≤ room ⌝ }
 {
-    let found = layout::lookup(tabulation, words, key);
+    let found = access::lookup(tabulation, words, key);
     let at = rows::add_lookup(out, done.at, key, found);
     let counters = done.counters;
     Done {

@@ -1,190 +1,35 @@
--- The steps of insert, remove and check as definitions: what is refused before the words are read as a set, what reading them gives, and what a
--- new set leads to. The contracts of the inner functions cite them, and the laws at the end put them together to the outcomes.
+-- The steps of insert, remove and check as definitions: what a set that was read leads to. The contracts of the inner functions cite them, and the laws at the
+-- end put them together with reading and renewing to the outcomes. Assumes nothing.
 use Prim.Native.Nat.{ℕ, _+_, _*_, _≤_, _<_}
-use mathlib.Core.Path.{_≡_, refl, sym, _∙_, ap}
+use mathlib.Core.Path.{_≡_, refl, sym, _∙_}
 use mathlib.Core.Bool.{Bool, true, false, not, cond, false≢true}
 use mathlib.Core.Logic.{inl, inr}
 use mathlib.Core.List.{List, [], _∷_, _++_}
 use native.Mathlib.Omega.{arith}
-use borrow.Author.Tests.{eqb-true, eq-eqb, ltb-false, le-ltb, lt-leb}
+use borrow.Author.Tests.{eq-eqb, le-ltb}
 use lib.Dec.{eqb, ltb}
 use lib.ListN.{length, take}
-use lib.Seq.{take-take, length-take-le}
+use lib.Seq.{length-take-le}
 use Rattle.cuckoo.specs.Graph.{member, without}
-use Rattle.cuckoo.specs.Lists.{same}
+use Rattle.cuckoo.specs.Sets.{Asc, eq?}
 use Rattle.ordered.specs.Keys.{with-key}
 use Rattle.tabulation.specs.Refusal.{done, wrong-tabulation, wrong-shape, short-scratch, not-canonical, blank-key, key-present, key-absent, stash-full, first-refusal}
 use Rattle.tabulation.specs.Hash.{tabulation-length, blank}
-use Rattle.layout.specs.Layout.{Params, ValidSet, family, params-of, slots-of, places-of, scratch-length, shaped, stash-of, fits, image, keys-in}
+use Rattle.layout.specs.Layout.{ValidSet, params-of, slots-of, places-of, scratch-length, shaped, fits, image, keys-in}
 use Rattle.layout.specs.Canonical.{canonical, canonical-true}
 use Rattle.layout.specs.Shape.{Shaped, shape}
-use Rattle.layout.specs.Image.{le-fits}
-use Rattle.layout.specs.Standing.{keys-in-valid, not-blank}
-use Rattle.build.specs.Outcome.{Standing, full, made, Build, Built, Buildable}
-use Rattle.build.specs.declared.notes.StashCount.{StashCount}
-use Rattle.build.specs.declared.notes.StashCount.the-variants.{Keys as StashKeys, Overflow}
-use Rattle.dictionary.specs.Weave.{Comparable, assembled-in, assembled-image}
-use Rattle.dictionary.specs.Collect.{keys-in-few}
+use Rattle.layout.specs.Standing.{keys-in-valid}
+use Rattle.layout.specs.Fitting.{without-fits}
+use Rattle.codec.specs.Collect.{keys-in-few}
+use Rattle.build.specs.Outcome.{Buildable}
+use Rattle.outcome.specs.declared.Change.{Change}
+use Rattle.outcome.specs.declared.Change.the-variants.{Insert, Remove}
 use Rattle.outcome.specs.Outcome.{changed, set-refusals, change-refusal, change-outcome, check-outcome}
 use Rattle.outcome.specs.Laws.{Ready, change-refused}
 use Rattle.outcome.specs.Held.{one-too-many, changed-valid}
-use Rattle.layout.specs.Fitting.{without-fits}
-use Rattle.cuckoo.specs.Sets.{Asc, eq?}
-use Rattle.outcome.specs.declared.Change.{Change}
-use Rattle.outcome.specs.declared.Change.the-variants.{Insert, Remove}
-use Rattle.dictionary.specs.declared.Loaded.{Loaded}
-use Rattle.dictionary.specs.declared.Loaded.the-variants.{Keys, NotCanonical}
-
--- 1, 2 and 3, which need no set
-unfoldable pub early-refusal : List ℕ → List ℕ → ℕ → ℕ
-early-refusal tabulation ws len =
-    first-refusal
-    ((wrong-tabulation, not (eqb (length tabulation) tabulation-length))
-    ∷ (wrong-shape, not (shaped ws))
-    ∷ (short-scratch, ltb len (scratch-length (slots-of ws) (places-of ws)))
-    ∷ [])
-
--- the words read as a set: not canonical, or n keys, which stand at the front of scratch
-abbrev pub loaded : List ℕ → List ℕ → Loaded
-loaded tabulation ws = cond (canonical tabulation ws) (Keys (length (keys-in ws))) NotCanonical
-
--- the answer and the words that a new set leads to
-abbrev pub new-answer : Params → List ℕ → ℕ
-new-answer P S = cond (fits P S) done stash-full
-
-abbrev pub new-words : Params → List ℕ → List ℕ → List ℕ
-new-words P S ws = cond (fits P S) (image P S) ws
-
--- Where none of them applies, the words can be read.
-early-none : (tabulation ws scratch : List ℕ) → early-refusal tabulation ws (length scratch) ≡ 0 → Ready tabulation ws scratch
-unfolding early-refusal
-early-none tabulation ws scratch =
-    go (eqb (length tabulation) tabulation-length) (shaped ws) (ltb (length scratch) (scratch-length (slots-of ws) (places-of ws))) refl refl refl
-  where
-    go : (p q t : Bool) → eqb (length tabulation) tabulation-length ≡ p → shaped ws ≡ q
-        → ltb (length scratch) (scratch-length (slots-of ws) (places-of ws)) ≡ t
-        → _≡_ {A = ℕ} (cond (not p) 1 (cond (not q) 2 (cond t 3 0))) 0 → Ready tabulation ws scratch
-    go true true true e f g h = absurd (omega arith)
-    go true true false e f g h = record { full = eqb-true _ _ e; shape = f; room = ltb-false _ _ g }
-    go true false t e f g h = absurd (omega arith)
-    go false q t e f g h = absurd (omega arith)
-
-pub early-ready : (tabulation ws scratch : List ℕ) {n : ℕ} → n ≡ early-refusal tabulation ws (length scratch) → n ≡ 0 → Ready tabulation ws scratch
-early-ready tabulation ws scratch e z = early-none tabulation ws scratch (sym e ∙ z)
-
-module _ (P : Params) (S : List ℕ) where
-  -- a set that stands in scratch assembles to its image
-  standing-image : (scratch : List ℕ) → Standing (family P) (P .places) S scratch
-      → assembled-in (P .slots) (P .places) (length S) (length (stash-of P S)) scratch ≡ image P S
-  standing-image scratch W = rw (W .held, W .next, W .stashed) (assembled-image P S)
-
-  -- a build that has no room is of a set that does not fit
-  full-fits : P .places < length (stash-of P S) → fits P S ≡ false
-  unfolding fits
-  full-fits l = lt-leb (length (stash-of P S)) (P .places) l
-
--- a valid set at the front of scratch can be built
-set-buildable : (tabulation ws scratch mid : List ℕ) (n : ℕ) {S : List ℕ} → Ready tabulation ws scratch → length mid ≡ length scratch
-    → n ≤ 2 * slots-of ws + places-of ws → take n mid ≡ S → ValidSet S → Buildable (slots-of ws) (places-of ws) n tabulation mid
-set-buildable tabulation ws scratch mid n ready same-room few front valid =
-    let h = shape ws (ready .shape) in
-    record {
-      full-tabulation = ready .full;
-      some = h .sizes .some;
-      most = h .sizes .most;
-      few = h .sizes .few;
-      room = omega (arith, ready .room);
-      keys = few;
-      asc = rw front (valid .asc);
-      solid = λ c i. not-blank c (valid .solid c (rw front at i));
-    }
-
--- Reading words as a set. First the keys that stand in them are collected: n of them, at the front of `mid`, which is scratch then.
-pub record Collected (tabulation ws scratch mid : List ℕ) (n : ℕ) : Type 0 where
-  pub ready : Ready tabulation ws scratch
-  pub same-room : length mid ≡ length scratch
-  pub front : take n mid ≡ keys-in ws
-  pub count : n ≡ length (keys-in ws)
-
-module _ {tabulation ws scratch mid : List ℕ} {n : ℕ} (R : Collected tabulation ws scratch mid n) where
-  abbrev P : Params
-  P = params-of tabulation ws
-
-  collected-few : n ≤ 2 * slots-of ws + places-of ws
-  collected-few = omega (arith, R .count, keys-in-few ws (shape ws (R .ready .shape)))
-
-  pub collected-buildable : Buildable (slots-of ws) (places-of ws) n tabulation mid
-  collected-buildable = set-buildable tabulation ws scratch mid n (R .ready) (R .same-room) collected-few (R .front) (keys-in-valid ws)
-
-  pub collected-comparable : {after : List ℕ} → length after ≡ length mid → Comparable (slots-of ws) (places-of ws) ws after
-  collected-comparable l = record { shape = shape ws (R .ready .shape); slots = refl; places = refl; room = omega (arith, R .ready .room, R .same-room) }
-
-  -- Then they are built: scratch is `after` then, and the words are compared with what stands there.
-  module _ {after : List ℕ} {count : StashCount} (B : Built (family P) (places-of ws) (take n mid) mid after count) where
-    -- what reading promises
-    abbrev Told : Loaded → Type 0
-    Told l = (l ≡ loaded tabulation ws) × (take (length (keys-in ws)) after ≡ keys-in ws)
-
-    -- the keys are still there
-    front-kept : take (length (keys-in ws)) after ≡ keys-in ws
-    front-kept =
-        rw (← R .count)
-        (sym (take-take n (2 * slots-of ws + places-of ws) after collected-few)
-        ∙ ap (take n) (B .kept)
-        ∙ take-take n (2 * slots-of ws + places-of ws) mid collected-few
-        ∙ R .front)
-
-    keys-built : Build (family P) (places-of ws) (keys-in ws) after count
-    keys-built = rw (R .front) at (B .built)
-
-    pub read-full : count ≡ Overflow → Told NotCanonical
-    unfolding canonical
-    read-full e =
-        elim keys-built [
-          | full l q ↦ (rw (full-fits P (keys-in ws) l), front-kept)
-          | made l q W ↦ absurd (let z : _≡_ {A = ℕ} 0 1 = cc in omega arith)
-        ]
-
-    module _ {k : ℕ} (e : count ≡ StashKeys k) where
-      -- the words are canonical exactly if they are the image that stands in scratch
-      canonical-same : canonical tabulation ws ≡ same ws (assembled-in (slots-of ws) (places-of ws) n k after)
-      unfolding canonical
-      canonical-same =
-          elim keys-built [
-            | full l q ↦ absurd (let z : _≡_ {A = ℕ} 0 1 = cc in omega arith)
-            | made l q W ↦
-                let m : length (stash-of P (keys-in ws)) ≡ k = cc in
-                rw (R .count, ← m, standing-image P (keys-in ws) after W, le-fits P (keys-in ws) l)
-          ]
-
-      module _ {b : Bool} (compared : b ≡ same ws (assembled-in (slots-of ws) (places-of ws) n k after)) where
-        pub read-same : b ≡ true → Told (Keys n)
-        read-same t = (rw (R .count, canonical-same ∙ sym compared ∙ t), front-kept)
-
-        pub read-other : b ≡ false → Told NotCanonical
-        read-other t = (rw (canonical-same ∙ sym compared ∙ t), front-kept)
-
--- A new set: the first n words of scratch, built.
-module _ (P : Params) (ws scratch : List ℕ) (n : ℕ) {after : List ℕ} {count : StashCount}
-    (B : Built (family P) (P .places) (take n scratch) scratch after count) where
-  pub renew-full : count ≡ Overflow → (stash-full ≡ new-answer P (take n scratch)) × (ws ≡ new-words P (take n scratch) ws)
-  renew-full e =
-      elim (B .built) [
-        | full l q ↦ let f = full-fits P (take n scratch) l in (rw f, rw f)
-        | made l q W ↦ absurd (let z : _≡_ {A = ℕ} 0 1 = cc in omega arith)
-      ]
-
-  pub renew-made : {k : ℕ} → count ≡ StashKeys k → n ≤ length scratch
-      → (done ≡ new-answer P (take n scratch)) × (assembled-in (P .slots) (P .places) n k after ≡ new-words P (take n scratch) ws)
-  renew-made {k} e fit =
-      elim (B .built) [
-        | full l q ↦ absurd (let z : _≡_ {A = ℕ} 0 1 = cc in omega arith)
-        | made l q W ↦
-            let f = le-fits P (take n scratch) l in
-            let m : length (stash-of P (take n scratch)) ≡ k = cc in
-            let s : length (take n scratch) ≡ n = length-take-le n scratch fit in
-            (rw f, rw (f, ← m) (rw s at (standing-image P (take n scratch) after W)))
-      ]
+use Rattle.renewal.specs.declared.Reading.{Reading}
+use Rattle.renewal.specs.declared.Reading.the-variants.{Keys, NotCanonical}
+use Rattle.renewal.specs.Reading.{early-refusal, number, values, reading-refusal, reading-values, new-answer, new-words, set-buildable, told-tampered, told-keys}
 
 -- The words can be read, they are canonical, their n keys stand at the front of scratch, and the key is not blank.
 pub record Settable (tabulation ws scratch : List ℕ) (n key : ℕ) : Type 0 where
@@ -291,22 +136,6 @@ refusals-front (r ∷ rs) ts n = go (r .1) (refusals-front rs ts) n
     go true more n = refl
     go false more n = more n
 
--- what reading the words told
-module _ (tabulation ws : List ℕ) where
-  told-tampered : NotCanonical ≡ loaded tabulation ws → canonical tabulation ws ≡ false
-  told-tampered = go (canonical tabulation ws)
-    where
-      go : (t : Bool) → NotCanonical ≡ cond t (Keys (length (keys-in ws))) NotCanonical → t ≡ false
-      go true e = absurd (let z : _≡_ {A = ℕ} 0 1 = cc in omega arith)
-      go false e = refl
-
-  told-keys : {n : ℕ} → Keys n ≡ loaded tabulation ws → (canonical tabulation ws ≡ true) × (n ≡ length (keys-in ws))
-  told-keys {n} = go (canonical tabulation ws)
-    where
-      go : (t : Bool) → Keys n ≡ cond t (Keys (length (keys-in ws))) NotCanonical → (t ≡ true) × (n ≡ length (keys-in ws))
-      go true e = (refl, cc)
-      go false e = absurd (let z : _≡_ {A = ℕ} 0 1 = cc in omega arith)
-
 module _ (tabulation ws scratch : List ℕ) where
   abbrev early-list : List (ℕ × Bool)
   early-list =
@@ -346,20 +175,20 @@ module _ (tabulation ws scratch : List ℕ) where
     change-ready kind key = rw (full-test, ready .shape, room-test)
 
 -- check, once its words are read
-module _ {tabulation ws scratch : List ℕ} (ready : Ready tabulation ws scratch) {l : Loaded} (told : l ≡ loaded tabulation ws) where
-  pub checked-tampered : l ≡ NotCanonical → not-canonical ≡ check-outcome tabulation ws scratch .answer
-  checked-tampered e = rw (told-tampered tabulation ws (sym e ∙ told)) at (check-ready tabulation ws scratch ready)
+module _ {tabulation ws scratch : List ℕ} (ready : Ready tabulation ws scratch) {l : Reading} where
+  pub checked-tampered : number l ≡ reading-refusal tabulation ws → l ≡ NotCanonical → not-canonical ≡ check-outcome tabulation ws scratch .answer
+  checked-tampered numbered e = rw (told-tampered tabulation ws numbered e) at (check-ready tabulation ws scratch ready)
 
-  pub checked-keys : {n : ℕ} → l ≡ Keys n → done ≡ check-outcome tabulation ws scratch .answer
-  checked-keys e = rw (told-keys tabulation ws (sym e ∙ told) .0) at (check-ready tabulation ws scratch ready)
+  pub checked-keys : values l ≡ reading-values tabulation ws → {n : ℕ} → l ≡ Keys n → done ≡ check-outcome tabulation ws scratch .answer
+  checked-keys valued e = rw (told-keys tabulation ws valued e .0) at (check-ready tabulation ws scratch ready)
 
 -- the set of the words can be changed
-pub settable : {tabulation ws before scratch : List ℕ} {n key : ℕ} {l : Loaded} {b : Bool}
+pub settable : {tabulation ws before scratch : List ℕ} {n key : ℕ} {l : Reading} {b : Bool}
     → Ready tabulation ws before → length scratch ≡ length before → l ≡ Keys n
-    → (l ≡ loaded tabulation ws) × (take (length (keys-in ws)) scratch ≡ keys-in ws) → b ≡ false → b ≡ blank key
+    → (values l ≡ reading-values tabulation ws) × (take (length (keys-in ws)) scratch ≡ keys-in ws) → b ≡ false → b ≡ blank key
     → Settable tabulation ws scratch n key
 settable {tabulation} {ws} ready same-room e told solid test =
-    let t = told-keys tabulation ws (sym e ∙ told .0) in
+    let t = told-keys tabulation ws (told .0) e in
     record {
       ready = record { full = ready .full; shape = ready .shape; room = omega (arith, ready .room) };
       image = t .0;
@@ -382,16 +211,16 @@ module _ (tabulation ws scratch : List ℕ) (kind : Change) (key : ℕ) where
   pub left-early : {n : ℕ} → n ≡ early-refusal tabulation ws (length scratch) → (n ≡ 0 → ⊥) → Left n ws
   left-early e nz = left-refused (e ∙ change-early tabulation ws scratch (λ q. nz (e ∙ q)) kind key) nz
 
-  module _ (ready : Ready tabulation ws scratch) {l : Loaded} (told : l ≡ loaded tabulation ws) where
+  module _ (ready : Ready tabulation ws scratch) {l : Reading} where
     -- 4
-    pub left-tampered : l ≡ NotCanonical → Left not-canonical ws
-    left-tampered e =
-        left-refused (rw (told-tampered tabulation ws (sym e ∙ told)) at (change-ready tabulation ws scratch ready kind key)) (λ q. omega arith)
+    pub left-tampered : number l ≡ reading-refusal tabulation ws → l ≡ NotCanonical → Left not-canonical ws
+    left-tampered numbered e =
+        left-refused (rw (told-tampered tabulation ws numbered e) at (change-ready tabulation ws scratch ready kind key)) (λ q. omega arith)
 
     -- 5
-    pub left-blank : {n : ℕ} {b : Bool} → l ≡ Keys n → b ≡ true → b ≡ blank key → Left blank-key ws
-    left-blank e t test =
-        left-refused (rw (told-keys tabulation ws (sym e ∙ told) .0, sym test ∙ t) at (change-ready tabulation ws scratch ready kind key)) (λ q. omega arith)
+    pub left-blank : values l ≡ reading-values tabulation ws → {n : ℕ} {b : Bool} → l ≡ Keys n → b ≡ true → b ≡ blank key → Left blank-key ws
+    left-blank valued e t test =
+        left-refused (rw (told-keys tabulation ws valued e .0, sym test ∙ t) at (change-ready tabulation ws scratch ready kind key)) (λ q. omega arith)
 
   -- what the set decides
   pub left-set : {mid : List ℕ} {n a : ℕ} {us : List ℕ} → Ready tabulation ws scratch → Settable tabulation ws mid n key

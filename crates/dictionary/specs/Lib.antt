@@ -1,6 +1,2 @@
--- What the steps of the code mean: the keys that stand in words (Collect), the image as it lies in scratch (Assembled, Weave), and the steps of insert,
--- remove and check (Core). What a whole call promises is in the crate `outcome`.
-pub mod Assembled
-pub mod Collect
-pub mod Weave
+-- What the steps of insert, remove and check mean (Core). What a whole call promises is in the crate `outcome`.
 pub mod Core

@@ -1,96 +1,23 @@
 // The steps of insert, remove and check.
 ghost use mathlib.Core.Path.{_≡_};
-ghost use lib.ListN.{length, take, replicate};
-ghost use Rattle.layout.specs.Layout.{slots-of, places-of, params-of, scratch-length, keys-in};
-ghost use Rattle.layout.specs.Shape.{Sized, Shaped};
-ghost use Rattle.build.specs.Outcome.{Buildable};
-ghost use Rattle.outcome.specs.Laws.{Ready};
-ghost use Rattle.dictionary.specs.Core.{early-refusal, loaded, new-answer, new-words, Settable, set-answer, set-words};
+ghost use Rattle.dictionary.specs.Core.{Settable, set-answer, set-words};
 ghost use Rattle.outcome.specs.Outcome.{change-outcome, check-outcome};
 ghost use Rattle.outcome.specs.declared.Change.the-variants.{Insert, Remove};
-use crate::Loaded;
-use crate::collect::collect_keys;
-use crate::image::matches;
-use crate::image::write_image;
-use build::notes::StashCount;
-use layout::NOT_CANONICAL;
+use access::NOT_CANONICAL;
 use outcome::Change;
+use renewal::Reading;
+use renewal::STASH_FULL;
+use renewal::clear;
+use renewal::early;
+use renewal::read_set;
+use renewal::renew;
 use tabulation::BLANK_KEY;
-use tabulation::TABULATION_LENGTH;
-use tabulation::WRONG_SHAPE;
-use tabulation::WRONG_TABULATION;
-use words::fill;
 use words::wide;
-
-// Document 01's 3.
-pub const SHORT_SCRATCH: u32 = 3;
 
 // Document 01's 6 and 7.
 pub const KEY_PRESENT: u32 = 6;
 
 pub const KEY_ABSENT: u32 = 7;
-
-// Document 01's 8.
-pub const STASH_FULL: u32 = 8;
-
-// The length that scratch needs.
-fn scratch_for(r: u32, s: u32) -> usize
-    requires { ⌜ Sized r s ⌝ }
-    ensures { λ n. ⌜ n ≡ scratch-length r s ⌝ }
-{
-    8 * wide(r) + 4 * wide(s)
-}
-
-// The refusals that need no look at the set: 1, 2 or 3, or 0 if none applies.
-fn early(tabulation: &[u16], words: &[u32], room: usize) -> u32
-    ensures { λ n. ⌜ n ≡ early-refusal (now (tabulation .entry)) (now (words .entry)) room ⌝ }
-{
-    if tabulation.len() != TABULATION_LENGTH {
-        return WRONG_TABULATION;
-    }
-    if !layout::is_shaped(words) {
-        return WRONG_SHAPE;
-    }
-    if room < scratch_for(words[0], words[1]) {
-        return SHORT_SCRATCH;
-    }
-    0
-}
-
-// The words read as a set: its keys come to the front of scratch, and its image must be the words.
-fn load(tabulation: &[u16], words: &[u32], scratch: &mut [u32]) -> Loaded
-    requires { ⌜ Ready (now tabulation) (now words) (now scratch) ⌝ }
-    ensures told { λ l. ⌜ l ≡ loaded (now (tabulation .entry)) (now (words .entry)) ⌝ }
-    ensures front { λ l. ⌜ take (length (keys-in (now (words .entry)))) (now (scratch .exit)) ≡ keys-in (now (words .entry)) ⌝ }
-{
-    let r = words[0];
-    let s = words[1];
-    let n = collect_keys(words, &mut *scratch);
-    let count = build::build(&mut *scratch, tabulation, r, s, n);
-    let StashCount::Keys(stashed) = count else {
-        return Loaded::NotCanonical;
-    };
-    if matches(words, &*scratch, r, s, n, stashed) {
-        return Loaded::Keys(n);
-    }
-    Loaded::NotCanonical
-}
-
-// The first n words of scratch are a new set: 8, or its image is written.
-fn renew(tabulation: &[u16], words: &mut [u32], scratch: &mut [u32], n: usize) -> u32
-    requires { ⌜ Buildable (slots-of (now words)) (places-of (now words)) n (now tabulation) (now scratch) × Shaped (now words) ⌝ }
-    ensures answered { λ a. ⌜ a ≡ new-answer (params-of (now (tabulation .entry)) (now (words .entry))) (take n (now (scratch .entry))) ⌝ }
-    ensures written { λ a. ⌜ now (words .exit) ≡ new-words (params-of (now (tabulation .entry)) (now (words .entry))) (take n (now (scratch .entry))) (now (words .entry)) ⌝ }
-{
-    let r = words[0];
-    let s = words[1];
-    let count = build::build(&mut *scratch, tabulation, r, s, n);
-    let StashCount::Keys(stashed) = count else {
-        return STASH_FULL;
-    };
-    write_image(&mut *words, &*scratch, r, s, n, stashed);
-    0
-}
 
 // The keys at the front of scratch are the set of the words, and the key is not blank: the set with the key.
 fn insert_key(tabulation: &[u16], words: &mut [u32], scratch: &mut [u32], n: usize, key: u32) -> u32
@@ -136,8 +63,8 @@ fn change_words(
     if refusal != 0 {
         return refusal;
     }
-    let loaded = load(tabulation, &*words, &mut *scratch);
-    let Loaded::Keys(n) = loaded else {
+    let reading = read_set(tabulation, &*words, &mut *scratch);
+    let Reading::Keys(n) = reading else {
         return NOT_CANONICAL;
     };
     if tabulation::is_blank(key) {
@@ -147,13 +74,6 @@ fn change_words(
         Change::Insert => insert_key(tabulation, &mut *words, &mut *scratch, n, key),
         Change::Remove => remove_key(tabulation, &mut *words, &mut *scratch, n, key),
     }
-}
-
-// Zeros over the full length of scratch: nothing of the set, new or old, is left in it.
-fn clear(scratch: &mut [u32])
-    ensures { λ _. ⌜ now (scratch .exit) ≡ replicate (length (now (scratch .entry))) 0 ⌝ }
-{
-    fill(scratch, 0);
 }
 
 // Insert and remove: their whole outcome but the counters.
@@ -181,8 +101,8 @@ fn check_words(tabulation: &[u16], words: &[u32], scratch: &mut [u32]) -> u32
     if refusal != 0 {
         return refusal;
     }
-    let loaded = load(tabulation, words, &mut *scratch);
-    let Loaded::Keys(_) = loaded else {
+    let reading = read_set(tabulation, words, &mut *scratch);
+    let Reading::Keys(_) = reading else {
         return NOT_CANONICAL;
     };
     0

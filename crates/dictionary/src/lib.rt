@@ -11,15 +11,7 @@ use counters::Counters;
 use counters::with_counts;
 use outcome::Change;
 
-mod collect;
 pub mod core;
-mod image;
-
-// What reading words as a set gives: how many keys, or that they are the image of no set.
-pub enum Loaded {
-    Keys(usize),
-    NotCanonical,
-}
 
 // `update` with counts in and counts out, for callers that hold the counters by value.
 pub fn update_counted(
@@ -39,12 +31,12 @@ pub fn update_counted(
     with_counts(answer, counters)
 }
 
-// `layout::fresh` with counts in and counts out, for callers that hold the counters by value.
+// `access::fresh` with counts in and counts out, for callers that hold the counters by value.
 pub fn init_counted(words: &mut [u32], r: u32, s: u32, counters: Counters) -> Counted
     ensures answered { λ c. ⌜ c .answer ≡ fresh-refusal (length (now (words .entry))) r s ⌝ }
     ensures laid { λ c. ⌜ now (words .exit) ≡ fresh-words (now (words .entry)) r s ⌝ }
     ensures moved { λ c. ⌜ c .counters ≡ counted counters (fresh-refusal (length (now (words .entry))) r s) ⌝ }
 {
-    let answer = layout::fresh(words, r, s);
+    let answer = access::fresh(words, r, s);
     with_counts(answer, counters)
 }

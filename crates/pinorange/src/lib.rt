@@ -25,7 +25,7 @@ pub extern "C" fn pinorange_lookup(
     ensures numbered { λ n. ⌜ n ≡ lookup-refusal (now (tabulation .entry)) (now (words .entry)) key ⌝ }
     ensures valued { λ n. ⌜ now (present .exit) ≡ present-out (now (tabulation .entry)) (now (words .entry)) key (now (present .entry)) ⌝ }
 {
-    let found = layout::lookup(tabulation, words, key);
+    let found = access::lookup(tabulation, words, key);
     match found {
         Found::Present => {
             *present = 1;
@@ -46,13 +46,13 @@ pub extern "C" fn pinorange_stash(words: &[u32], offset: &mut u32, length: &mut 
     ensures placed { λ n. ⌜ now (offset .exit) ≡ offset-out (now (words .entry)) ⌝ }
     ensures measured { λ n. ⌜ now (length .exit) ≡ length-out (now (words .entry)) ⌝ }
 {
-    let n = layout::stash_refusal(words);
+    let n = access::stash_refusal(words);
     if n != 0 {
         *offset = 0;
         *length = 0;
         return n;
     }
-    *offset = layout::stash_start(words[0]) as u32;
+    *offset = access::stash_start(words[0]) as u32;
     *length = words[3];
     0
 }

@@ -1,6 +1,7 @@
 -- `dictionary::core::change_words` meets its contract: 1 to 3, then 4, then 5, then what the set decides.
 use Rattle.outcome.specs.Laws.{Ready}
-use Rattle.dictionary.specs.Core.{Settable, early-ready, settable, left-early, left-tampered, left-blank, left-set}
+use Rattle.renewal.specs.Reading.{early-ready}
+use Rattle.dictionary.specs.Core.{Settable, settable, left-early, left-tampered, left-blank, left-set}
 use borrow.Author.Needs.{needs}
 use Rattle.dictionary.proofs.core.change_words.Statement.{statement}
 use Rattle.dictionary.proofs.core.change_words.Tie as tie
@@ -25,18 +26,18 @@ ready e = early-ready _ _ _ (e .before .early .ensures) (e .if1 .left)
 abbrev read : tie.Else2 → tie.Else1
 read z = z .before .before .before .before .before .before .before .before .before .before
 
-set : (z : tie.Else2) → Settable (start (read z) .args .tabulation .now) (start (read z) .args .words .now) (z .before .before .before .before .before .before .before .load .last .1 .1 .0)
-    (z .before .before .before .loaded .given .0 .0) (start (read z) .args .key)
+set : (z : tie.Else2) → Settable (start (read z) .args .tabulation .now) (start (read z) .args .words .now) (z .before .before .before .before .before .before .before .read-set .last .1 .1 .0)
+    (z .before .before .before .reading .given .0 .0) (start (read z) .args .key)
 set z =
     let q = z .before .before .before in
     let l = q .before .before .before .before in
-    settable (ready (read z)) (l .load .kept .1 .1 .0) (q .loaded .given .1) (l .load .ensures) (z .if2 .left) (z .before .is-blank .ensures)
+    settable (ready (read z)) (l .read-set .kept .1 .1 .0) (q .reading .given .1) (l .read-set .ensures .1) (z .if2 .left) (z .before .is-blank .ensures)
 
-load-requires : tie.Need-load-requires
-load-requires c κs = ready (c .before .before)
+read-set-requires : tie.Need-read-set-requires
+read-set-requires c κs = ready (c .before .before)
 
-enum-known-loaded : tie.Need-enum-known-loaded
-enum-known-loaded c = search needs
+enum-known-reading : tie.Need-enum-known-reading
+enum-known-reading c = search needs
 
 enum-told : tie.Need-enum-told
 enum-told c = search needs
@@ -48,7 +49,7 @@ same-length-3 : tie.Need-same-length-3
 same-length-3 c = search needs
 
 returns-2 : tie.Need-returns-2
-returns-2 c = let l = c .before .before .before .before in left-tampered _ _ _ _ _ (ready (l .before .before .before)) (l .load .ensures .0) (c .enum-told .given .1)
+returns-2 c = let l = c .before .before .before .before in left-tampered _ _ _ _ _ (ready (l .before .before .before)) (l .read-set .ensures .0) (c .enum-told .given .1)
 
 is-blank-requires : tie.Need-is-blank-requires
 is-blank-requires c κs = search needs
@@ -63,7 +64,7 @@ returns-3 : tie.Need-returns-3
 returns-3 c =
     let q = c .before .before .before in
     let l = q .before .before .before .before in
-    left-blank _ _ _ _ _ (ready (l .before .before .before)) (l .load .ensures .0) (q .loaded .given .1) (c .if2 .taken) (c .before .is-blank .ensures)
+    left-blank _ _ _ _ _ (ready (l .before .before .before)) (l .read-set .ensures .1 .0) (q .reading .given .1) (c .if2 .taken) (c .before .is-blank .ensures)
 
 enum-told-2 : tie.Need-enum-told-2
 enum-told-2 c = search needs
@@ -108,8 +109,8 @@ change-words-spec =
     early-requires
     same-length
     returns
-    load-requires
-    enum-known-loaded
+    read-set-requires
+    enum-known-reading
     enum-told
     same-length-2
     same-length-3

@@ -1,0 +1,74 @@
+-- `access::lookup` meets its contract: each `return` is the first refusal whose test holds, or whether the key stands.
+use mathlib.Core.Path.{sym, _∙_}
+use borrow.Author.Tests.{eq-eqb, ne-eqb, not-true, not-false}
+use Rattle.layout.specs.Shape.{shape}
+use Rattle.layout.specs.Answers.{lookup-refusal, lookup-values}
+use borrow.Author.Needs.{needs}
+use Rattle.access.proofs.lookup.Statement.{statement}
+use Rattle.access.proofs.lookup.Tie as tie
+
+returns : tie.Need-returns
+unfolding lookup-refusal lookup-values
+returns c = let t = ne-eqb _ _ (c .if1 .taken) in (simp t, simp t)
+
+is-shaped-requires : tie.Need-is-shaped-requires
+is-shaped-requires c κs = search needs
+
+returns-2 : tie.Need-returns-2
+unfolding lookup-refusal lookup-values
+returns-2 c =
+    let t = eq-eqb _ _ (c .before .before .if1 .left) in
+    let u = sym (c .before .is-shaped .ensures) ∙ not-true _ (c .if2 .taken) in
+    (simp (t, u), simp (t, u))
+
+is-blank-requires : tie.Need-is-blank-requires
+is-blank-requires c κs = search needs
+
+returns-3 : tie.Need-returns-3
+unfolding lookup-refusal lookup-values
+returns-3 c =
+    let d = c .before .before in
+    let t = eq-eqb _ _ (d .before .before .if1 .left) in
+    let u = sym (d .before .is-shaped .ensures) ∙ not-false _ (d .if2 .left) in
+    let v = sym (c .before .is-blank .ensures) ∙ c .if3 .taken in
+    (simp (t, u, v), simp (t, u, v))
+
+is-standing-requires : tie.Need-is-standing-requires
+is-standing-requires c κs =
+    let d = c .before .before in
+    (search needs, shape _ (sym (d .before .is-shaped .ensures) ∙ not-false _ (d .if2 .left)))
+
+returns-4 : tie.Need-returns-4
+unfolding lookup-refusal lookup-values
+returns-4 c =
+    let b = c .before .before in
+    let d = b .before .before in
+    let t = eq-eqb _ _ (d .before .before .if1 .left) in
+    let u = sym (d .before .is-shaped .ensures) ∙ not-false _ (d .if2 .left) in
+    let v = sym (b .before .is-blank .ensures) ∙ b .if3 .left in
+    let w = sym (c .before .is-standing .ensures) ∙ c .if4 .taken in
+    (simp (t, u, v), simp (t, u, v, w))
+
+returns-5 : tie.Need-returns-5
+unfolding lookup-refusal lookup-values
+returns-5 c =
+    let b = c .before .before in
+    let d = b .before .before in
+    let t = eq-eqb _ _ (d .before .before .if1 .left) in
+    let u = sym (d .before .is-shaped .ensures) ∙ not-false _ (d .if2 .left) in
+    let v = sym (b .before .is-blank .ensures) ∙ b .if3 .left in
+    let w = sym (c .before .is-standing .ensures) ∙ c .if4 .left in
+    (simp (t, u, v), simp (t, u, v, w))
+
+pub lookup-spec : {M : Type 1} → statement M
+lookup-spec =
+    tie.close
+    (tie.spec
+    returns
+    is-shaped-requires
+    returns-2
+    is-blank-requires
+    returns-3
+    is-standing-requires
+    returns-4
+    returns-5)

@@ -1,0 +1,178 @@
+// Words read in place: the shape test, lookup, the stash view; and the laying of fresh words. Every call takes words of any content and length, and
+// promises its whole answer by a definition of layout/specs/Answers.antt.
+ghost use mathlib.Core.Path.{_≡_};
+ghost use Prim.Native.Nat.{_+_, _*_, _≤_, _<_};
+ghost use lib.Dec.{eqb};
+ghost use lib.ListN.{length, getD};
+ghost use Rattle.cuckoo.specs.Graph.{member};
+ghost use Rattle.tabulation.specs.Hash.{tabulation-length, max-slots};
+ghost use Rattle.layout.specs.Layout.{sizes-in-range, shaped, words-length, scratch-length, key-at, stash-at};
+ghost use Rattle.layout.specs.Shape.{Sized, Shaped};
+ghost use Rattle.layout.specs.Answers.{number, values, lookup-refusal, lookup-values, stands, view-refusal, view-of, fresh-refusal, fresh-words};
+use layout::Found;
+use tabulation::BLANK_KEY;
+use tabulation::TABULATION_LENGTH;
+use tabulation::WRONG_SHAPE;
+use tabulation::WRONG_TABULATION;
+use words::fill;
+use words::wide;
+
+// Document 01's 4, as far as this crate gives it: the view of words whose heading counts more stashed keys than there are places.
+pub const NOT_CANONICAL: u32 = 4;
+
+// The words before the slots: r, s, the number of keys and the number of stashed keys.
+pub const HEADER_LENGTH: usize = 4;
+
+// The words of a slot: its key, then its next.
+pub const SLOT_WIDTH: usize = 2;
+
+// The most places of a stash.
+pub const MAX_PLACES: u32 = 64;
+
+// Whether r and s are in their ranges.
+pub fn are_sizes(r: u32, s: u32) -> bool
+    ensures { λ b. ⌜ b ≡ sizes-in-range r s ⌝ }
+{
+    tabulation::in_range(r) && s <= MAX_PLACES
+}
+
+// Where the stash begins.
+pub fn stash_start(r: u32) -> usize
+    requires { ⌜ r ≤ max-slots ⌝ }
+    ensures { λ n. ⌜ n ≡ stash-at r ⌝ }
+{
+    HEADER_LENGTH + SLOT_WIDTH * (2 * wide(r))
+}
+
+// The length of the words of a dictionary.
+pub fn length_for(r: u32, s: u32) -> usize
+    requires { ⌜ Sized r s ⌝ }
+    ensures { λ n. ⌜ n ≡ words-length r s ⌝ }
+{
+    stash_start(r) + wide(s)
+}
+
+// The length that scratch needs.
+pub fn scratch_for(r: u32, s: u32) -> usize
+    requires { ⌜ Sized r s ⌝ }
+    ensures { λ n. ⌜ n ≡ scratch-length r s ⌝ }
+{
+    8 * wide(r) + 4 * wide(s)
+}
+
+// Whether words have the shape that their heading tells.
+pub fn is_shaped(words: &[u32]) -> bool
+    ensures { λ b. ⌜ b ≡ shaped (now (words .entry)) ⌝ }
+{
+    if words.len() < HEADER_LENGTH {
+        return false;
+    }
+    let r = words[0];
+    let s = words[1];
+    if !are_sizes(r, s) {
+        return false;
+    }
+    words.len() == length_for(r, s)
+}
+
+// Whether the key stands in a slot. There are never as many as 4,096, so that the index fits.
+fn in_slot(words: &[u32], slot: u32, key: u32) -> bool
+    requires { ⌜ (key-at slot < length (now words)) × (slot < 4096) ⌝ }
+    ensures { λ b. ⌜ b ≡ eqb (getD (now (words .entry)) (key-at slot) 0) key ⌝ }
+{
+    words[HEADER_LENGTH + SLOT_WIDTH * wide(slot)] == key
+}
+
+// Whether the key is one of some words. Every word is looked at, so that the compiler can compare several at once.
+fn among(words: &[u32], key: u32) -> bool
+    ensures { λ b. ⌜ b ≡ member key (now (words .entry)) ⌝ }
+{
+    let mut found = false;
+    let mut i = 0;
+    while i < words.len() {
+        if key == words[i] {
+            found = true;
+        }
+        i += 1;
+    }
+    found
+}
+
+// Whether the key stands in one of its two slots or in the stash.
+fn is_standing(tabulation: &[u16], words: &[u32], key: u32) -> bool
+    requires { ⌜ (length (now tabulation) ≡ tabulation-length) × Shaped (now words) ⌝ }
+    ensures { λ b. ⌜ b ≡ stands (now (tabulation .entry)) (now (words .entry)) key ⌝ }
+{
+    let r = words[0];
+    if in_slot(words, tabulation::first_slot(tabulation, r, key), key) {
+        return true;
+    }
+    if in_slot(words, tabulation::second_slot(tabulation, r, key), key) {
+        return true;
+    }
+    let start = stash_start(r);
+    let end = start + wide(words[1]);
+    among(&words[start..end], key)
+}
+
+// Whether the key stands in the words as a key, on any words of the right shape; or 1, 2 or 5.
+pub fn lookup(tabulation: &[u16], words: &[u32], key: u32) -> Found
+    ensures numbered { λ f. ⌜ number f ≡ lookup-refusal (now (tabulation .entry)) (now (words .entry)) key ⌝ }
+    ensures valued { λ f. ⌜ values f ≡ lookup-values (now (tabulation .entry)) (now (words .entry)) key ⌝ }
+{
+    if tabulation.len() != TABULATION_LENGTH {
+        return Found::Refused(WRONG_TABULATION);
+    }
+    if !is_shaped(words) {
+        return Found::Refused(WRONG_SHAPE);
+    }
+    if tabulation::is_blank(key) {
+        return Found::Refused(BLANK_KEY);
+    }
+    if is_standing(tabulation, words, key) {
+        return Found::Present;
+    }
+    Found::Absent
+}
+
+// The number that goes with the stash view: 0, 2 or 4.
+pub fn stash_refusal(words: &[u32]) -> u32
+    ensures { λ n. ⌜ n ≡ view-refusal (now (words .entry)) ⌝ }
+{
+    if !is_shaped(words) {
+        return WRONG_SHAPE;
+    }
+    if words[1] < words[3] {
+        return NOT_CANONICAL;
+    }
+    0
+}
+
+// The stash view: the filled stretch of the stash, a part of the lent words; empty when it is refused.
+pub fn stash(words: &[u32]) -> &[u32]
+    ensures { λ v. ⌜ now v ≡ view-of (now (words .entry)) ⌝ }
+{
+    if stash_refusal(words) != 0 {
+        return &words[0..0];
+    }
+    let start = stash_start(words[0]);
+    let end = start + wide(words[3]);
+    &words[start..end]
+}
+
+// Lays fresh words: r, s and zeros, whatever they were; or 2, and the words stay.
+pub fn fresh(words: &mut [u32], r: u32, s: u32) -> u32
+    ensures numbered { λ n. ⌜ n ≡ fresh-refusal (length (now (words .entry))) r s ⌝ }
+    ensures laid { λ n. ⌜ now (words .exit) ≡ fresh-words (now (words .entry)) r s ⌝ }
+{
+    if !are_sizes(r, s) {
+        return WRONG_SHAPE;
+    }
+    if words.len() != length_for(r, s) {
+        return WRONG_SHAPE;
+    }
+    fill(words, 0);
+    words[0] = r;
+    words[1] = s;
+    0
+}
