@@ -14,7 +14,16 @@ use lib.ListN.{length, getD}
 abbrev pub house-entry : ℕ → ℕ
 house-entry i = (25173 * i * i + 13849) % 65521
 
--- The house tabulation: 2,048 entries, each as the rule says, and no two equal.
+-- n entries from entry i on, as the rule gives them
+unfoldable pub entries : ℕ → ℕ → List ℕ
+entries i zero = []
+entries i (suc n) = house-entry i ∷ entries (suc i) n
+
+-- the list that the rule gives: "a table of 2,048 numbers"
+unfoldable pub house-table : List ℕ
+house-table = entries 0 2048
+
+-- What is said of it: 2,048 entries, each as the rule says, and no two equal.
 pub record House (t : List ℕ) : Type 0 where
   pub long : length t ≡ 2048
   pub ruled : (i : ℕ) → i < 2048 → getD t i 0 ≡ house-entry i
@@ -139,3 +148,21 @@ house t e =
       ruled = λ i h. ruled-at 2048 0 leaf t e i (omega arith) ∙ ap house-entry (zero-add i);
       distinct = λ i j h k. differ-from 2048 0 leaf t e i j h (omega arith);
     }
+
+-- so it is the list that the rule gives,
+rule-list : (n i : ℕ) (seen : Tree) (xs : List ℕ) → test-from n i seen xs ≡ true → xs ≡ entries i n
+unfolding test-from entries
+rule-list n i seen [] e = rw (eqb-true n 0 e)
+rule-list zero i seen (x ∷ xs) e = absurd (false≢true e)
+rule-list (suc n) i seen (x ∷ xs) e =
+    let p = entry n i x seen xs e in
+    rw (p .ruled, ← rule-list n (suc i) (put x seen) xs (p .rest))
+
+pub house-is : (t : List ℕ) → house-test t ≡ true → t ≡ house-table
+unfolding house-test house-table
+house-is t e = rule-list 2048 0 leaf t e
+
+-- and that list passes the test: the rule gives 2,048 numbers, all different.
+pub house-table-is : House house-table
+unfolding house-test test-from has put house-table entries
+house-table-is = house house-table refl

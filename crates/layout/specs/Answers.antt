@@ -3,11 +3,11 @@
 use Prim.Native.Nat.{ℕ, _-_}
 use mathlib.Core.Path.{_≡_}
 use mathlib.Core.Bool.{Bool, true, false, not, cond, _&&_, _||_}
-use mathlib.Core.List.{List, [], _∷_}
+use mathlib.Core.List.{List, [], _∷_, List·Memᴰ as In}
 use lib.Dec.{eqb, ltb}
 use lib.ListN.{length, getD, take, drop, replicate}
 use Rattle.cuckoo.specs.Graph.{member}
-use Rattle.tabulation.specs.Refusal.{done, wrong-tabulation, wrong-shape, not-canonical, blank-key, first-refusal}
+use Rattle.tabulation.specs.Refusal.{done, wrong-tabulation, wrong-shape, not-canonical, blank-key, first-refusal, first-refusal-in}
 use Rattle.tabulation.specs.Hash.{Family, tabulation-length, blank}
 use Rattle.tabulation.specs.Slots.{slot-0, slot-1}
 use Rattle.layout.specs.Layout.{shaped, sizes-in-range, slots-of, places-of, stash-count, stash-at, stash-part, key-at, words-length}
@@ -27,13 +27,15 @@ values Present = 1 ∷ []
 values Absent = 0 ∷ []
 values (Refused n) = []
 
-unfoldable pub lookup-refusal : List ℕ → List ℕ → ℕ → ℕ
-lookup-refusal tabulation ws key =
-    first-refusal
-    ((wrong-tabulation, not (eqb (length tabulation) tabulation-length))
+abbrev pub lookup-refusals : List ℕ → List ℕ → ℕ → List (ℕ × Bool)
+lookup-refusals tabulation ws key =
+    (wrong-tabulation, not (eqb (length tabulation) tabulation-length))
     ∷ (wrong-shape, not (shaped ws))
     ∷ (blank-key, blank key)
-    ∷ [])
+    ∷ []
+
+unfoldable pub lookup-refusal : List ℕ → List ℕ → ℕ → ℕ
+lookup-refusal tabulation ws key = first-refusal (lookup-refusals tabulation ws key)
 
 -- "the number stands as a card number in its rack 0 place, its rack 1 place or one of the s drawer words"
 unfoldable pub stands : List ℕ → List ℕ → ℕ → Bool
@@ -48,8 +50,11 @@ lookup-values tabulation ws key =
 -- the stash view
 
 -- "The drawer view gives only 2, or 4 when word 3 exceeds s."
+abbrev pub view-refusals : List ℕ → List (ℕ × Bool)
+view-refusals ws = (wrong-shape, not (shaped ws)) ∷ (not-canonical, ltb (places-of ws) (stash-count ws)) ∷ []
+
 unfoldable pub view-refusal : List ℕ → ℕ
-view-refusal ws = first-refusal ((wrong-shape, not (shaped ws)) ∷ (not-canonical, ltb (places-of ws) (stash-count ws)) ∷ [])
+view-refusal ws = first-refusal (view-refusals ws)
 
 -- "the filled stretch of the drawer as part of the lent list"; "Refused, the stretch is empty"
 unfoldable pub view-of : List ℕ → List ℕ
@@ -58,14 +63,30 @@ view-of ws = cond (eqb (view-refusal ws) done) (take (stash-count ws) (drop (sta
 -- fresh words
 
 -- "Laying fresh takes r and s and gives only 2"
+abbrev pub fresh-refusals : ℕ → ℕ → ℕ → List (ℕ × Bool)
+fresh-refusals len r s = (wrong-shape, not (sizes-in-range r s && eqb len (words-length r s))) ∷ []
+
 unfoldable pub fresh-refusal : ℕ → ℕ → ℕ → ℕ
-fresh-refusal len r s = first-refusal ((wrong-shape, not (sizes-in-range r s && eqb len (words-length r s))) ∷ [])
+fresh-refusal len r s = first-refusal (fresh-refusals len r s)
 
 -- "accepted it leaves r, s and zeros"; a refusal leaves the words
 unfoldable pub fresh-words : List ℕ → ℕ → ℕ → List ℕ
 fresh-words ws r s = cond (eqb (fresh-refusal (length ws) r s) done) (r ∷ s ∷ replicate (length ws - 2) 0) ws
 
--- The laws that the code's proofs use: `stands`, test by test.
+-- The laws. Which numbers each call can answer: "It gives 1, 2, 5, or else yes exactly when ..", "gives only 2, or 4 ..", "gives only 2".
+pub lookup-answer-in : (tabulation ws : List ℕ) (key : ℕ) → In (lookup-refusal tabulation ws key) (0 ∷ 1 ∷ 2 ∷ 5 ∷ [])
+unfolding lookup-refusal
+lookup-answer-in tabulation ws key = first-refusal-in (lookup-refusals tabulation ws key)
+
+pub view-answer-in : (ws : List ℕ) → In (view-refusal ws) (0 ∷ 2 ∷ 4 ∷ [])
+unfolding view-refusal
+view-answer-in ws = first-refusal-in (view-refusals ws)
+
+pub fresh-answer-in : (len r s : ℕ) → In (fresh-refusal len r s) (0 ∷ 2 ∷ [])
+unfolding fresh-refusal
+fresh-answer-in len r s = first-refusal-in (fresh-refusals len r s)
+
+-- Those that the code's proofs use: `stands`, test by test.
 module _ (tabulation ws : List ℕ) (key : ℕ) where
   abbrev pub in-table-0 : Bool
   in-table-0 = eqb (getD ws (key-at (slot-0 (record { tabulation = tabulation; slots = slots-of ws }) key)) 0) key

@@ -23,6 +23,8 @@ use Rattle.layout.specs.Shape.{sized, sized-true, shape}
 use Rattle.layout.specs.Image.{image-shaped}
 use Rattle.layout.specs.Standing.{keys-in-valid}
 use Rattle.layout.specs.Canonical.{canonical, ImageOf, canonical-true, image-canonical, image-of-params, image-of-keys}
+use Rattle.layout.specs.Answers.{lookup-values}
+use Rattle.layout.specs.Look.{image-lookup-values}
 use Rattle.layout.specs.Fitting.{without-valid, without-fits, fits-length, fits-placement, full-placement}
 use Rattle.outcome.specs.declared.Change.{Change}
 use Rattle.outcome.specs.declared.Change.the-variants.{Insert, Remove}
@@ -169,7 +171,7 @@ module _ {P : Params} {S ws : List ℕ} (h : Holds P S ws) (full : length (P .ta
       held-remove m = held-set Remove ∙ (rw (b, m))
 
       -- row 8: an insert of a new key is refused exactly when no placement of the new set exists,
-      held-new : member key S ≡ false
+      pub held-new : member key S ≡ false
           → change-outcome Insert (P .tabulation) ws scratch key .answer ≡ cond (not (fits P (with-key key S))) stash-full done
       unfolding change-outcome
       held-new m = held-set Insert ∙ (rw (b, m))
@@ -220,6 +222,32 @@ pub held-changed : {P : Params} {S ws : List ℕ} → Holds P S ws → (kind : C
     → change-outcome kind (P .tabulation) ws scratch key .answer ≡ done
     → Holds P (changed kind key S) (change-outcome kind (P .tabulation) ws scratch key .words)
 held-changed {P} {S} {ws} h kind scratch key e = rw (held-params h, held-keys h) at (change-accepted kind (P .tabulation) ws scratch key e)
+
+-- lookup
+
+-- On words that hold S a lookup with the same tabulation says yes exactly for the keys of S, whatever key is asked for: a blank one is refused, and is in no set.
+pub held-lookup : {P : Params} {S ws : List ℕ} → Holds P S ws → length (P .tabulation) ≡ tabulation-length → (c : ℕ)
+    → (lookup-values (P .tabulation) ws c ≡ 1 ∷ []) ↔ In c S
+held-lookup {P} {S} {ws} h full c =
+    let e : lookup-values (P .tabulation) ws c ≡ cond (blank c) [] (cond (member c S) 1 0 ∷ []) =
+    ap (λ (us : List ℕ). lookup-values (P .tabulation) us c) (h .is .is) ∙ image-lookup-values P S (h .is .fit) full (h .range) c (h .is .valid) in (
+      λ v. elim (test (blank c)) [
+        | inl b ↦ absurd (let z : _≡_ {A = ℕ} 0 1 = cc (rw b at e) in omega arith)
+        | inr b ↦ elim (test (member c S)) [
+          | inl m ↦ member-in c S m
+          | inr m ↦ absurd (let z : _≡_ {A = ℕ} 0 1 = cc (rw (b, m) at e) in omega arith)
+        ]
+      ],
+      λ i. e ∙ (rw (h .is .valid .solid c i, in-member i)),
+    )
+
+-- Demand 2, "On such a list, with the same book, a look-up says yes exactly for the set's cards": after an accepted insert or remove, for the new set.
+pub change-lookup : (kind : Change) (tabulation ws scratch : List ℕ) (key : ℕ) → change-outcome kind tabulation ws scratch key .answer ≡ done → (c : ℕ)
+    → (lookup-values tabulation (change-outcome kind tabulation ws scratch key .words) c ≡ 1 ∷ []) ↔ In c (changed kind key (keys-in ws))
+change-lookup kind tabulation ws scratch key e c =
+    held-lookup (change-accepted kind tabulation ws scratch key e) (change-passed tabulation ws scratch kind key (inl e) .0 .full) c
+
+-- placement
 
 -- An insert that comes to the test of 8 is one of a new key,
 held-tried : {P : Params} {S ws : List ℕ} → Holds P S ws → (scratch : List ℕ) (key : ℕ)

@@ -4,13 +4,13 @@ use Prim.Native.Nat.{ℕ, _≤_, _<_}
 use mathlib.Core.Path.{_≡_, refl, sym, _∙_}
 use mathlib.Core.Bool.{Bool, true, false, not, cond}
 use mathlib.Core.Logic.{_⊎_, inl, inr, _↔_}
-use mathlib.Core.List.{List, [], _∷_, _++_, map, List·Memᴰ as In, List·Memᴰ·head as here, List·Memᴰ·tail as there}
+use mathlib.Core.List.{List, [], _∷_, _++_, List·Memᴰ as In, List·Memᴰ·head as here, List·Memᴰ·tail as there}
 use native.Mathlib.Omega.{arith}
 use borrow.Author.Tests.{eqb-true, eq-eqb, ne-eqb, ltb-false, lt-ltb, le-ltb, not-false}
 use lib.Dec.{eqb, ltb}
 use lib.ListN.{length, replicate}
 use Rattle.cuckoo.specs.Sets.{test}
-use Rattle.tabulation.specs.Refusal.{done, wrong-tabulation, wrong-shape, short-scratch, not-canonical, blank-key, first-refusal}
+use Rattle.tabulation.specs.Refusal.{done, wrong-tabulation, wrong-shape, short-scratch, not-canonical, blank-key, first-refusal, numbers, first-refusal-in}
 use Rattle.tabulation.specs.Hash.{tabulation-length, blank}
 use Rattle.layout.specs.Layout.{Params, params-of, slots-of, places-of, scratch-length, shaped, image, keys-in}
 use Rattle.layout.specs.Canonical.{canonical, ImageOf, canonical-iff, not-canonical-iff}
@@ -31,16 +31,6 @@ check-answers = 0 ∷ 1 ∷ 2 ∷ 3 ∷ 4 ∷ []
 -- the refusals of insert and remove after 4
 abbrev pub later-refusals : Change → List ℕ → List ℕ → ℕ → List (ℕ × Bool)
 later-refusals kind tabulation ws key = (blank-key, blank key) ∷ set-refusals kind (params-of tabulation ws) key (keys-in ws)
-
-first-refusal-in : (rs : List (ℕ × Bool)) → In (first-refusal rs) (done ∷ map (λ (r : ℕ × Bool). r .0) rs)
-first-refusal-in [] = here refl
-first-refusal-in (r ∷ rs) = go (r .1) (first-refusal-in rs)
-  where
-    go : (t : Bool) → In (first-refusal rs) (done ∷ map (λ (r : ℕ × Bool). r .0) rs)
-        → In (cond t (r .0) (first-refusal rs)) (done ∷ r .0 ∷ map (λ (r : ℕ × Bool). r .0) rs)
-    go true i = there (here refl)
-    go false (here q) = here q
-    go false (there i) = there (there i)
 
 -- a test that was passed over did not hold
 pub passed-over : {k m n : ℕ} (t : Bool) → cond t k m ≡ n → (n ≡ k → ⊥) → (t ≡ false) × (m ≡ n)
@@ -157,7 +147,7 @@ module _ (tabulation ws scratch : List ℕ) where
         )
 
 -- none of 1 to 4 is among the refusals of a change that come after them
-late-first : (rs : List (ℕ × Bool)) → ((n : ℕ) → In n (map (λ (r : ℕ × Bool). r .0) rs) → not-canonical < n) → Late (first-refusal rs)
+late-first : (rs : List (ℕ × Bool)) → ((n : ℕ) → In n (numbers rs) → not-canonical < n) → Late (first-refusal rs)
 late-first rs f = elim (first-refusal-in rs) [ here q ↦ inl q | there i ↦ inr (f (first-refusal rs) i) ]
 
 rest-late : (kind : Change) (P : Params) (key : ℕ) (S : List ℕ) → Late (first-refusal ((blank-key, blank key) ∷ set-refusals kind P key S))

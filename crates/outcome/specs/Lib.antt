@@ -1,5 +1,6 @@
 -- What insert, remove and check answer and leave (Outcome): the definitions. Then their laws: for all inputs (Laws), and for a dictionary that holds a set
--- (Held).
+-- (Held); and document 01's board as calls (Board).
 pub mod Outcome
 pub mod Laws
 pub mod Held
+pub mod Board

@@ -1,19 +1,26 @@
--- What the exported call for the house tabulation answers and leaves.
+-- What the exported call for the house tabulation answers and leaves: 1 for a lent tabulation of another length, which stays; otherwise the list that the house
+-- rule gives, entry i for i from 0 to 2,047 (crates/house/specs/Rule.antt).
 use Prim.Native.Nat.{ℕ}
-use mathlib.Core.Path.{_≡_}
-use mathlib.Core.Bool.{true, not}
-use mathlib.Core.List.{List, [], _∷_}
+use mathlib.Core.Bool.{Bool, not, cond}
+use mathlib.Core.List.{List, [], _∷_, List·Memᴰ as In}
 use lib.Dec.{eqb}
 use lib.ListN.{length}
-use Rattle.tabulation.specs.Refusal.{wrong-tabulation, first-refusal}
+use Rattle.tabulation.specs.Refusal.{done, wrong-tabulation, first-refusal, first-refusal-in}
 use Rattle.tabulation.specs.Hash.{tabulation-length}
-use Rattle.house.specs.Rule.{house-test}
+use Rattle.house.specs.Rule.{house-table}
 
 -- 1 where the lent tabulation is not of the right length
-unfoldable pub house-answer : ℕ → ℕ
-house-answer len = first-refusal ((wrong-tabulation, not (eqb len tabulation-length)) ∷ [])
+abbrev pub house-refusals : ℕ → List (ℕ × Bool)
+house-refusals len = (wrong-tabulation, not (eqb len tabulation-length)) ∷ []
 
--- Of the right length, what is left passes the test of the house rule (crates/house/specs/Rule.antt); otherwise it stays as it was.
-pub data Housed (before after : List ℕ) : Type 0 where
-  filled : length before ≡ tabulation-length → house-test after ≡ true → Housed before after
-  kept : (length before ≡ tabulation-length → ⊥) → after ≡ before → Housed before after
+unfoldable pub house-answer : ℕ → ℕ
+house-answer len = first-refusal (house-refusals len)
+
+-- what is left in a lent tabulation
+unfoldable pub housed : List ℕ → List ℕ
+housed before = cond (eqb (house-answer (length before)) done) house-table before
+
+-- The law: no other number is given.
+pub house-answer-in : (len : ℕ) → In (house-answer len) (0 ∷ 1 ∷ [])
+unfolding house-answer
+house-answer-in len = first-refusal-in (house-refusals len)

@@ -6,7 +6,7 @@ ghost use Rattle.tabulation.specs.Answer.{hashes-refusal, written};
 ghost use Rattle.layout.specs.Answers.{lookup-refusal, view-refusal, fresh-refusal, fresh-words};
 ghost use Rattle.outcome.specs.Outcome.{change-outcome, check-outcome};
 ghost use Rattle.counters.specs.Counters.{counted};
-ghost use Rattle.pinorange.specs.House.{house-answer, Housed};
+ghost use Rattle.pinorange.specs.House.{house-answer, housed};
 ghost use Rattle.pinorange.specs.Out.{present-out, offset-out, length-out};
 use counters::Counters;
 use layout::Found;
@@ -123,7 +123,7 @@ pub extern "C" fn pinorange_check(tabulation: &[u16], words: &[u32], scratch: &m
 #[no_mangle]
 pub extern "C" fn pinorange_house(tabulation: &mut [u16]) -> u32
     ensures answered { λ n. ⌜ n ≡ house-answer (length (now (tabulation .entry))) ⌝ }
-    ensures filled { λ n. ⌜ Housed (now (tabulation .entry)) (now (tabulation .exit)) ⌝ }
+    ensures filled { λ n. ⌜ now (tabulation .exit) ≡ housed (now (tabulation .entry)) ⌝ }
 {
     if tabulation.len() != TABULATION_LENGTH {
         return WRONG_TABULATION;

@@ -4,10 +4,10 @@ use Prim.Native.Nat.{ℕ}
 use mathlib.Core.Bool.{Bool, true, false, not, cond}
 use mathlib.Core.Path.{_≡_, refl}
 use native.Mathlib.Omega.{arith}
-use mathlib.Core.List.{List, [], _∷_}
+use mathlib.Core.List.{List, [], _∷_, List·Memᴰ as In}
 use lib.Dec.{eqb}
 use lib.ListN.{length}
-use Rattle.tabulation.specs.Refusal.{done, wrong-tabulation, wrong-shape, blank-key, first-refusal}
+use Rattle.tabulation.specs.Refusal.{done, wrong-tabulation, wrong-shape, blank-key, first-refusal, first-refusal-in}
 use Rattle.tabulation.specs.Hash.{tabulation-length, slots-in-range, blank, Family, hash}
 use Rattle.tabulation.specs.declared.Hashed.{Hashed}
 use Rattle.tabulation.specs.declared.Hashed.the-variants.{At, Refused}
@@ -21,13 +21,15 @@ abbrev pub values : Hashed → List ℕ
 values (At h0 h1) = h0 ∷ h1 ∷ []
 values (Refused n) = []
 
-unfoldable pub hashes-refusal : Family → ℕ → ℕ
-hashes-refusal F key =
-    first-refusal
-    ((wrong-tabulation, not (eqb (length (F .tabulation)) tabulation-length))
+abbrev pub hashes-refusals : Family → ℕ → List (ℕ × Bool)
+hashes-refusals F key =
+    (wrong-tabulation, not (eqb (length (F .tabulation)) tabulation-length))
     ∷ (wrong-shape, not (slots-in-range (F .slots)))
     ∷ (blank-key, blank key)
-    ∷ [])
+    ∷ []
+
+unfoldable pub hashes-refusal : Family → ℕ → ℕ
+hashes-refusal F key = first-refusal (hashes-refusals F key)
 
 unfoldable pub hashes-values : Family → ℕ → List ℕ
 hashes-values F key = cond (eqb (hashes-refusal F key) done) (hash F 0 key ∷ hash F 1 key ∷ []) []
@@ -36,7 +38,12 @@ hashes-values F key = cond (eqb (hashes-refusal F key) done) (hash F 0 key ∷ h
 unfoldable pub written : Family → ℕ → ℕ → ℕ → ℕ
 written F key table old = cond (eqb (hashes-refusal F key) done) (hash F table key) old
 
--- The laws that the code's proofs use.
+-- The laws. "it gives both places, or 1, 2 .. or 5", and nothing else:
+pub hashes-answer-in : (F : Family) (key : ℕ) → In (hashes-refusal F key) (0 ∷ 1 ∷ 2 ∷ 5 ∷ [])
+unfolding hashes-refusal
+hashes-answer-in F key = first-refusal-in (hashes-refusals F key)
+
+-- Those that the code's proofs use.
 
 module _ (F : Family) (key old : ℕ) where
   -- what the values of an answer say of the out-parameters

@@ -7,8 +7,8 @@ use borrow.Author.Needs.{needs}
 use borrow.Author.Tests.{eq-eqb, ne-eqb}
 use lib.ListN.{length, take, getD, length-set}
 use lib.Seq.{take-all, take-suc-set, take-suc}
-use Rattle.house.specs.Rule.{house}
-use Rattle.pinorange.specs.House.{house-answer, filled, kept}
+use Rattle.house.specs.Rule.{house, house-is}
+use Rattle.pinorange.specs.House.{house-answer, housed}
 use Rattle.pinorange.proofs.pinorange_house.Statement.{statement}
 use Rattle.pinorange.proofs.pinorange_house.Tie as tie
 
@@ -19,8 +19,8 @@ abbrev μ-loop : tie.MeasureT-loop
 μ-loop tabulation₀ table i₀ tabulation i = 2048 - i
 
 returns : tie.Need-returns Inv-loop μ-loop
-unfolding house-answer
-returns c = (rw (ne-eqb _ _ (c .if1 .taken)), kept (c .if1 .taken) refl)
+unfolding house-answer housed
+returns c = let e = ne-eqb _ _ (c .if1 .taken) in (rw e, rw e)
 
 house-tabulation-requires : tie.Need-house-tabulation-requires Inv-loop μ-loop
 house-tabulation-requires c κs = search needs
@@ -62,7 +62,7 @@ same-length : tie.Need-same-length Inv-loop μ-loop
 same-length c = search needs
 
 returns-2 : tie.Need-returns-2 Inv-loop μ-loop
-unfolding house-answer
+unfolding house-answer housed
 returns-2 c =
     let l = c .before .loop in
     let h = c .before .before in
@@ -71,7 +71,8 @@ returns-2 c =
     let i : l .i ≡ 2048 = omega arith in
     let e : l .tabulation ≡ t =
     sym (take-all 2048 (l .tabulation) (omega arith)) ∙ (rw i at (l .inv .3)) ∙ take-all 2048 t (omega arith) in
-    (rw (eq-eqb _ _ (d .if1 .left)), filled (d .if1 .left) (rw e (h .house-tabulation .ensures)))
+    let f = eq-eqb _ _ (d .if1 .left) in
+    (rw f, rw f (e ∙ house-is t (h .house-tabulation .ensures)))
 
 pub pinorange-house-spec : {M : Type 1} → statement M
 pinorange-house-spec =
