@@ -18,8 +18,8 @@ use Rattle.build.specs.Notes.{Noting, nothing-noted, note-at, stash-key,
 use Rattle.build.specs.Scratch.{Parts, glue, parts, stash-at, with-sets}
 use Rattle.build.specs.Access.{Enough, Room, Fit, NoteAt, tables, enough-kept, parts-fit, is-glue, read-key, stash-part, part-set, note-word, note-set}
 use Rattle.build.specs.Passes.{with-noting, answer, noting-of, noted-parts, noted-held-parts}
-use Rattle.build.specs.declared.notes.StashCount.{StashCount}
-use Rattle.build.specs.declared.notes.StashCount.the-variants.{Keys, Overflow}
+use Rattle.build.specs.declared.StashCount.{StashCount}
+use Rattle.build.specs.declared.StashCount.the-variants.{Keys, Overflow}
 
 module _ (a b : ℕ → ℕ) (held labels : List ℕ) where
   -- one key of the first pass

@@ -19,8 +19,8 @@ use Rattle.build.specs.Slots.{each-slot-length}
 use Rattle.build.specs.Next.{Passing, last-seen, chained, blank, blanked, last-seen-length, chained-length}
 use Rattle.build.specs.Scratch.{Parts, Sized, with-held, with-next, with-sets, with-stash}
 use Rattle.build.specs.Access.{Fit, held-sized, next-sized, sets-sized, stash-sized}
-use Rattle.build.specs.declared.notes.StashCount.{StashCount}
-use Rattle.build.specs.declared.notes.StashCount.the-variants.{Keys, Overflow}
+use Rattle.build.specs.declared.StashCount.{StashCount}
+use Rattle.build.specs.declared.StashCount.the-variants.{Keys, Overflow}
 
 -- the parts with the words of a noting, and of a passing
 abbrev pub with-noting : Parts → Noting → Parts

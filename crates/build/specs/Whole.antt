@@ -26,8 +26,8 @@ use Rattle.build.specs.Access.{tables, Room, Fit, parts-fit, held-sized,
 use Rattle.build.specs.Passes.{answer, noting-of, noted-parts, noted-held-parts, finished-parts, last-seen-parts, chained-parts, blanked-parts}
 use Rattle.build.specs.Passes.{noted-sized, noted-held-sized, finished-sized, last-seen-sized, chained-sized, blanked-sized, labels-fit}
 use Rattle.build.specs.Outcome.{Buildable, Build, full, made, Built, stash-keys}
-use Rattle.build.specs.declared.notes.StashCount.{StashCount}
-use Rattle.build.specs.declared.notes.StashCount.the-variants.{Keys, Overflow}
+use Rattle.build.specs.declared.StashCount.{StashCount}
+use Rattle.build.specs.declared.StashCount.the-variants.{Keys, Overflow}
 
 module _ (F : Family) (s n : ℕ) (P : Parts) where
   -- step 1
@@ -155,7 +155,7 @@ module _ {r s n : ℕ} {tabulation scratch : List ℕ} (B : Buildable r s n tabu
           let e : answer (whole-noting F s n P) ≡ Keys k = sym c ∙ o in
           let f = rw t at e in
           let q : parts r s after ≡ seated-from F n (noted-from F s n P) = rw g (parts-glue seated-from-sized) in
-          let b : Build F s S after (Keys k) = made l (cc) (record {
+          let b : Build F s S after (Keys k) = made l refl (cc) (record {
             held = ap (λ (Q : Parts). Q .held) q ∙ h;
             next = ap (λ (Q : Parts). Q .next) q ∙ x;
             stashed = ap (λ (Q : Parts). Q .stash) q ∙ d;

@@ -1,5 +1,6 @@
--- Sequences of calls on the words of one dictionary, as document 01 tells them ("The plain register"): which calls may stand there, and what they
--- answer and leave, by the very definitions that the contracts cite. This file and Model.antt are what a reader must believe.
+-- Sequences of calls on the words of one dictionary, as document 01 tells them ("The plain register"): which calls may
+-- stand there, what they answer and leave, by the very definitions that the contracts cite, and which calls are like.
+-- This file, Model.antt and the records of History.antt and NoTrace.antt are what a reader must believe.
 use Prim.Native.Nat.{ℕ}
 use mathlib.Core.Path.{_≡_}
 use mathlib.Core.List.{List, [], _∷_}
@@ -90,3 +91,25 @@ pub record Sequence (P : Params) (ws : List ℕ) (cs : List Call) : Type 0 where
   pub accepted : fresh-refusal (length before) (P .slots) (P .places) ≡ done
   pub laid : ws ≡ fresh-words before (P .slots) (P .places)
   pub allowed : Allowed (P .tabulation) ws cs
+
+-- the words that the sequence leaves
+abbrev pub words-left : Params → List ℕ → List Call → List ℕ
+words-left P ws cs = words-after (P .tabulation) ws cs
+
+-- What "any later like call" means. "Like arguments are equal ones, what the work sheet and the meter hold aside." A call
+-- of another kind is like one with the same outcome.
+pub data Like (t : List ℕ) : Call → Call → Type 0 where
+  change : (kind : Change) {l l′ : Lent} {scratch scratch′ : List ℕ} (counters counters′ : Counters) (key : ℕ)
+      → lent-of t l ≡ lent-of t l′ → length scratch ≡ length scratch′
+      → Like t (Call.change kind l scratch counters key) (Call.change kind l′ scratch′ counters′ key)
+  lookup : {l l′ : Lent} (key : ℕ) → lent-of t l ≡ lent-of t l′ → Like t (Call.lookup l key) (Call.lookup l′ key)
+  check : {l l′ : Lent} {scratch scratch′ : List ℕ} → lent-of t l ≡ lent-of t l′ → length scratch ≡ length scratch′
+      → Like t (Call.check l scratch) (Call.check l′ scratch′)
+  view : Like t Call.view Call.view
+  other : (x x′ : Other) → ((ws : List ℕ) → x .answer ws ≡ x′ .answer ws) → ((ws : List ℕ) → x .words ws ≡ x′ .words ws)
+      → Like t (Call.other x) (Call.other x′)
+
+-- sequences of like calls
+pub data Alike (t : List ℕ) : List Call → List Call → Type 0 where
+  end : Alike t [] []
+  then : {c c′ : Call} {cs cs′ : List Call} → Like t c c′ → Alike t cs cs′ → Alike t (c ∷ cs) (c′ ∷ cs′)

@@ -1,8 +1,9 @@
--- THE theorem about whole sequences (demand 3): for every sequence of calls the answers are those of the reference model, and after every call the
--- words are the canonical image of the model's set. Assumes nothing.
+-- The theorem about whole sequences from which all of demand 3 follows (NoTrace.antt): for every sequence of calls the
+-- answers are those of the reference model, and after every call the words are the canonical image of the model's set.
+-- Assumes nothing.
 use Prim.Native.Nat.{ℕ}
 use mathlib.Core.Path.{_≡_, refl, sym, _∙_, ap}
-use mathlib.Core.Bool.{true, cond}
+use mathlib.Core.Bool.{true, false, not, cond}
 use mathlib.Core.Logic.{inl, inr}
 use mathlib.Core.List.{List, [], _∷_, map, List·Memᴰ as In, List·Memᴰ·head as here, List·Memᴰ·tail as there}
 use native.Mathlib.Omega.{arith}
@@ -43,6 +44,13 @@ pub record Follows (P : Params) (S ws : List ℕ) (cs : List Call) : Type 0 wher
 
 -- one call
 
+-- Of the lent tabulations only those in place of the sequence's have a wrong length.
+own-lent : (P : Params) → length (P .tabulation) ≡ tabulation-length → wrong-length P own ≡ false
+own-lent P full = ap not (eq-eqb (length (P .tabulation)) tabulation-length full)
+
+pub wrong-lent : (P : Params) (t : List ℕ) (n : length t ≡ tabulation-length → ⊥) → wrong-length P (wrong t n) ≡ true
+wrong-lent P t n = ap not (ne-eqb (length t) tabulation-length n)
+
 module _ {P : Params} {S ws : List ℕ} (h : Holds P S ws) (full : length (P .tabulation) ≡ tabulation-length) where
   -- the model's tests of a change are those of the outcome, with S as "the set", but for 2 and 4
   tests-are : (kind : Change) (l : Lent) (n key : ℕ)
@@ -51,14 +59,15 @@ module _ {P : Params} {S ws : List ℕ} (h : Holds P S ws) (full : length (P .ta
   tests-are Insert l n key = refl
   tests-are Remove l n key = refl
 
-  change-number : (kind : Change) (l : Lent) (scratch : List ℕ) (key : ℕ)
+  -- a change answers what the model answers
+  pub change-number : (kind : Change) (l : Lent) (scratch : List ℕ) (key : ℕ)
       → change-outcome kind (lent-of (P .tabulation) l) ws scratch key .answer ≡ first-refusal (change-tests P kind l (length scratch) key S)
   change-number kind own scratch key =
       change-answer (P .tabulation) ws scratch kind key
       ∙ (held-refusal h full kind scratch key
-      ∙ (rw (tests-are kind own (length scratch) key, eq-eqb (length (P .tabulation)) tabulation-length full)))
+      ∙ (rw (tests-are kind own (length scratch) key, own-lent P full)))
   change-number kind (wrong t n) scratch key =
-      change-tabulation t ws scratch kind key n ∙ (rw (tests-are kind (wrong t n) (length scratch) key, ne-eqb (length t) tabulation-length n))
+      change-tabulation t ws scratch kind key n ∙ (rw (tests-are kind (wrong t n) (length scratch) key, wrong-lent P t n))
 
   new-is : (kind : Change) (key : ℕ) → changed kind key S ≡ new-set kind key S
   new-is Insert key = refl
@@ -101,8 +110,8 @@ module _ {P : Params} {S ws : List ℕ} (h : Holds P S ws) (full : length (P .ta
   check-number : (l : Lent) (scratch : List ℕ)
       → check-outcome (lent-of (P .tabulation) l) ws scratch .answer
       ≡ first-refusal (check-tests P l (length scratch))
-  check-number own scratch = held-check h full scratch ∙ (rw (eq-eqb (length (P .tabulation)) tabulation-length full))
-  check-number (wrong t n) scratch = check-tabulation t ws scratch n ∙ (rw (ne-eqb (length t) tabulation-length n))
+  check-number own scratch = held-check h full scratch ∙ (rw (own-lent P full))
+  check-number (wrong t n) scratch = check-tabulation t ws scratch n ∙ (rw (wrong-lent P t n))
 
   -- Each call answers what the model answers, and leaves the image of the model's set.
   step-follows : (c : Call) → MayStand ws c
@@ -132,7 +141,7 @@ follows {P} {S} {ws} h full {cs = c ∷ cs} (more stand rest) =
       final = f .final;
     }
 
--- THE theorem: every sequence of calls from an accepted init on follows the model, which starts with the empty set.
+-- Every sequence of calls from an accepted init on follows the model, which starts with the empty set.
 pub history : {P : Params} {ws : List ℕ} {cs : List Call} → Sequence P ws cs → Follows P [] ws cs
 history {P} {ws} {cs} q =
     let h : Holds P [] ws = record {

@@ -96,3 +96,7 @@ module _ (P : Params) where
   unfoldable pub set-after : List ℕ → List Request → List ℕ
   set-after S [] = S
   set-after S (q ∷ qs) = set-after (reply S q .set) qs
+
+-- the set with which the register ends, fed the sequence cs of calls that starts with words ws
+abbrev pub set-left : Params → List ℕ → List Call → List ℕ
+set-left P ws cs = set-after P [] (requests (P .tabulation) ws cs)

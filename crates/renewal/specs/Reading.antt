@@ -19,8 +19,8 @@ use Rattle.layout.specs.Image.{le-fits}
 use Rattle.layout.specs.Standing.{keys-in-valid, not-blank}
 use Rattle.codec.specs.Collect.{keys-in-few}
 use Rattle.build.specs.Outcome.{Standing, full, made, Build, Built, Buildable}
-use Rattle.build.specs.declared.notes.StashCount.{StashCount}
-use Rattle.build.specs.declared.notes.StashCount.the-variants.{Keys as StashKeys, Overflow}
+use Rattle.build.specs.declared.StashCount.{StashCount}
+use Rattle.build.specs.declared.StashCount.the-variants.{Keys as StashKeys, Overflow}
 use Rattle.outcome.specs.Laws.{Ready}
 use Rattle.renewal.specs.Parts.{Comparable, assembled-in, assembled-image}
 use Rattle.renewal.specs.declared.Reading.{Reading}
@@ -147,7 +147,7 @@ module _ {tabulation ws scratch mid : List ℕ} {n : ℕ} (R : Collected tabulat
     read-full e =
         elim keys-built [
           | full l q ↦ let f = full-fits P (keys-in ws) l in (rw f, (rw f, front-kept))
-          | made l q W ↦ absurd (let z : _≡_ {A = ℕ} 0 1 = cc in omega arith)
+          | made l q v W ↦ absurd (omega (arith, rw e at q))
         ]
 
     module _ {k : ℕ} (e : count ≡ StashKeys k) where
@@ -156,8 +156,9 @@ module _ {tabulation ws scratch mid : List ℕ} {n : ℕ} (R : Collected tabulat
       unfolding canonical
       canonical-same =
           elim keys-built [
-            | full l q ↦ absurd (let z : _≡_ {A = ℕ} 0 1 = cc in omega arith)
-            | made l q W ↦
+            | full l q ↦ absurd (omega (arith, rw e at q))
+            | made l q v W ↦
+                let w = rw e at v in
                 let m : length (stash-of P (keys-in ws)) ≡ k = cc in
                 rw (R .count, ← m, standing-image P (keys-in ws) after W, le-fits P (keys-in ws) l)
           ]
@@ -176,15 +177,16 @@ module _ (P : Params) (ws scratch : List ℕ) (n : ℕ) {after : List ℕ} {coun
   renew-full e =
       elim (B .built) [
         | full l q ↦ let f = full-fits P (take n scratch) l in (rw f, rw f)
-        | made l q W ↦ absurd (let z : _≡_ {A = ℕ} 0 1 = cc in omega arith)
+        | made l q v W ↦ absurd (omega (arith, rw e at q))
       ]
 
   pub renew-made : {k : ℕ} → count ≡ StashKeys k → n ≤ length scratch
       → (done ≡ new-answer P (take n scratch)) × (assembled-in (P .slots) (P .places) n k after ≡ new-words P (take n scratch) ws)
   renew-made {k} e fit =
       elim (B .built) [
-        | full l q ↦ absurd (let z : _≡_ {A = ℕ} 0 1 = cc in omega arith)
-        | made l q W ↦
+        | full l q ↦ absurd (omega (arith, rw e at q))
+        | made l q v W ↦
+            let w = rw e at v in
             let f = le-fits P (take n scratch) l in
             let m : length (stash-of P (take n scratch)) ≡ k = cc in
             let s : length (take n scratch) ≡ n = length-take-le n scratch fit in

@@ -7,7 +7,7 @@ ghost use Rattle.layout.specs.Shape.{Shaped};
 ghost use Rattle.build.specs.Outcome.{Buildable};
 ghost use Rattle.outcome.specs.Laws.{Ready};
 ghost use Rattle.renewal.specs.Reading.{early-refusal, number, values, reading-refusal, reading-values, new-answer, new-words};
-use build::notes::StashCount;
+use build::StashCount;
 use codec::collect::collect_keys;
 use parts::matches_built;
 use parts::write_built;
@@ -56,7 +56,7 @@ pub fn read_set(tabulation: &[u16], words: &[u32], scratch: &mut [u32]) -> Readi
     let r = words[0];
     let s = words[1];
     let n = collect_keys(words, &mut *scratch);
-    let count = build::build(&mut *scratch, tabulation, r, s, n);
+    let count = seating::build(&mut *scratch, tabulation, r, s, n);
     let StashCount::Keys(stashed) = count else {
         return Reading::NotCanonical;
     };
@@ -74,7 +74,7 @@ pub fn renew(tabulation: &[u16], words: &mut [u32], scratch: &mut [u32], n: usiz
 {
     let r = words[0];
     let s = words[1];
-    let count = build::build(&mut *scratch, tabulation, r, s, n);
+    let count = seating::build(&mut *scratch, tabulation, r, s, n);
     let StashCount::Keys(stashed) = count else {
         return STASH_FULL;
     };

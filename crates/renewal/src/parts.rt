@@ -5,10 +5,10 @@ ghost use lib.ListN.{length};
 ghost use Rattle.cuckoo.specs.Lists.{same};
 ghost use Rattle.build.specs.Scratch.{parts};
 ghost use Rattle.renewal.specs.Parts.{Parted, Comparable, Writable, assembled-in};
-use build::parts::held_start;
-use build::parts::next_start;
-use build::parts::sets_start;
-use build::parts::stash_start;
+use linking::parts::held_start;
+use linking::parts::next_start;
+use linking::parts::sets_start;
+use linking::parts::stash_start;
 use words::wide;
 
 // The parts of scratch that the image is made of.

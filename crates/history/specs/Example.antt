@@ -1,0 +1,263 @@
+-- Demand 3 at work, so that a reader sees that its hypothesis can be met: a sequence of calls of every kind on document
+-- 01's test board, with its answers and the words that it leaves written out, and a second one with another past that
+-- leaves the same words. The answers are proved through the theorem, from the rows K5 and K6 of layout/specs/Board.antt.
+-- Assumes nothing.
+use Prim.Native.Nat.{ℕ}
+use mathlib.Core.Path.{_≡_, refl, sym, _∙_, ap}
+use mathlib.Core.Bool.{true}
+use mathlib.Core.List.{List, [], _∷_, map, List·Memᴰ·head as here, List·Memᴰ·tail as there}
+use native.Mathlib.Omega.{arith}
+use lib.ListN.{length, replicate, drop, getD}
+use Rattle.cuckoo.specs.Graph.{without}
+use Rattle.cuckoo.specs.Sets.{below}
+use Rattle.cuckoo.specs.Placement.{Placement}
+use Rattle.ordered.specs.Keys.{with-key, above}
+use Rattle.tabulation.specs.Refusal.{done, stash-full}
+use Rattle.tabulation.specs.Hash.{slots-in-range, blank}
+use Rattle.tabulation.specs.Slots.{slot-0, slot-1}
+use Rattle.layout.specs.Layout.{Params, family, sizes-in-range, shaped, stash-of, fits, image}
+use Rattle.layout.specs.Answers.{view-refusal, view-of, fresh-refusal, fresh-words}
+use Rattle.layout.specs.Fitting.{without-valid, without-fits}
+use Rattle.layout.specs.Look.{image-view}
+use Rattle.layout.specs.Board.{board-tabulation, board-length, board, Shown, Full, shows, full, board-rows}
+use Rattle.outcome.specs.declared.Change.the-variants.{Insert, Remove}
+use Rattle.counters.specs.declared.Counters.{Counters}
+use Rattle.history.specs.Calls.{own, wrong, Call, Answer, Step, step, run, words-after, words-left}
+use Rattle.history.specs.Calls.{Allowed, none, more, Sequence}
+use Rattle.history.specs.Model.{Request, requests, Reply, reply, model, set-after, set-left}
+use Rattle.history.specs.History.{history}
+use Rattle.history.specs.NoTrace.{ComesToFull, step-after, NoTrace, alike-self, no-trace}
+use Rattle.history.specs.Corollaries.{same-answers}
+use Rattle.history.specs.Others.{init}
+
+-- the calls
+
+-- "With r = 4 .. s = 1."
+abbrev pub P : Params
+P = board 4 1
+
+-- "Sheets have any length and content, the meter any counts": 8r + 4s = 36 words, which hold what an earlier user left
+abbrev scratch : List ℕ
+scratch = replicate 36 9
+
+abbrev counters : Counters
+counters = record { done = 5; refused = 4294967295 }
+
+abbrev pub insert : ℕ → Call
+insert key = Call.change Insert own scratch counters key
+
+abbrev pub remove : ℕ → Call
+remove key = Call.change Remove own scratch counters key
+
+abbrev says : ℕ → List ℕ → Answer
+says n values = record { number = n; values = values }
+
+-- each call with its answer
+abbrev pub script : List (Call × Answer)
+script =
+    -- K5, one key after the other
+    (insert 1, says 0 [])
+    ∷ (insert 65, says 0 [])
+    ∷ (insert 129, says 0 [])
+    -- "K6 K5 plus 193: refused 8"
+    ∷ (insert 193, says 8 [])
+    -- a tabulation of a wrong length, a scratch of 35 words, a blank key, a key that is in the set
+    ∷ (Call.change Insert (wrong [] (λ e. omega arith)) scratch counters 17, says 1 [])
+    ∷ (Call.change Insert own (replicate 35 9) counters 17, says 3 [])
+    ∷ (insert 0, says 5 [])
+    ∷ (insert 65, says 6 [])
+    -- "any other call on it may stand there if it is refused": init with r = 0
+    ∷ (Call.other (init 0 1), says 2 [])
+    ∷ (Call.lookup own 65, says 0 (1 ∷ []))
+    ∷ (Call.lookup own 193, says 0 (0 ∷ []))
+    ∷ (remove 7, says 7 [])
+    ∷ (Call.check own scratch, says 0 [])
+    -- "drawer 129"
+    ∷ (Call.view, says 0 (129 ∷ []))
+    ∷ []
+
+abbrev pub calls : List Call
+calls = map (λ (row : Call × Answer). row .0) script
+
+abbrev pub answers : List Answer
+answers = map (λ (row : Call × Answer). row .1) script
+
+-- the words that init leaves, whatever they were before: K1
+abbrev pub fresh : List ℕ
+fresh = 4 ∷ 1 ∷ 0 ∷ 0 ∷ 0 ∷ 0 ∷ 0 ∷ 0 ∷ 0 ∷ 0 ∷ 0 ∷ 0 ∷ 0 ∷ 0 ∷ 0 ∷ 0 ∷ 0 ∷ 0 ∷ 0 ∷ 0 ∷ 0 ∷ []
+
+-- the set with which it ends, and its words: K5
+abbrev pub keys : List ℕ
+keys = 1 ∷ 65 ∷ 129 ∷ []
+
+abbrev pub words : List ℕ
+words = 4 ∷ 1 ∷ 3 ∷ 1 ∷ 0 ∷ 0 ∷ 1 ∷ 65 ∷ 0 ∷ 0 ∷ 0 ∷ 0 ∷ 65 ∷ 1 ∷ 0 ∷ 0 ∷ 0 ∷ 0 ∷ 0 ∷ 0 ∷ 129 ∷ []
+
+-- Init with r = 0 is refused on any words, so it may stand in a sequence.
+init-refused : (ws : List ℕ) → fresh-refusal (length ws) 0 1 ≡ done → ⊥
+unfolding fresh-refusal sizes-in-range slots-in-range
+init-refused ws e = omega arith
+
+init-more : {ws : List ℕ} {cs : List Call}
+    → Allowed board-tabulation (step board-tabulation ws (Call.other (init 0 1)) .words) cs
+    → Allowed board-tabulation ws (Call.other (init 0 1) ∷ cs)
+init-more {ws} rest = more (init-refused ws) rest
+
+may-stand : Allowed board-tabulation fresh calls
+may-stand =
+    let rest = more tt (more tt (more tt (more tt (more tt none)))) in
+    more tt (more tt (more tt (more tt (more tt (more tt (more tt (more tt (init-more rest))))))))
+
+-- It is a sequence: the list had 21 words, all 7, before it was laid.
+pub sequence : Sequence P fresh calls
+unfolding fresh-refusal fresh-words sizes-in-range slots-in-range
+sequence = record { full = board-length; before = replicate 21 7; accepted = refl; laid = refl; allowed = may-stand }
+
+-- what the register answers
+
+-- K5 fits and has these words,
+K5 : Shown 4 1 keys words
+K5 = board-rows (shows 4 1 keys words) (there (there (there (there (here refl)))))
+
+-- so its parts fit, too;
+fits-two : fits P (1 ∷ 65 ∷ []) ≡ true
+unfolding without
+fits-two = without-fits P (K5 .valid) 129 (K5 .fit)
+
+fits-one : fits P (1 ∷ []) ≡ true
+unfolding without
+fits-one = without-fits P (without-valid 129 (K5 .valid)) 65 fits-two
+
+-- K5 with 193 does not;
+K6 : Full 4 1 (1 ∷ 65 ∷ 129 ∷ 193 ∷ [])
+K6 = board-rows (full 4 1 (1 ∷ 65 ∷ 129 ∷ 193 ∷ [])) (there (there (there (there (there (here refl))))))
+
+-- and the words of K5 say its stash.
+stash-K5 : stash-of P keys ≡ 129 ∷ []
+unfolding view-of view-refusal shaped sizes-in-range slots-in-range
+stash-K5 = sym (image-view P keys (K5 .fit) refl) ∙ (rw (K5 .words-are))
+
+-- The register with set S is fed qs, replies ms, and ends with set T;
+record Goes (S : List ℕ) (qs : List Request) (ms : List Reply) (T : List ℕ) : Type 0 where
+  replies : model P S qs ≡ ms
+  set : set-after P S qs ≡ T
+
+stop : (S : List ℕ) → Goes S [] [] S
+unfolding model set-after
+stop S = record { replies = refl; set = refl }
+
+next : {S T : List ℕ} {q : Request} {qs : List Request} {m : Reply} {ms : List Reply}
+    → reply P S q ≡ m → Goes (m .set) qs ms T → Goes S (q ∷ qs) (m ∷ ms) T
+unfolding model set-after
+next e g = record { replies = rw (e, g .replies); set = rw (e, g .set) }
+
+abbrev to : ℕ → List ℕ → List ℕ → Reply
+to n values S = record { answer = says n values; set = S }
+
+-- here the first three calls,
+goes-first : {qs : List Request} {ms : List Reply} {T : List ℕ} → Goes keys qs ms T
+    → Goes []
+    (Request.change Insert own 36 1 ∷ Request.change Insert own 36 65 ∷ Request.change Insert own 36 129 ∷ qs)
+    (to 0 [] (1 ∷ []) ∷ to 0 [] (1 ∷ 65 ∷ []) ∷ to 0 [] keys ∷ ms)
+    T
+unfolding reply with-key below above blank
+goes-first g =
+    next (rw (board-length, fits-one)) (next (rw (board-length, fits-two)) (next (rw (board-length, K5 .fit)) g))
+
+-- and all of them. Of the second init the register is fed the refusal.
+goes : Goes []
+    (requests board-tabulation fresh calls)
+    (to 0 [] (1 ∷ [])
+    ∷ to 0 [] (1 ∷ 65 ∷ [])
+    ∷ map (λ (row : Call × Answer). record { answer = row .1; set = keys }) (drop 2 script))
+    keys
+unfolding requests step fresh-refusal sizes-in-range slots-in-range reply with-key below above blank
+goes =
+    goes-first
+    (next (rw (board-length, K6 .unfit))
+    (next refl
+    (next (rw board-length)
+    (next (rw board-length)
+    (next (rw board-length)
+    (next refl
+    (next (rw board-length)
+    (next (rw board-length)
+    (next (rw board-length)
+    (next (rw board-length)
+    (next (rw stash-K5)
+    (stop keys))))))))))))
+
+-- what the calls answer, through the theorem
+
+-- The answers of the sequence are those of the script,
+pub answers-are : map (λ (o : Step). o .answer) (run board-tabulation fresh calls) ≡ answers
+answers-are = same-answers sequence ∙ ap (map (λ (m : Reply). m .answer)) (goes .replies)
+
+-- the register ends with K5,
+pub set-is : set-left P fresh calls ≡ keys
+set-is = goes .set
+
+-- and the words that the sequence leaves are those of K5.
+pub words-are : words-left P fresh calls ≡ words
+words-are = history sequence .final .is .is ∙ (ap (image P) set-is ∙ K5 .words-are)
+
+-- demand 3 of it
+
+pub leaves-no-trace : NoTrace P fresh calls
+leaves-no-trace = no-trace sequence
+
+-- The insert of 193 came to the test of 8 and was refused by it, so no placement of K5 with 193 exists.
+abbrev first-three : List Call
+first-three = insert 1 ∷ insert 65 ∷ insert 129 ∷ []
+
+first-set : set-left P fresh first-three ≡ keys
+unfolding requests
+first-set = goes-first (stop keys) .set
+
+comes : ComesToFull P keys own 36 193
+unfolding blank
+comes = record { right-length = rw board-length; long-enough = refl; not-blank = refl; absent = refl }
+
+refused-eight : step-after P fresh first-three (insert 193) .answer .number ≡ stash-full
+unfolding run words-after
+refused-eight = ap (λ (all : List Answer). getD all 3 (says 0 []) .number) answers-are
+
+pub no-place : Placement (slot-0 (family P)) (slot-1 (family P)) 1 (1 ∷ 65 ∷ 129 ∷ 193 ∷ []) → ⊥
+unfolding with-key below above
+no-place =
+    let exactly = leaves-no-trace .full first-three (drop 4 calls) own scratch counters 193 refl (rw first-set comes) in
+    rw first-set at (exactly .0 refused-eight)
+
+-- A sequence with another past: other keys first, a removal, and nothing refused. It leaves the same words,
+abbrev pub other-calls : List Call
+other-calls = insert 129 ∷ insert 65 ∷ remove 129 ∷ insert 1 ∷ insert 129 ∷ []
+
+pub other-sequence : Sequence P fresh other-calls
+unfolding fresh-refusal fresh-words sizes-in-range slots-in-range
+other-sequence = record {
+  full = board-length;
+  before = replicate 21 0;
+  accepted = refl;
+  laid = refl;
+  allowed = more tt (more tt (more tt (more tt (more tt none))));
+}
+
+pub other-set : set-left P fresh other-calls ≡ keys
+unfolding requests reply with-key below above blank without
+other-set =
+    let two : fits P (65 ∷ 129 ∷ []) ≡ true = without-fits P (K5 .valid) 1 (K5 .fit) in
+    let one : fits P (129 ∷ []) ≡ true = without-fits P (without-valid 1 (K5 .valid)) 65 two in
+    let sets : List (List ℕ) = (129 ∷ []) ∷ (65 ∷ 129 ∷ []) ∷ (65 ∷ []) ∷ (1 ∷ 65 ∷ []) ∷ keys ∷ [] in
+    let g : Goes [] (requests board-tabulation fresh other-calls) (map (to 0 []) sets) keys =
+    next (rw (board-length, one))
+    (next (rw (board-length, two))
+    (next (rw board-length) (next (rw (board-length, fits-two)) (next (rw (board-length, K5 .fit)) (stop keys))))) in
+    g .set
+
+pub same-end : words-left P fresh calls ≡ words-left P fresh other-calls
+same-end = leaves-no-trace .same-words other-sequence .1 (set-is ∙ sym other-set)
+
+-- and whatever is called then answers the same.
+pub same-then : (ds : List Call)
+    → run board-tabulation (words-left P fresh calls) ds ≡ run board-tabulation (words-left P fresh other-calls) ds
+same-then ds = leaves-no-trace .same-later other-sequence (set-is ∙ sym other-set) (alike-self board-tabulation ds)

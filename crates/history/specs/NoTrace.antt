@@ -1,0 +1,205 @@
+-- Demand 3 as one statement, the record NoTrace, and one theorem, `no-trace`: all of it holds of every sequence of
+-- calls from an accepted init on. Document 01: "All this is a single claim about the whole sequence and not one for
+-- each call." The two records and `step-after` are what a reader must believe, with Calls.antt, Model.antt and `Follows`
+-- of History.antt; the proofs stand below them. Assumes nothing.
+use Prim.Native.Nat.{ℕ, _≤_}
+use mathlib.Core.Path.{_≡_, refl, sym, _∙_, ap}
+use mathlib.Core.Bool.{false, not, cond, true≢false}
+use mathlib.Core.Logic.{_⊎_, inl, inr, _↔_}
+use mathlib.Core.List.{List, [], _∷_, _++_}
+use native.Mathlib.Omega.{arith}
+use borrow.Author.Tests.{ltb-false}
+use lib.ListN.{length}
+use Rattle.cuckoo.specs.Graph.{member}
+use Rattle.cuckoo.specs.Sets.{test}
+use Rattle.cuckoo.specs.Placement.{Placement}
+use Rattle.ordered.specs.Keys.{with-key}
+use Rattle.tabulation.specs.Refusal.{done, stash-full, first-refusal}
+use Rattle.tabulation.specs.Hash.{blank}
+use Rattle.tabulation.specs.Slots.{slot-0, slot-1}
+use Rattle.layout.specs.Layout.{Params, family, scratch-length, fits, image}
+use Rattle.layout.specs.Canonical.{image-one}
+use Rattle.outcome.specs.declared.Change.the-variants.{Insert}
+use Rattle.counters.specs.declared.Counters.{Counters}
+use Rattle.outcome.specs.Laws.{passed-over, change-any-scratch, check-any-scratch}
+use Rattle.outcome.specs.Held.{Holds, held-some, held-full}
+use Rattle.history.specs.Calls.{Lent, own, wrong, lent-of, Call, Step, step, run, words-after, words-left}
+use Rattle.history.specs.Calls.{Allowed, none, more, Sequence, Like, Alike, end, then}
+use Rattle.history.specs.Model.{request, requests, wrong-length, too-short, change-tests, reply, model}
+use Rattle.history.specs.Model.{set-after, set-left}
+use Rattle.history.specs.History.{Follows, wrong-lent, change-number, history}
+
+-- "A call that comes to the full-drawer rule": an insert to which none of the register's refusals before 8 applies, S
+-- being the register's set. They are 1, 3, 5 and 6; "2 and 4 never do". By the law `comes-answers` these are exactly the
+-- inserts that answer 0 or 8.
+pub record ComesToFull (P : Params) (S : List ℕ) (l : Lent) (scratch-size key : ℕ) : Type 0 where
+  pub right-length : wrong-length P l ≡ false
+  pub long-enough : too-short P scratch-size ≡ false
+  pub not-blank : blank key ≡ false
+  pub absent : member key S ≡ false
+
+-- What the call c answers and leaves that comes after the calls cs: that step of the run, by the law `run-at`.
+abbrev pub step-after : Params → List ℕ → List Call → Call → Step
+step-after P ws cs c = step (P .tabulation) (words-left P ws cs) c
+
+-- Demand 3, of the sequence of calls cs that starts with words ws.
+pub record NoTrace (P : Params) (ws : List ℕ) (cs : List Call) : Type 0 where
+  -- "every call answers as document 01's plain register does and the words are the image of the register's set"
+  pub follows : Follows P [] ws cs
+  -- "Two sequences leave the same words exactly when they end in one set"
+  pub same-words : {ws′ : List ℕ} {cs′ : List Call} → Sequence P ws′ cs′
+      → (words-left P ws cs ≡ words-left P ws′ cs′) ↔ (set-left P ws cs ≡ set-left P ws′ cs′)
+  -- "and any later like call then answers the same": so do all later calls, of any kind, accepted or not, and they
+  -- leave the same words.
+  pub same-later : {ws′ : List ℕ} {cs′ : List Call} → Sequence P ws′ cs′ → set-left P ws cs ≡ set-left P ws′ cs′
+      → {ds ds′ : List Call} → Alike (P .tabulation) ds ds′
+      → run (P .tabulation) (words-left P ws cs) ds ≡ run (P .tabulation) (words-left P ws′ cs′) ds′
+  -- "A call that comes to the full-drawer rule is refused by it exactly when no placement of the new set exists": at
+  -- every insert of the sequence, after the calls cs₁ and before the calls cs₂.
+  pub full : (cs₁ cs₂ : List Call) (l : Lent) (scratch : List ℕ) (counters : Counters) (key : ℕ)
+      → cs ≡ cs₁ ++ (Call.change Insert l scratch counters key ∷ cs₂)
+      → ComesToFull P (set-left P ws cs₁) l (length scratch) key
+      → (step-after P ws cs₁ (Call.change Insert l scratch counters key) .answer .number ≡ stash-full)
+      ↔ (Placement (slot-0 (family P)) (slot-1 (family P)) (P .places) (with-key key (set-left P ws cs₁)) → ⊥)
+
+-- parts of a sequence
+
+-- a part of a sequence from its beginning is a sequence,
+allowed-part : (t : List ℕ) {ws : List ℕ} (cs ds : List Call) → Allowed t ws (cs ++ ds) → Allowed t ws cs
+allowed-part t [] ds a = none
+allowed-part t (c ∷ cs) ds (more stand a) = more stand (allowed-part t cs ds a)
+
+pub part : {P : Params} {ws : List ℕ} (cs ds : List Call) → Sequence P ws (cs ++ ds) → Sequence P ws cs
+part {P} cs ds q = record {
+  full = q .full;
+  before = q .before;
+  accepted = q .accepted;
+  laid = q .laid;
+  allowed = allowed-part (P .tabulation) cs ds (q .allowed);
+}
+
+-- and the next call of the run goes on with the words that it left.
+pub run-at : (P : Params) (ws : List ℕ) (cs : List Call) (c : Call) (ds : List Call)
+    → run (P .tabulation) ws (cs ++ (c ∷ ds))
+    ≡ run (P .tabulation) ws cs ++ (step-after P ws cs c ∷ run (P .tabulation) (step-after P ws cs c .words) ds)
+unfolding run words-after
+run-at P ws [] c ds = refl
+run-at P ws (b ∷ cs) c ds = rw (run-at P (step (P .tabulation) ws b .words) cs c ds)
+
+-- As the register goes on with the set that it had then.
+pub model-at : (P : Params) (S ws : List ℕ) (cs ds : List Call)
+    → model P S (requests (P .tabulation) ws (cs ++ ds))
+    ≡ model P S (requests (P .tabulation) ws cs)
+    ++ model P (set-after P S (requests (P .tabulation) ws cs)) (requests (P .tabulation) (words-left P ws cs) ds)
+unfolding model requests set-after words-after
+model-at P S ws [] ds = refl
+model-at P S ws (c ∷ cs) ds =
+    let o = step (P .tabulation) ws c in
+    rw (model-at P (reply P S (request c (o .answer .number)) .set) (o .words) cs ds)
+
+-- two sequences
+
+-- Words that hold one set are equal: they are its image.
+one-image : {P : Params} {S S′ ws ws′ : List ℕ} → Holds P S ws → Holds P S′ ws′ → S ≡ S′ → ws ≡ ws′
+one-image {P} h h′ e = h .is .is ∙ (ap (image P) e ∙ sym (h′ .is .is))
+
+-- Equal words hold one set: differing sets have differing images.
+one-set : {P : Params} {S S′ ws ws′ : List ℕ} → Holds P S ws → Holds P S′ ws′ → ws ≡ ws′ → S ≡ S′
+one-set h h′ e = image-one (rw e at (h .is)) (h′ .is) refl (held-some h) .1
+
+module _ {P : Params} {ws ws′ : List ℕ} {cs cs′ : List Call} (q : Sequence P ws cs) (q′ : Sequence P ws′ cs′) where
+  words-say-set : words-left P ws cs ≡ words-left P ws′ cs′ → set-left P ws cs ≡ set-left P ws′ cs′
+  words-say-set e = one-set (history q .final) (history q′ .final) e
+
+  set-says-words : set-left P ws cs ≡ set-left P ws′ cs′ → words-left P ws cs ≡ words-left P ws′ cs′
+  set-says-words e = one-image (history q .final) (history q′ .final) e
+
+-- later calls
+
+-- Like calls answer and leave the same on the same words,
+like-step : (t ws : List ℕ) {c c′ : Call} → Like t c c′ → step t ws c ≡ step t ws c′
+unfolding step
+like-step t ws (Like.change kind {l} {l′} {scratch} {scratch′} counters counters′ key e f) =
+    rw (e, change-any-scratch (lent-of t l′) ws scratch scratch′ f kind key)
+like-step t ws (Like.lookup key e) = rw e
+like-step t ws (Like.check {l} {l′} {scratch} {scratch′} e f) =
+    rw (e, check-any-scratch (lent-of t l′) ws scratch scratch′ f)
+like-step t ws Like.view = refl
+like-step t ws (Like.other x x′ f g) = rw (f ws, g ws)
+
+-- and so do sequences of them.
+alike-run : (t ws : List ℕ) {cs cs′ : List Call} → Alike t cs cs′ → run t ws cs ≡ run t ws cs′
+unfolding run
+alike-run t ws end = refl
+alike-run t ws (then {c} {c′} {cs} {cs′} l a) = rw (like-step t ws l, alike-run t (step t ws c′ .words) a)
+
+-- Every call is like itself, and every sequence of calls.
+like-self : (t : List ℕ) (c : Call) → Like t c c
+like-self t (Call.change kind l scratch counters key) = Like.change kind counters counters key refl refl
+like-self t (Call.lookup l key) = Like.lookup key refl
+like-self t (Call.check l scratch) = Like.check refl refl
+like-self t Call.view = Like.view
+like-self t (Call.other x) = Like.other x x (λ ws. refl) (λ ws. refl)
+
+pub alike-self : (t : List ℕ) (cs : List Call) → Alike t cs cs
+alike-self t [] = end
+alike-self t (c ∷ cs) = then (like-self t c) (alike-self t cs)
+
+-- the test of 8
+
+module _ {P : Params} {ws : List ℕ} {cs : List Call} (q : Sequence P ws cs)
+    (l : Lent) (scratch : List ℕ) (counters : Counters) (key : ℕ) where
+  abbrev S : List ℕ
+  S = set-left P ws cs
+
+  abbrev answer : ℕ
+  answer = step-after P ws cs (Call.change Insert l scratch counters key) .answer .number
+
+  -- the register's answer
+  insert-number : answer ≡ first-refusal (change-tests P Insert l (length scratch) key S)
+  unfolding step
+  insert-number = change-number (history q .final) (q .full) Insert l scratch key
+
+  come : ComesToFull P S l (length scratch) key → answer ≡ cond (not (fits P (with-key key S))) stash-full done
+  come h = insert-number ∙ (rw (h .right-length, h .long-enough, h .not-blank, h .absent))
+
+  came : (answer ≡ done) ⊎ (answer ≡ stash-full) → ComesToFull P S l (length scratch) key
+  came d =
+      let not-1 : answer ≡ 1 → ⊥ = λ z. elim d [ inl e ↦ omega arith | inr e ↦ omega arith ] in
+      let not-3 : answer ≡ 3 → ⊥ = λ z. elim d [ inl e ↦ omega arith | inr e ↦ omega arith ] in
+      let not-5 : answer ≡ 5 → ⊥ = λ z. elim d [ inl e ↦ omega arith | inr e ↦ omega arith ] in
+      let not-6 : answer ≡ 6 → ⊥ = λ z. elim d [ inl e ↦ omega arith | inr e ↦ omega arith ] in
+      let a = passed-over (wrong-length P l) (sym insert-number) not-1 in
+      let b = passed-over (too-short P (length scratch)) (a .1) not-3 in
+      let c = passed-over (blank key) (b .1) not-5 in
+      let m = passed-over (member key S) (c .1) not-6 in
+      record { right-length = a .0; long-enough = b .0; not-blank = c .0; absent = m .0 }
+
+  -- An insert comes to the test of 8 exactly if it answers 0 or 8: if none of the refusals before 8 is given.
+  pub comes-answers : ComesToFull P S l (length scratch) key ↔ ((answer ≡ done) ⊎ (answer ≡ stash-full))
+  comes-answers = (
+    λ h. elim (test (fits P (with-key key S))) [ inl f ↦ inl (come h ∙ (rw f)) | inr f ↦ inr (come h ∙ (rw f)) ],
+    came,
+  )
+
+-- It then answers 8 exactly if no placement of the new set exists.
+pub full-insert : {P : Params} {ws : List ℕ} {cs : List Call} → Sequence P ws cs
+    → (l : Lent) (scratch : List ℕ) (counters : Counters) (key : ℕ)
+    → ComesToFull P (set-left P ws cs) l (length scratch) key
+    → (step-after P ws cs (Call.change Insert l scratch counters key) .answer .number ≡ stash-full)
+    ↔ (Placement (slot-0 (family P)) (slot-1 (family P)) (P .places) (with-key key (set-left P ws cs)) → ⊥)
+unfolding step
+full-insert {P} q own scratch counters key h =
+    let room : scratch-length (P .slots) (P .places) ≤ length scratch = ltb-false (length scratch) _ (h .long-enough) in
+    held-full (history q .final) (q .full) scratch room key (h .not-blank) (h .absent)
+full-insert {P} q (wrong t n) scratch counters key h = absurd (true≢false (sym (wrong-lent P t n) ∙ h .right-length))
+
+-- THE theorem of demand 3: no past leaves a trace.
+pub no-trace : {P : Params} {ws : List ℕ} {cs : List Call} → Sequence P ws cs → NoTrace P ws cs
+no-trace {P} q = record {
+  follows = history q;
+  same-words = λ q′. (words-say-set q q′, set-says-words q q′);
+  same-later = λ {ws′} {cs′} q′ e a. rw (set-says-words q q′ e) (alike-run (P .tabulation) (words-left P ws′ cs′) a);
+  full = λ cs₁ cs₂ l scratch counters key e h.
+      full-insert (part cs₁ (Call.change Insert l scratch counters key ∷ cs₂) (rw e at q)) l scratch counters key h;
+}
