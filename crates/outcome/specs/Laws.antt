@@ -1,7 +1,7 @@
 -- What the outcome definitions say of all inputs: which numbers a call can answer, row by row when it answers them (document 01's table), what a
 -- refusal leaves, and that the scratch matters by its length alone. Assumes nothing.
 use Prim.Native.Nat.{ℕ, _≤_, _<_}
-use mathlib.Core.Path.{_≡_, refl, sym, _∙_}
+use mathlib.Core.Path.{_≡_, refl, sym, _∙_, ap}
 use mathlib.Core.Bool.{Bool, true, false, not, cond}
 use mathlib.Core.Logic.{_⊎_, inl, inr, _↔_}
 use mathlib.Core.List.{List, [], _∷_, _++_, List·Memᴰ as In, List·Memᴰ·head as here, List·Memᴰ·tail as there}
@@ -61,7 +61,9 @@ module _ (tabulation ws scratch : List ℕ) where
     pub change-done : change-outcome kind tabulation ws scratch key .answer ≡ done
         → change-outcome kind tabulation ws scratch key .words ≡ image (params-of tabulation ws) (changed kind key (keys-in ws))
     unfolding change-outcome
-    change-done e = rw (eq-eqb (change-refusal kind tabulation ws scratch key) done e)
+    change-done e =
+        ap (λ (t : Bool). cond t (image (params-of tabulation ws) (changed kind key (keys-in ws))) ws)
+        (eq-eqb (change-refusal kind tabulation ws scratch key) done e)
 
     -- "Every refusal leaves list and book unchanged".
     pub change-refused : (change-outcome kind tabulation ws scratch key .answer ≡ done → ⊥) → change-outcome kind tabulation ws scratch key .words ≡ ws

@@ -1,8 +1,10 @@
 -- What the exported call for the house tabulation answers and leaves: 1 for a lent tabulation of another length, which stays; otherwise the list that the house
 -- rule gives, entry i for i from 0 to 2,047 (crates/house/specs/Rule.antt).
 use Prim.Native.Nat.{ℕ}
+use mathlib.Core.Path.{_≡_, ap}
 use mathlib.Core.Bool.{Bool, not, cond}
 use mathlib.Core.List.{List, [], _∷_, List·Memᴰ as In}
+use borrow.Author.Tests.{eq-eqb, ne-eqb}
 use lib.Dec.{eqb}
 use lib.ListN.{length}
 use Rattle.tabulation.specs.Refusal.{done, wrong-tabulation, first-refusal, first-refusal-in}
@@ -20,7 +22,22 @@ house-answer len = first-refusal (house-refusals len)
 unfoldable pub housed : List ℕ → List ℕ
 housed before = cond (eqb (house-answer (length before)) done) house-table before
 
--- The law: no other number is given.
+-- The laws: what decides, and that no other number is given.
+module _ (before : List ℕ) where
+  pub house-refused : (length before ≡ tabulation-length → ⊥) → (house-answer (length before) ≡ wrong-tabulation) × (housed before ≡ before)
+  unfolding house-answer housed
+  house-refused n =
+      let e : house-answer (length before) ≡ wrong-tabulation =
+      ap (λ (t : Bool). cond (not t) wrong-tabulation done) (ne-eqb (length before) tabulation-length n) in
+      (e, rw e)
+
+  pub house-accepted : length before ≡ tabulation-length → (house-answer (length before) ≡ done) × (housed before ≡ house-table)
+  unfolding house-answer housed
+  house-accepted l =
+      let e : house-answer (length before) ≡ done =
+      ap (λ (t : Bool). cond (not t) wrong-tabulation done) (eq-eqb (length before) tabulation-length l) in
+      (e, rw e)
+
 pub house-answer-in : (len : ℕ) → In (house-answer len) (0 ∷ 1 ∷ [])
 unfolding house-answer
 house-answer-in len = first-refusal-in (house-refusals len)

@@ -9,7 +9,6 @@ ghost use Rattle.build.specs.Passes.{answer};
 ghost use Rattle.build.specs.NextCode.{Chainable};
 ghost use Rattle.build.specs.Whole.{noted-from, seated-from, whole-noting};
 ghost use Rattle.build.specs.Outcome.{Buildable, Built};
-
 use build::StashCount;
 use linking::link;
 use noting::notes;

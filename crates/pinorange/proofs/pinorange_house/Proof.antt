@@ -4,11 +4,10 @@ use mathlib.Core.Path.{_≡_, refl, sym, _∙_}
 use native.Mathlib.Omega.{arith}
 use native.Mathlib.Numerals.{add-one}
 use borrow.Author.Needs.{needs}
-use borrow.Author.Tests.{eq-eqb, ne-eqb}
 use lib.ListN.{length, take, getD, length-set}
 use lib.Seq.{take-all, take-suc-set, take-suc}
 use Rattle.house.specs.Rule.{house, house-is}
-use Rattle.pinorange.specs.House.{house-answer, housed}
+use Rattle.pinorange.specs.House.{house-refused, house-accepted}
 use Rattle.pinorange.proofs.pinorange_house.Statement.{statement}
 use Rattle.pinorange.proofs.pinorange_house.Tie as tie
 
@@ -19,8 +18,7 @@ abbrev μ-loop : tie.MeasureT-loop
 μ-loop tabulation₀ table i₀ tabulation i = 2048 - i
 
 returns : tie.Need-returns Inv-loop μ-loop
-unfolding house-answer housed
-returns c = let e = ne-eqb _ _ (c .if1 .taken) in (rw e, rw e)
+returns c = let e = house-refused _ (c .if1 .taken) in (sym (e .0), sym (e .1))
 
 house-tabulation-requires : tie.Need-house-tabulation-requires Inv-loop μ-loop
 house-tabulation-requires c κs = search needs
@@ -62,7 +60,6 @@ same-length : tie.Need-same-length Inv-loop μ-loop
 same-length c = search needs
 
 returns-2 : tie.Need-returns-2 Inv-loop μ-loop
-unfolding house-answer housed
 returns-2 c =
     let l = c .before .loop in
     let h = c .before .before in
@@ -71,8 +68,8 @@ returns-2 c =
     let i : l .i ≡ 2048 = omega arith in
     let e : l .tabulation ≡ t =
     sym (take-all 2048 (l .tabulation) (omega arith)) ∙ (rw i at (l .inv .3)) ∙ take-all 2048 t (omega arith) in
-    let f = eq-eqb _ _ (d .if1 .left) in
-    (rw f, rw f (e ∙ house-is t (h .house-tabulation .ensures)))
+    let f = house-accepted _ (d .if1 .left) in
+    (sym (f .0), e ∙ house-is t (h .house-tabulation .ensures) ∙ sym (f .1))
 
 pub pinorange-house-spec : {M : Type 1} → statement M
 pinorange-house-spec =
