@@ -3,8 +3,8 @@ use Prim.Native.Nat.{ℕ, _≤_, _<_, _^_}
 use native.Mathlib.Omega.{arith}
 use lib.ListN.{length, length-append}
 use Rattle.lines.specs.Decimal.{digits-32, digits-64}
-use Rattle.lines.specs.Row.{answer-row, insert-row, remove-row, lookup-row, error-row, slot-row, stash-row, book-row, row-room}
-use Rattle.lines.specs.declared.Looked.the-variants.{Present, Absent, Refused}
+use Rattle.rows.specs.Row.{answer-row, insert-row, remove-row, lookup-row, error-row, slot-row, stash-row, book-row, row-room}
+use Rattle.rows.specs.declared.Looked.the-variants.{Present, Absent, Refused}
 
 -- the bytes of the buffer that rows are gathered in
 abbrev pub room : ℕ

@@ -3,8 +3,8 @@ ghost use Prim.Native.Nat.{_≤_};
 ghost use lib.ListN.{length};
 ghost use Rattle.layout.specs.Shape.{Shaped};
 ghost use Rattle.console.specs.Short.{room};
-use crate::rows;
-use crate::rows::ROOM;
+use crate::printing;
+use crate::printing::ROOM;
 use access::HEADER_LENGTH;
 use access::SLOT_WIDTH;
 use words::wide;
@@ -17,7 +17,7 @@ fn list_slot(out: &mut [u8; ROOM], at: usize, table: u32, slot: u32, key: u32, n
     if key == 0 {
         return at;
     }
-    rows::add_slot(out, at, table, slot, key, next)
+    printing::add_slot(out, at, table, slot, key, next)
 }
 
 // The filled slots of one table.
@@ -44,7 +44,7 @@ fn list_stash(keys: &[u32], out: &mut [u8; ROOM], start: usize) -> usize
     let mut at = start;
     let mut i = 0;
     while i < keys.len() {
-        at = rows::add_stashed(&mut *out, at, keys[i]);
+        at = printing::add_stashed(&mut *out, at, keys[i]);
         i += 1;
     }
     at

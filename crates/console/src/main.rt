@@ -1,7 +1,7 @@
-// The console: book.bin and the lines of standard input in, rows on standard output. The grammar and the rows are those of `lines`, the calls those of
-// `dictionary` and `layout`; here is only the reading and writing.
+// The console: book.bin and the lines of standard input in, rows on standard output. The grammar is that of `lines`, the rows are those of `rows`, the
+// calls those of `dictionary` and `layout`; here is only the reading and writing.
 mod listing;
-mod rows;
+mod printing;
 mod session;
 
 ghost use Prim.Native.Nat.{_≤_};
@@ -86,14 +86,14 @@ fn run(tabulation: &[u16], words: &mut [u32], scratch: &mut [u32], r: u32, s: u3
     };
     let laid = dictionary::init_counted(&mut *words, r, s, none);
     if laid.answer != 0 {
-        rows::print_no_sizes();
+        printing::print_no_sizes();
         return;
     }
     let counters = laid.counters;
-    let mut out = [0u8; rows::ROOM];
+    let mut out = [0u8; printing::ROOM];
     let at = session::serve(tabulation, &mut *words, &mut *scratch, &mut out, counters);
     let end = listing::list(&*words, &mut out, at);
-    rows::flush(&out, end);
+    printing::flush(&out, end);
 }
 
 // The run on as many of the words as these sizes need.
@@ -107,7 +107,7 @@ fn run_part(tabulation: &[u16], words: &mut [u32], scratch: &mut [u32], r: u32, 
 // Words and scratch for the largest sizes.
 fn run_sized(tabulation: &[u16; TABULATION_LENGTH], r: u32, s: u32) {
     if !access::are_sizes(r, s) {
-        rows::print_no_sizes();
+        printing::print_no_sizes();
         return;
     }
     let mut words = [0u32; MAX_WORDS];
@@ -118,14 +118,14 @@ fn run_sized(tabulation: &[u16; TABULATION_LENGTH], r: u32, s: u32) {
 fn main() {
     let mut bytes = [0u8; BOOK_BYTES];
     if !read_book(&mut bytes) {
-        rows::print_no_book();
+        printing::print_no_book();
         return;
     }
     let mut tabulation = [0u16; TABULATION_LENGTH];
     decode(&bytes, &mut tabulation);
     let sizes = lines::sizes_in(first_line());
     let Sizes::Given(r, s) = sizes else {
-        rows::print_no_sizes();
+        printing::print_no_sizes();
         return;
     };
     run_sized(&tabulation, r, s);

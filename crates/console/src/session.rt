@@ -1,8 +1,8 @@
 // The lines after the first: each is answered by a row when its newline, or the end of the input, is read.
 ghost use Prim.Native.Nat.{_≤_};
 ghost use Rattle.console.specs.Short.{room};
-use crate::rows;
-use crate::rows::ROOM;
+use crate::printing;
+use crate::printing::ROOM;
 use counters::Counters;
 use libc::STDIN_FILENO;
 use lines::Command;
@@ -45,7 +45,7 @@ fn change(
     let before = done.counters;
     let counted = dictionary::update_counted(kind, tabulation, words, scratch, key, before);
     let counters = counted.counters;
-    let at = rows::add_change(out, done.at, kind, key, counted.answer);
+    let at = printing::add_change(out, done.at, kind, key, counted.answer);
     Done {
         counters: counters,
         at: at,
@@ -57,7 +57,7 @@ fn lookup(tabulation: &[u16], words: &[u32], out: &mut [u8; ROOM], key: u32, don
     ensures { λ r. ⌜ r .at ≤ room ⌝ }
 {
     let found = access::lookup(tabulation, words, key);
-    let at = rows::add_lookup(out, done.at, key, found);
+    let at = printing::add_lookup(out, done.at, key, found);
     let counters = done.counters;
     Done {
         counters: counters,
@@ -69,7 +69,7 @@ fn error(out: &mut [u8; ROOM], number: u64, done: Done) -> Done
     requires { ⌜ done .at ≤ room ⌝ }
     ensures { λ r. ⌜ r .at ≤ room ⌝ }
 {
-    let at = rows::add_error(out, done.at, number);
+    let at = printing::add_error(out, done.at, number);
     let counters = done.counters;
     Done {
         counters: counters,
@@ -163,7 +163,7 @@ fn show(out: &[u8; ROOM], session: Session) -> Session
     ensures { λ r. ⌜ r .done .at ≤ room ⌝ }
 {
     let done = session.done;
-    rows::flush(out, done.at);
+    printing::flush(out, done.at);
     let counters = done.counters;
     let line = session.line;
     Session {

@@ -1,0 +1,31 @@
+-- `rows::put_stashed` meets its contract: the row field by field.
+use Rattle.rows.specs.Written.{_then_}
+use Rattle.rows.specs.Row.{stash-row}
+use borrow.Author.Needs.{needs}
+use Rattle.rows.proofs.put_stashed.Statement.{statement}
+use Rattle.rows.proofs.put_stashed.Tie as tie
+
+put-byte-requires : tie.Need-put-byte-requires
+put-byte-requires c κs = search needs
+
+put-field-requires : tie.Need-put-field-requires
+put-field-requires c κs = search needs
+
+put-byte-requires-2 : tie.Need-put-byte-requires-2
+put-byte-requires-2 c κs = search needs
+
+same-length : tie.Need-same-length
+same-length c = search needs
+
+returns : tie.Need-returns
+unfolding stash-row
+returns c =
+    let d = c .before .before in
+    let b = d .before .before .before .before in
+    let a = b .before .before .before .before in
+    a .put-byte .ensures then b .put-field .ensures .0 then d .put-byte2 .ensures
+
+pub put-stashed-spec : {M : Type 1} → statement M
+put-stashed-spec =
+    tie.close
+    (tie.spec put-byte-requires put-field-requires put-byte-requires-2 same-length returns)

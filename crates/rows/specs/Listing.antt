@@ -1,0 +1,96 @@
+-- Document 01's worked listing through the definitions, by computation: its input splits into these lines and commands, and its listed answers
+-- give these bytes. Beside it, lines that are of another form, and the edges of numbers and of the end of the input. Assumes nothing.
+use Prim.Native.Nat.{ℕ}
+use Prim.Native.Char.{code}
+use Prim.Native.String.{String, [] as end, _∷_ as _then_}
+use mathlib.Core.Path.{_≡_, refl}
+use mathlib.Core.List.{List, [], _∷_, _++_, map}
+use lib.ListN.{replicate}
+use Rattle.lines.specs.Decimal.{digits, decimal}
+use Rattle.lines.specs.Number.{all-digits, no-leading-zero, value, number-of}
+use Rattle.lines.specs.Parted.{parted, but-empty-last, lines-of}
+use Rattle.lines.specs.Command.{sizes-of, command-of}
+use Rattle.rows.specs.Row.{insert-row, remove-row, lookup-row, error-row, slot-row, stash-row, book-row}
+use Rattle.lines.specs.declared.Number.the-variants.{Value, Other as no-number}
+use Rattle.lines.specs.declared.Sizes.the-variants.{Given, Other as no-sizes}
+use Rattle.lines.specs.declared.Command.the-variants.{Insert, Lookup, Other as no-command}
+use Rattle.rows.specs.declared.Looked.the-variants.{Present, Absent, Refused}
+
+-- the bytes of an ASCII text
+abbrev bytes : String → List ℕ
+bytes end = []
+bytes (c then s) = code c ∷ bytes s
+
+-- "input 2,1 / A,65 / A,1 / A,33 / A,97 / L,65 (one a line)"
+pub listing-lines : lines-of (bytes "2,1\nA,65\nA,1\nA,33\nA,97\nL,65\n")
+    ≡ bytes "2,1" ∷ bytes "A,65" ∷ bytes "A,1" ∷ bytes "A,33" ∷ bytes "A,97" ∷ bytes "L,65" ∷ []
+unfolding lines-of but-empty-last parted
+listing-lines = refl
+
+pub listing-sizes : sizes-of (bytes "2,1") ≡ Given 2 1
+unfolding sizes-of parted number-of no-leading-zero all-digits value
+listing-sizes = refl
+
+pub listing-commands : map command-of (bytes "A,65" ∷ bytes "A,1" ∷ bytes "A,33" ∷ bytes "A,97" ∷ bytes "L,65" ∷ [])
+    ≡ Insert 65 ∷ Insert 1 ∷ Insert 33 ∷ Insert 97 ∷ Lookup 65 ∷ []
+unfolding command-of parted number-of no-leading-zero all-digits value
+listing-commands = refl
+
+-- ".. prints:"
+pub listing-output :
+    insert-row 65 0
+    ++ (insert-row 1 0
+    ++ (insert-row 33 0
+    ++ (insert-row 97 8
+    ++ (lookup-row 65 Present ++ (slot-row 0 1 1 33 ++ (slot-row 1 0 33 1 ++ stash-row 65))))))
+    ≡ bytes "A,65,0\nA,1,0\nA,33,0\nA,97,8\nL,65,1\nP,0,1,1,33\nP,1,0,33,1\nD,65\n"
+unfolding insert-row lookup-row slot-row stash-row decimal digits
+listing-output = refl
+
+-- the rows that the listing does not have
+pub other-rows :
+    remove-row 4294967295 7 ++ (lookup-row 17 Absent ++ (lookup-row 0 (Refused 5) ++ (error-row 4294967296 ++ book-row)))
+    ≡ bytes "W,4294967295,7\nL,17,0\nL,0,R5\nE,4294967296\nB\n"
+unfolding remove-row lookup-row error-row book-row decimal digits
+other-rows = refl
+
+-- the end of the input: the last newline may be missing; nothing is no line; an empty line is one
+pub ends : map lines-of (bytes "2,1\nA,65" ∷ bytes "2,1\nA,65\n" ∷ bytes "" ∷ bytes "\n" ∷ bytes "2,1\n\n\n" ∷ [])
+    ≡ (bytes "2,1" ∷ bytes "A,65" ∷ [])
+    ∷ (bytes "2,1" ∷ bytes "A,65" ∷ [])
+    ∷ []
+    ∷ ([] ∷ [])
+    ∷ (bytes "2,1" ∷ [] ∷ [] ∷ [])
+    ∷ []
+unfolding lines-of but-empty-last parted
+ends = refl
+
+-- the ends of the range, and what is no number: nothing, a leading zero, one too many, a sign, a space, another letter
+pub numbers : map number-of (bytes "0" ∷ bytes "4294967295" ∷ []) ≡ Value 0 ∷ Value 4294967295 ∷ []
+unfolding number-of no-leading-zero all-digits value
+numbers = refl
+
+pub no-numbers :
+    map number-of
+    (bytes "" ∷ bytes "00" ∷ bytes "065" ∷ bytes "4294967296" ∷ bytes "+1" ∷ bytes "-1" ∷ bytes " 1" ∷ bytes "1 " ∷ bytes "1/" ∷ bytes "1:" ∷ [])
+    ≡ replicate 10 no-number
+unfolding number-of no-leading-zero all-digits value
+no-numbers = refl
+
+-- lines of another form: empty, with a carriage return, a space, quotes, a further comma, a small letter, another letter, a field too few
+pub no-commands :
+    map command-of
+    (bytes "" ∷ bytes "A,65\r" ∷ bytes "A, 65" ∷ bytes " A,65" ∷ bytes "A,\"65\"" ∷ bytes "\"A\",65" ∷ bytes "A,65,"
+    ∷ bytes "A,65,1" ∷ bytes ",A,65" ∷ bytes "a,65" ∷ bytes "B,65" ∷ bytes "AA,65" ∷ bytes "A" ∷ bytes "A65"
+    ∷ bytes "A," ∷ bytes ",65" ∷ bytes "," ∷ bytes "2,1" ∷ [])
+    ≡ replicate 18 no-command
+unfolding command-of parted number-of no-leading-zero all-digits value
+no-commands = refl
+
+pub no-sizes-at-all :
+    map sizes-of
+    (bytes "" ∷ bytes "2" ∷ bytes "2,1\r" ∷ bytes "2, 1" ∷ bytes "2,1," ∷ bytes "2,1,1" ∷ bytes ",2,1" ∷ bytes "02,1" ∷ bytes "2,01"
+    ∷ bytes "4294967296,1" ∷ bytes "2," ∷ bytes ",1" ∷ bytes "A,65" ∷ [])
+    ≡ replicate 13 no-sizes
+unfolding sizes-of parted number-of no-leading-zero all-digits value
+no-sizes-at-all = refl
