@@ -12,7 +12,7 @@ use access::HEADER_LENGTH;
 use access::SLOT_WIDTH;
 use access::stash_start;
 use ordered::drop_doubles;
-use ordered::sort;
+use sorting::sort;
 use words::wide;
 
 // Of `count` words from `from` on, each `step` after the one before, those that are not 0 come behind the first `n` words of scratch. The answer is how
