@@ -1,6 +1,7 @@
 -- What the console prints, byte by byte: a row of fields parted by commas and ended by a newline. Assumes nothing.
 use Prim.Native.Nat.{ℕ}
 use mathlib.Core.List.{List, [], _∷_, _++_}
+use Rattle.tabulation.specs.Refusal.{done}
 use Rattle.lines.specs.Decimal.{decimal}
 use Rattle.lines.specs.Parted.{newline, comma}
 use Rattle.lines.specs.Command.{letter-A, letter-W, letter-L}
@@ -39,11 +40,24 @@ insert-row key answer = answer-row letter-A key answer
 unfoldable pub remove-row : ℕ → ℕ → List ℕ
 remove-row key answer = answer-row letter-W key answer
 
--- "for L, 1 yes and 0 no, a refusal as R and its number"
+-- document 01's number of a lookup's answer, and its value: 1 yes, 0 no
+abbrev pub number : Looked → ℕ
+number Present = done
+number Absent = done
+number (Refused n) = n
+
+abbrev pub values : Looked → List ℕ
+values Present = 1 ∷ []
+values Absent = 0 ∷ []
+values (Refused n) = []
+
+-- "for L, 1 yes and 0 no, a refusal as R and its number": the value of an answer that has one, and the number of an answer that has none
+abbrev pub value-or-number : List ℕ → ℕ → List ℕ
+value-or-number [] n = letter-R ∷ decimal n
+value-or-number (v ∷ vs) n = decimal v
+
 abbrev pub lookup-answer : Looked → List ℕ
-lookup-answer Present = decimal 1
-lookup-answer Absent = decimal 0
-lookup-answer (Refused n) = letter-R ∷ decimal n
+lookup-answer looked = value-or-number (values looked) (number looked)
 
 unfoldable pub lookup-row : ℕ → Looked → List ℕ
 lookup-row key looked = row ((letter-L ∷ []) ∷ decimal key ∷ lookup-answer looked ∷ [])
