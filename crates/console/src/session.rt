@@ -1,4 +1,5 @@
-// The lines after the first: each is answered by a row when its newline, or the end of the input, is read.
+// The lines after the first: each is answered by a row when its newline, or the end of the input, is read. Byte by byte this is a `Run` of
+// lines/specs/Reading.antt, whose law says that these are the lines of the input, and all of them.
 ghost use Prim.Native.Nat.{_≤_};
 ghost use Rattle.console.specs.Short.{room};
 use crate::printing;

@@ -6,3 +6,4 @@ pub mod Number
 pub mod Parted
 pub mod Command
 pub mod Held
+pub mod Reading

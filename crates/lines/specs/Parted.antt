@@ -1,5 +1,5 @@
 -- The pieces of a text between its separators: the lines of an input, and the fields of a line. That a reader who holds only the current line
--- sees these lines is `read-lines` (byte by byte) and `lines-next` (from newline to newline). Assumes nothing.
+-- sees these lines is `read-lines`; that one who holds only a `Line` does is `run-lines`, in Reading. Assumes nothing.
 use Prim.Native.Nat.{ℕ, suc, _+_, _-_, _≤_, _<_}
 use mathlib.Core.Path.{_≡_, refl, sym, _∙_, ap}
 use mathlib.Core.Bool.{cond}
