@@ -23,7 +23,7 @@ pub there-and-back : (es : List ℕ) → entries-of (bytes-of es) ≡ es
 unfolding bytes-of entries-of
 there-and-back [] = refl
 there-and-back (e ∷ es) =
-    let d : 256 * (e / 256) + e % 256 ≡ e = omega arith in
+    let d : getD (entries-of (bytes-of (e ∷ es))) 0 0 ≡ e = omega arith in
     rw (d, there-and-back es)
 
 -- how many, and which

@@ -97,8 +97,8 @@ record Entry (n i x : ℕ) (seen : Tree) (xs : List ℕ) : Type 0 where
 entry : (n i x : ℕ) (seen : Tree) (xs : List ℕ) → test-from (suc n) i seen (x ∷ xs) ≡ true → Entry n i x seen xs
 unfolding test-from
 entry n i x seen xs e =
-    let p = and-true (eqb x (house-entry i) && not (has x seen)) _ e in
-    let q = and-true (eqb x (house-entry i)) _ (p .0) in
+    let p = and-true _ _ e in
+    let q = and-true _ _ (p .0) in
     record { ruled = eqb-true x (house-entry i) (q .0); fresh = not-true (has x seen) (q .1); rest = p .1 }
 
 -- the rule at each place

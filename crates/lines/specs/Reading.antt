@@ -23,9 +23,11 @@ Told line r = (l : List ℕ) → Holds line l → r ≡ eqb (length l) 0
 -- `Run line input handed`: with this line so far and this input to come, these lines are handed on. A newline hands the line on and an empty one
 -- begins; any other byte is fed; the end hands the line on unless it is empty.
 pub data Run : Line → List ℕ → List Line → Type 0 where
-  ended : {line next : Line} {rest : List ℕ} {handed : List Line} → Holds next [] → Run next rest handed
+  ended : {line next : Line} {rest : List ℕ} {handed : List Line}
+      → Holds next [] → Run next rest handed
       → Run line (newline ∷ rest) (line ∷ handed)
-  fed : {line next : Line} {byte : ℕ} {rest : List ℕ} {handed : List Line} → (byte ≡ newline → ⊥) → Fed line byte next → Run next rest handed
+  fed : {line next : Line} {byte : ℕ} {rest : List ℕ} {handed : List Line}
+      → (byte ≡ newline → ⊥) → Fed line byte next → Run next rest handed
       → Run line (byte ∷ rest) handed
   over : {line : Line} → Told line true → Run line [] []
   last : {line : Line} → Told line false → Run line [] (line ∷ [])
@@ -33,7 +35,9 @@ pub data Run : Line → List ℕ → List Line → Type 0 where
 -- each line holds the text at its place
 pub data Hold : List Line → List (List ℕ) → Type 0 where
   none : Hold [] []
-  some : {line : Line} {l : List ℕ} {handed : List Line} {ls : List (List ℕ)} → Holds line l → Hold handed ls → Hold (line ∷ handed) (l ∷ ls)
+  some : {line : Line} {l : List ℕ} {handed : List Line} {ls : List (List ℕ)}
+      → Holds line l → Hold handed ls
+      → Hold (line ∷ handed) (l ∷ ls)
 
 run-read : {line : Line} {input : List ℕ} {handed : List Line} → Run line input handed → (l : List ℕ) → Holds line l
     → Hold handed (read-on l input)
@@ -46,6 +50,7 @@ run-read (last t) [] h = absurd (false≢true (t [] h))
 run-read (last t) (b ∷ l) h = some h none
 
 -- from an empty line on, just the lines of the input are handed on: none is lost, none is made up, and they stay in order
-pub run-lines : {line : Line} {input : List ℕ} {handed : List Line} → Holds line [] → Run line input handed → Hold handed (lines-of input)
+pub run-lines : {line : Line} {input : List ℕ} {handed : List Line} → Holds line [] → Run line input handed
+    → Hold handed (lines-of input)
 unfolding place-of
 run-lines {input = input} h r = rw (← read-lines input [] refl) (run-read r [] h)

@@ -1,6 +1,7 @@
 -- `tabulation::hashes` meets its contract: each `return` is the first refusal whose test holds, or both hashes.
 use borrow.Author.Tests.{eq-eqb, ne-eqb, not-true, not-false}
 use mathlib.Core.Path.{_∙_, sym}
+use native.Mathlib.Omega.{arith}
 use Rattle.tabulation.specs.Hash.{in-range-pos}
 use Rattle.tabulation.specs.Answer.{hashes-refusal, hashes-values}
 use borrow.Author.Needs.{needs}
@@ -34,11 +35,13 @@ returns-3 c =
 
 hash-in-requires : tie.Need-hash-in-requires
 hash-in-requires c κs =
-    (search needs, search needs, in-range-pos _ (sym (c .before .before .before .in-range .ensures) ∙ not-false _ (c .before .before .if2 .left)))
+    let p = in-range-pos _ (sym (c .before .before .before .in-range .ensures) ∙ not-false _ (c .before .before .if2 .left)) in
+    (search needs, search needs, omega arith)
 
 hash-in-requires-2 : tie.Need-hash-in-requires-2
 hash-in-requires-2 c κs =
-    (search needs, search needs, in-range-pos _ (sym (c .before .before .before .before .in-range .ensures) ∙ not-false _ (c .before .before .before .if2 .left)))
+    let p = in-range-pos _ (sym (c .before .before .before .before .in-range .ensures) ∙ not-false _ (c .before .before .before .if2 .left)) in
+    (search needs, search needs, omega arith)
 
 returns-4 : tie.Need-returns-4
 unfolding hashes-refusal hashes-values
