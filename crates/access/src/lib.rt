@@ -4,21 +4,19 @@ ghost use mathlib.Core.Path.{_≡_};
 ghost use Prim.Native.Nat.{_+_, _*_, _≤_, _<_};
 ghost use lib.Dec.{eqb};
 ghost use lib.ListN.{length, getD};
-ghost use Rattle.cuckoo.specs.Graph.{member};
+ghost use Rattle.basics.specs.Sets.{member};
 ghost use Rattle.tabulation.specs.Hash.{tabulation-length, max-slots};
 ghost use Rattle.layout.specs.Layout.{sizes-in-range, shaped, words-length, scratch-length, key-at, stash-at};
 ghost use Rattle.layout.specs.Shape.{Sized, Shaped};
 ghost use Rattle.layout.specs.Answers.{number, values, lookup-refusal, lookup-values, stands, view-refusal, view-of, fresh-refusal, fresh-words};
 use layout::Found;
-use tabulation::BLANK_KEY;
+use refusals::BLANK_KEY;
+use refusals::NOT_CANONICAL;
+use refusals::WRONG_SHAPE;
+use refusals::WRONG_TABULATION;
 use tabulation::TABULATION_LENGTH;
-use tabulation::WRONG_SHAPE;
-use tabulation::WRONG_TABULATION;
 use words::fill;
 use words::wide;
-
-// Document 01's 4, as far as this crate gives it: the view of words whose heading counts more stashed keys than there are places.
-pub const NOT_CANONICAL: u32 = 4;
 
 // The words before the slots: r, s, the number of keys and the number of stashed keys.
 pub const HEADER_LENGTH: usize = 4;

@@ -10,7 +10,7 @@ use borrow.Author.Tests.{lt-ltb, le-ltb}
 use Rattle.tabulation.specs.Hash.{Family, max-slots as table-slots}
 use Rattle.tabulation.specs.Slots.{slot-0, slot-1, slots-apart}
 use Rattle.cuckoo.specs.Graph.{seated, stash, slot-key, slot-next}
-use Rattle.cuckoo.specs.Sets.{Asc}
+use Rattle.basics.specs.Sets.{Asc}
 use Rattle.cuckoo.specs.Seating.{Ends}
 use Rattle.cuckoo.specs.Forest.{forest}
 use Rattle.forest.specs.Held.{other, slot-count, other-end, slots-fit}

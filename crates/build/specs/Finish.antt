@@ -9,7 +9,8 @@ use lib.Dec.{eqb, ltb}
 use lib.ListN.{length, getD}
 use borrow.Author.Tests.{eq-eqb, ne-eqb, lt-ltb, ltb-true}
 use Rattle.cuckoo.specs.Graph.{seated, occupant}
-use Rattle.cuckoo.specs.Sets.{test, eq?, in?, Asc, below-in, below-lt, in-below}
+use Rattle.basics.specs.Tests.{test, eq?}
+use Rattle.basics.specs.Sets.{in?, Asc, below-in, below-lt, in-below}
 use Rattle.cuckoo.specs.Joined.{Joined, jrefl, jsym, edge, mono, least}
 use Rattle.cuckoo.specs.Forest.{forest, forest-in, spans, spans-key, acyclic}
 use Rattle.cuckoo.specs.Settling.{seated-asc, seated-sub, seated-forest, seated-stops, is-seated, smallest, one}

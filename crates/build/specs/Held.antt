@@ -8,7 +8,7 @@ use lib.Dec.{eqb}
 use lib.ListN.{length, getD}
 use borrow.Author.Tests.{eqb-true, eq-eqb, ne-eqb}
 use Rattle.cuckoo.specs.Graph.{occupant}
-use Rattle.cuckoo.specs.Sets.{eq?}
+use Rattle.basics.specs.Tests.{eq?}
 use Rattle.cuckoo.specs.Joined.{Joined, jrefl}
 use Rattle.cuckoo.specs.Seating.{from-a, from-b}
 use Rattle.forest.specs.Oriented.{Oriented, standing}

@@ -9,7 +9,8 @@ use native.Mathlib.Omega.{arith}
 use lib.Dec.{eqb, ltb}
 use lib.ListN.{length, replicate, length-replicate}
 use borrow.Author.Tests.{eq-eqb, ne-eqb}
-use Rattle.cuckoo.specs.Sets.{test, Sub, Asc}
+use Rattle.basics.specs.Tests.{test}
+use Rattle.basics.specs.Sets.{Sub, Asc}
 use Rattle.cuckoo.specs.Joined.{Joined, joined?, jrefl, edge, mono}
 use Rattle.cuckoo.specs.Seating.{Ends, from-a, from-b}
 use Rattle.cuckoo.specs.Forest.{forest}

@@ -14,7 +14,7 @@ use lib.Seq.{length-take-le, getD-take, take-suc, take-take}
 use borrow.Author.Tests.{eq-eqb, ne-eqb}
 use Rattle.tabulation.specs.Hash.{Family}
 use Rattle.tabulation.specs.Slots.{slot-0, slot-1}
-use Rattle.cuckoo.specs.Sets.{test}
+use Rattle.basics.specs.Tests.{test}
 use Rattle.forest.specs.Reroot.{length-reroot}
 use Rattle.forest.specs.Held.{other, slot-count, budget, rerooted, other-end, slots-fit}
 use Rattle.partition.specs.Words.{Representative, Mergeable, rep-of, size-of, united, singletons-of}

@@ -12,7 +12,8 @@ use lib.ListN.{length, getD, set, length-set, List·getD-eq-default}
 use lib.Seq.{getD-set-same, getD-set-other}
 use borrow.Author.Tests.{eq-eqb, ne-eqb}
 use Rattle.cuckoo.specs.Graph.{seated, occupant, next}
-use Rattle.cuckoo.specs.Sets.{test, eq?, le?, Sub, Asc, some}
+use Rattle.basics.specs.Tests.{test, eq?, le?}
+use Rattle.basics.specs.Sets.{Sub, Asc, some}
 use Rattle.cuckoo.specs.Joined.{Joined, jsym, edge}
 use Rattle.cuckoo.specs.Settling.{seated-asc, seated-sub, seated-stops}
 use Rattle.cuckoo.specs.Seating.{from-a, from-b, occupant-from, look}

@@ -10,7 +10,7 @@ use lib.Seq.{set-getD}
 use borrow.Author.Tests.{eq-eqb, ne-eqb}
 use Rattle.tabulation.specs.Hash.{Family}
 use Rattle.tabulation.specs.Slots.{slot-0, slot-1}
-use Rattle.cuckoo.specs.Sets.{Asc, none, some}
+use Rattle.basics.specs.Sets.{Asc, none, some}
 use Rattle.forest.specs.Oriented.{standing}
 use Rattle.forest.specs.Held.{holding, slot-count, slots-fit}
 use Rattle.build.specs.Held.{seat}

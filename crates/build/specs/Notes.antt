@@ -11,8 +11,9 @@ use lib.Dec.{eqb, ltb}
 use lib.ListN.{length, getD, set, length-set, drop, replicate, length-replicate}
 use lib.Seq.{sets, sets-eq, getD-set-same, getD-set-other}
 use borrow.Author.Tests.{eq-eqb, ne-eqb, lt-ltb, le-ltb}
-use Rattle.cuckoo.specs.Graph.{seated, stash, member, keep}
-use Rattle.cuckoo.specs.Sets.{eq?, le?, in?, Sub, Asc, some, in-member, no-member}
+use Rattle.basics.specs.Tests.{eq?, le?}
+use Rattle.basics.specs.Sets.{member, keep, in?, Sub, Asc, some, in-member, no-member}
+use Rattle.cuckoo.specs.Graph.{seated, stash}
 use Rattle.cuckoo.specs.Joined.{edge}
 use Rattle.cuckoo.specs.Forest.{forest, spans}
 use Rattle.cuckoo.specs.Settling.{seated-forest, seated-is, is-seated, tree, smallest}

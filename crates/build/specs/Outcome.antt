@@ -3,12 +3,12 @@ use Prim.Native.Nat.{ℕ, _+_, _-_, _*_, _≤_, _<_}
 use mathlib.Core.Path.{_≡_}
 use mathlib.Core.List.{List, [], _∷_, _++_, List·Memᴰ as In}
 use lib.ListN.{length, take, replicate}
-use Rattle.tabulation.specs.Refusal.{done, stash-full}
+use Rattle.refusals.specs.Refusal.{done, stash-full}
 use Rattle.tabulation.specs.Hash.{Family, tabulation-length, max-slots}
 use Rattle.tabulation.specs.Slots.{slot-0, slot-1}
 use Rattle.cuckoo.specs.Graph.{stash, slot-key, slot-next}
 use Rattle.build.specs.Slots.{listed}
-use Rattle.cuckoo.specs.Sets.{Asc}
+use Rattle.basics.specs.Sets.{Asc}
 use Rattle.build.specs.Scratch.{parts, used}
 use Rattle.build.specs.declared.StashCount.{StashCount}
 use Rattle.build.specs.declared.StashCount.the-variants.{Keys, Overflow}

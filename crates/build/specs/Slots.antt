@@ -6,7 +6,7 @@ use mathlib.Core.List.{List, [], _∷_}
 use native.Mathlib.Omega.{arith}
 use lib.ListN.{length, getD, set, length-set}
 use lib.Seq.{getD-set-same, getD-set-other, ext-getD}
-use Rattle.cuckoo.specs.Sets.{eq?}
+use Rattle.basics.specs.Tests.{eq?}
 
 -- for the n slots from v on, ascending: the slot's word becomes f of the slot and of what it was
 unfoldable pub each-slot : (ℕ → ℕ → ℕ) → ℕ → ℕ → List ℕ → List ℕ

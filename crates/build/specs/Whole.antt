@@ -11,7 +11,8 @@ use lib.Seq.{take-take, take-at}
 use Rattle.tabulation.specs.Hash.{Family}
 use Rattle.tabulation.specs.Slots.{slot-0, slot-1}
 use Rattle.cuckoo.specs.Graph.{slot-key, slot-next}
-use Rattle.cuckoo.specs.Sets.{Asc}
+use Rattle.basics.specs.Tests.{zero-one}
+use Rattle.basics.specs.Sets.{Asc}
 use Rattle.forest.specs.Held.{other, slot-count, other-end, slots-fit}
 use Rattle.build.specs.Slots.{listed}
 use Rattle.build.specs.Labels as Labels-of
@@ -49,9 +50,6 @@ module _ (F : Family) (s n : ℕ) (P : Parts) where
 abbrev pub seated-from : Family → ℕ → Parts → Parts
 seated-from F n P =
     blanked-parts (slot-count F) (chained-parts F (last-seen-parts F (finished-parts F (noted-held-parts F P n)) n) n)
-
-zero-one : _≡_ {A = ℕ} 0 1 → ⊥
-zero-one e = omega arith
 
 -- What the theorem says of the passes, case by case.
 data Verdict (overflow : Bool) (s : ℕ) (D occupants nexts : List ℕ) (held next aside : List ℕ) (count : ℕ) : Type 0 where

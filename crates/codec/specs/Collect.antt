@@ -11,8 +11,7 @@ use borrow.Author.Tests.{eq-eqb, ne-eqb}
 use lib.Dec.{eqb}
 use lib.ListN.{length, getD, set, take, drop, length-append}
 use lib.Seq.{getD-drop, drop-drop, drop-cons, take-suc-set, take-append-le}
-use Rattle.cuckoo.specs.Graph.{keep}
-use Rattle.cuckoo.specs.Sets.{length-keep}
+use Rattle.basics.specs.Sets.{keep, length-keep}
 use Rattle.ordered.specs.Keys.{sorted, distinct}
 use Rattle.ordered.specs.Sorting.{sorted-length}
 use Rattle.ordered.specs.Distinct.{distinct-length}

@@ -11,7 +11,7 @@ use borrow.Rule.Slice.PartMut.{midOf, postOf, putMid, post-is}
 use lib.Dec.{eqb}
 use lib.ListN.{length, getD, set, take, drop, length-take, length-drop, take-append-drop, drop-of-length-le}
 use lib.Seq.{drop-cons, take-all, take-at, paste-suc}
-use Rattle.cuckoo.specs.Lists.{same}
+use Rattle.basics.specs.Lists.{same}
 use Rattle.layout.specs.Layout.{header-length, words-length, stash-at, slots-of, places-of}
 use Rattle.layout.specs.Shape.{Shaped, Sized}
 use Rattle.codec.specs.Assembled.{woven, assembled}

@@ -5,7 +5,7 @@ ghost use Prim.Native.Nat.{_*_, _≤_, _<_};
 ghost use mathlib.Core.List.{_∷_};
 ghost use lib.ListN.{length, drop};
 ghost use Rattle.layout.specs.Layout.{header-length, slots-of, places-of};
-ghost use Rattle.cuckoo.specs.Lists.{same};
+ghost use Rattle.basics.specs.Lists.{same};
 ghost use Rattle.codec.specs.Assembled.{woven, assembled};
 ghost use Rattle.codec.specs.Weave.{Comparable, Writable, Weavable, slot-same};
 use access::HEADER_LENGTH;

@@ -44,7 +44,7 @@ fn change(
     ensures { λ r. ⌜ r .at ≤ room ⌝ }
 {
     let before = done.counters;
-    let counted = dictionary::update_counted(kind, tabulation, words, scratch, key, before);
+    let counted = counted::update(kind, tabulation, words, scratch, key, before);
     let counters = counted.counters;
     let at = printing::add_change(out, done.at, kind, key, counted.answer);
     Done {

@@ -2,7 +2,7 @@
 use Prim.Native.Nat.{ℕ, _+_}
 use mathlib.Core.Bool.{cond}
 use lib.Dec.{eqb, ltb}
-use Rattle.tabulation.specs.Refusal.{done}
+use Rattle.refusals.specs.Refusal.{done}
 use Rattle.counters.specs.declared.Counters.{Counters}
 
 -- the largest count

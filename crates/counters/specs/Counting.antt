@@ -4,8 +4,8 @@ use mathlib.Core.Path.{_≡_, refl}
 use mathlib.Core.Logic.{_⊎_, inl, inr}
 use native.Mathlib.Omega.{arith}
 use borrow.Author.Tests.{ne-eqb, lt-ltb, le-ltb}
-use Rattle.cuckoo.specs.Sets.{eq?, le?}
-use Rattle.tabulation.specs.Refusal.{done}
+use Rattle.basics.specs.Tests.{eq?, le?}
+use Rattle.refusals.specs.Refusal.{done}
 use Rattle.counters.specs.declared.Counters.{Counters}
 use Rattle.counters.specs.Counters.{max-count, one-more, counted}
 

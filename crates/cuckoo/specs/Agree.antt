@@ -6,11 +6,12 @@ use mathlib.Core.Bool.{Bool, true, false, cond}
 use mathlib.Core.Logic.{inl, inr}
 use mathlib.Core.List.{List, [], _∷_, List·Memᴰ as In, List·Memᴰ·head as here, List·Memᴰ·tail as there}
 use lib.ListN.{length}
-use Rattle.cuckoo.specs.Graph.{member, keep, first, last, without, label, joined, component, onCycle, cyclic, spare, settle, seated, stash, root, sits, occupant, next, slot-key, slot-next}
-use Rattle.cuckoo.specs.Sets.{Sub, test, member-in, out-in}
+use Rattle.basics.specs.Tests.{test}
+use Rattle.basics.specs.Sets.{member, keep, first, last, without, Sub, member-in, out-in}
+use Rattle.basics.specs.Lists.{keep-ext}
+use Rattle.cuckoo.specs.Graph.{label, joined, component, onCycle, cyclic, spare, settle, seated, stash, root, sits, occupant, next, slot-key, slot-next}
 use Rattle.cuckoo.specs.Joined.{jrefl}
 use Rattle.cuckoo.specs.Seating.{rooted, occupant-from}
-use Rattle.cuckoo.specs.Lists.{keep-ext}
 use Rattle.cuckoo.specs.Settling.{settle-sub}
 
 -- a b and a′ b′ give every key of R the same two slots

@@ -6,8 +6,9 @@ use mathlib.Core.Logic.{_⊎_, inl, inr, _↔_}
 use mathlib.Core.List.{List, List·Memᴰ as In}
 use native.Mathlib.Omega.{arith}
 use Rattle.cuckoo.specs.Graph.{onCycle, component, root, occupant}
-use Rattle.cuckoo.specs.Sets.{eq?, Asc}
-use Rattle.cuckoo.specs.Lists.{Picked, passes, fails, picked}
+use Rattle.basics.specs.Tests.{eq?}
+use Rattle.basics.specs.Sets.{Asc}
+use Rattle.basics.specs.Lists.{Picked, passes, fails, picked}
 use Rattle.cuckoo.specs.Joined.{Joined, jsym, jrefl, jtrans, edge}
 use Rattle.cuckoo.specs.Settling.{OnCycle, Cyclic, Settled, onCycle-true, true-onCycle}
 use Rattle.cuckoo.specs.Seating.{from-b, tree-root, Rooted, rooted, root-same, true-sits, occupant-is, occupant-from}

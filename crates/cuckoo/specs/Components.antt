@@ -3,7 +3,7 @@ use Prim.Native.Nat.{ℕ}
 use mathlib.Core.Path.{_≡_}
 use mathlib.Core.List.{List, List·Memᴰ as In}
 use Rattle.cuckoo.specs.Graph.{joined, component}
-use Rattle.cuckoo.specs.Sets.{keep-in, keep-test, in-keep, Asc, asc-keep}
+use Rattle.basics.specs.Sets.{keep-in, keep-test, in-keep, Asc, asc-keep}
 use Rattle.cuckoo.specs.Joined.{Joined, joined-true, true-joined}
 
 module _ (a b : ℕ → ℕ) (T : List ℕ) (v : ℕ) where

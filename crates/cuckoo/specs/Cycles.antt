@@ -7,8 +7,8 @@ use mathlib.Core.Logic.{_⊎_, inl, inr, _↔_}
 use mathlib.Core.List.{List, [], _∷_, List·Memᴰ as In, List·Memᴰ·head as here}
 use mathlib.Core.List.{List·Memᴰ·not-nil as in-nil, List·Memᴰ·eq-of-singleton as in-singleton}
 use lib.ListN.{length}
-use Rattle.cuckoo.specs.Graph.{without, cyclic, spare, settle, seated}
-use Rattle.cuckoo.specs.Sets.{Sub, in?, out-in, out-ne, Asc, asc-out}
+use Rattle.basics.specs.Sets.{without, Sub, in?, out-in, out-ne, Asc, asc-out}
+use Rattle.cuckoo.specs.Graph.{cyclic, spare, settle, seated}
 use Rattle.cuckoo.specs.Joined.{Joined, jrefl, jsym, jtrans, mono, cut}
 use Rattle.cuckoo.specs.Settling.{OnCycle, Cyclic, Spare, Settled, Goes, stop, go-on, moves, round, seated-stops, seated-joined}
 use Rattle.cuckoo.specs.Settling.{cyclic-true, true-cyclic, spare-true, true-spare}

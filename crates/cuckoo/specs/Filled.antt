@@ -6,9 +6,10 @@ use mathlib.Core.Logic.{_⊎_, inl, inr}
 use mathlib.Core.List.{List, List·Memᴰ as In}
 use borrow.Author.Tests.{not-true}
 use lib.ListN.{length}
-use Rattle.cuckoo.specs.Graph.{member, keep, root, sits, occupant, seated, stash}
-use Rattle.cuckoo.specs.Sets.{Sub, eq?, in?, keep-in, keep-test, in-keep, member-in, in-member, no-member, Asc, asc-keep, asc-ext}
-use Rattle.cuckoo.specs.Lists.{length-split}
+use Rattle.basics.specs.Tests.{eq?}
+use Rattle.basics.specs.Sets.{member, keep, Sub, in?, keep-in, keep-test, in-keep, member-in, in-member, no-member, Asc, asc-keep, asc-ext}
+use Rattle.basics.specs.Lists.{length-split}
+use Rattle.cuckoo.specs.Graph.{root, sits, occupant, seated, stash}
 use Rattle.cuckoo.specs.Joined.{Joined, jsym, jrefl, jtrans}
 use Rattle.cuckoo.specs.Settling.{Cyclic, Settled, cyclic?, cyclic-near, seated-sub, seated-asc}
 use Rattle.cuckoo.specs.Seating.{occupant-is}

@@ -8,8 +8,9 @@ use mathlib.Core.List.{List, _∷_, List·Memᴰ as In, List·Memᴰ·head as he
 use native.Mathlib.Omega.{arith}
 use native.Mathlib.Nat.{not-suc-le-zero}
 use borrow.Author.Tests.{not-true}
-use Rattle.cuckoo.specs.Graph.{joined, keep, without}
-use Rattle.cuckoo.specs.Sets.{keep-in, keep-test, in-keep, in?, le?, Sub, out-in, out-ne, below, below-in, below-lt, in-below, below-sub, below-up, below-suc, top, in-top}
+use Rattle.basics.specs.Tests.{le?}
+use Rattle.basics.specs.Sets.{keep, without, keep-in, keep-test, in-keep, in?, Sub, out-in, out-ne, below, below-in, below-lt, in-below, below-sub, below-up, below-suc, top, in-top}
+use Rattle.cuckoo.specs.Graph.{joined}
 use Rattle.cuckoo.specs.Joined.{Joined, past, along, back, edge, mono, within, split, joined?, true-joined, no-joined}
 
 module _ (a b : ℕ → ℕ) where

@@ -10,34 +10,7 @@ use mathlib.Core.Bool.{Bool, false, not, cond, _&&_, _||_}
 use mathlib.Core.List.{List, [], _∷_, _++_}
 use lib.Dec.{eqb, ltb}
 use lib.ListN.{length}
-
-abbrev pub member : ℕ → List ℕ → Bool
-member c [] = false
-member c (d ∷ R) = eqb c d || member c R
-
--- those of R that pass the test p, in their order
-abbrev pub keep : (ℕ → Bool) → List ℕ → List ℕ
-keep p [] = []
-keep p (d ∷ R) = cond (p d) (d ∷ keep p R) (keep p R)
-
-abbrev pub any : (ℕ → Bool) → List ℕ → Bool
-any p [] = false
-any p (d ∷ R) = p d || any p R
-
--- the smallest of an ascending list, 0 where there is none
-abbrev pub first : List ℕ → ℕ
-first [] = 0
-first (c ∷ R) = c
-
--- the largest of an ascending list, 0 where there is none
-abbrev pub last : List ℕ → ℕ
-last [] = 0
-last (c ∷ []) = c
-last (c ∷ d ∷ R) = last (d ∷ R)
-
--- R without c
-unfoldable pub without : ℕ → List ℕ → List ℕ
-without c R = keep (λ d. not (eqb c d)) R
+use Rattle.basics.specs.Sets.{member, keep, any, first, last, without}
 
 module _ (a b : ℕ → ℕ) where
   -- Connected slots have one label: each key in turn gives the label of its end in table 1 to all that have that of its end in table 0.

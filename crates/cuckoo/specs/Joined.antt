@@ -8,8 +8,9 @@ use mathlib.Core.Logic.{_⊎_, inl, inr}
 use mathlib.Core.List.{List, [], _∷_, List·Memᴰ as In, List·Memᴰ·head as here, List·Memᴰ·tail as there}
 use lib.Dec.{eqb}
 use borrow.Author.Tests.{eqb-true, eqb-false, eq-eqb, ne-eqb}
-use Rattle.cuckoo.specs.Graph.{label, joined, without}
-use Rattle.cuckoo.specs.Sets.{test, eq?, Sub, in-out, around}
+use Rattle.basics.specs.Tests.{test, eq?}
+use Rattle.basics.specs.Sets.{without, Sub, in-out, around}
+use Rattle.cuckoo.specs.Graph.{label, joined}
 
 module _ (a b : ℕ → ℕ) where
   -- u and v have one label

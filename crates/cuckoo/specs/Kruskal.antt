@@ -6,8 +6,9 @@ use mathlib.Core.Bool.{Bool, true}
 use mathlib.Core.Logic.{inl, inr, _↔_}
 use mathlib.Core.List.{List, List·Memᴰ as In}
 use native.Mathlib.Omega.{arith}
-use Rattle.cuckoo.specs.Graph.{keep, without, seated, root}
-use Rattle.cuckoo.specs.Sets.{Sub, eq?, in?, le?, keep-in, keep-test, in-keep, out-in, in-out, out-ne, outs, below-in, below-lt, Asc, asc-keep, asc-ext}
+use Rattle.basics.specs.Tests.{eq?, le?}
+use Rattle.basics.specs.Sets.{keep, without, Sub, in?, keep-in, keep-test, in-keep, out-in, in-out, out-ne, outs, below-in, below-lt, Asc, asc-keep, asc-ext}
+use Rattle.cuckoo.specs.Graph.{seated, root}
 use Rattle.cuckoo.specs.Joined.{Joined, jrefl, jsym, jtrans, edge, mono, confine}
 use Rattle.cuckoo.specs.Forest.{forest, forest-in, spans-key, spans, acyclic}
 use Rattle.cuckoo.specs.Settling.{OnCycle, Cyclic, Settled, seated-asc, Stays, one, seated-sub, seated-forest, seated-stops, seated-some, seated-is, is-seated}

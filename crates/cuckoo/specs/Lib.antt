@@ -5,8 +5,6 @@
 -- own keys count (Agree). docs/CLAIMS.md says which theorem stands for which sentence.
 pub mod Graph
 pub mod Rows
-pub mod Sets
-pub mod Lists
 pub mod Joined
 pub mod Walks
 pub mod Forest

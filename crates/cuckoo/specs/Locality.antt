@@ -6,9 +6,10 @@ use mathlib.Core.Bool.{Bool, true, not, _&&_, _||_, and-true as and-right}
 use mathlib.Core.Logic.{inl, inr, _↔_}
 use mathlib.Core.List.{List, List·Memᴰ as In}
 use lib.Dec.{eqb}
-use Rattle.cuckoo.specs.Graph.{joined, member, keep, without, first, onCycle, component, seated, stash, root, sits, occupant, next}
-use Rattle.cuckoo.specs.Sets.{Sub, test, member-in, in-member, out-in, in-out, out-ne, out-sub, below, below-in, below-lt, in-below, below-sub, Asc, asc-ext, and-true}
-use Rattle.cuckoo.specs.Lists.{bool-ext, keep-ext, keep-keep, keep-both}
+use Rattle.basics.specs.Tests.{test, and-true, bool-ext}
+use Rattle.basics.specs.Sets.{member, keep, without, first, Sub, member-in, in-member, out-in, in-out, out-ne, out-sub, below, below-in, below-lt, in-below, below-sub, Asc, asc-ext}
+use Rattle.basics.specs.Lists.{keep-ext, keep-keep, keep-both}
+use Rattle.cuckoo.specs.Graph.{joined, onCycle, component, seated, stash, root, sits, occupant, next}
 use Rattle.cuckoo.specs.Joined.{Joined, jrefl, jsym, jtrans, edge, mono, joined-true, true-joined, cut, confine}
 use Rattle.cuckoo.specs.Forest.{forest, forest-in, forest-no, in-forest}
 use Rattle.cuckoo.specs.Settling.{OnCycle, Cyclic, Spare, onCycle-true, true-onCycle, tree, smallest, seated-sub, seated-joined, cycle-mono, spare-mono, seated-asc, seated-is, is-seated}

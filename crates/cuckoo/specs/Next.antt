@@ -8,8 +8,8 @@ use borrow.Author.Tests.{ltb-true, lt-ltb}
 use lib.Dec.{ltb}
 use lib.ListN.{length, getD}
 use Rattle.cuckoo.specs.Graph.{component, next, seated, stash}
-use Rattle.cuckoo.specs.Sets.{Asc}
-use Rattle.cuckoo.specs.Lists.{getD-in, larger-drop, first-drop, passes, fails, picked}
+use Rattle.basics.specs.Sets.{Asc}
+use Rattle.basics.specs.Lists.{getD-in, larger-drop, first-drop, passes, fails, picked}
 use Rattle.cuckoo.specs.Joined.{Joined, jrefl}
 use Rattle.cuckoo.specs.Components.{in-component, component-in, component-near, component-same, asc-component}
 use Rattle.cuckoo.specs.Settling.{seated-asc}

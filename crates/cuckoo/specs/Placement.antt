@@ -9,9 +9,10 @@ use native.Mathlib.Omega.{arith}
 use borrow.Author.Tests.{eqb-true, eqb-false}
 use lib.Dec.{eqb}
 use lib.ListN.{length, length-append, length-map}
-use Rattle.cuckoo.specs.Graph.{member, without, cyclic, seated, stash, occupant}
-use Rattle.cuckoo.specs.Sets.{Sub, test, in?, le?, below, in-member, no-member, out-in, Asc, asc-out}
-use Rattle.cuckoo.specs.Lists.{pigeonhole, upto, length-upto, in-upto, rank-below, rank-apart}
+use Rattle.basics.specs.Tests.{test, le?}
+use Rattle.basics.specs.Sets.{member, without, Sub, in?, below, in-member, no-member, out-in, Asc, asc-out}
+use Rattle.basics.specs.Lists.{pigeonhole, upto, length-upto, in-upto, rank-below, rank-apart}
+use Rattle.cuckoo.specs.Graph.{cyclic, seated, stash, occupant}
 use Rattle.cuckoo.specs.Joined.{jsym, edge}
 use Rattle.cuckoo.specs.Settling.{Cyclic, cyclic-true, true-cyclic, cyclic-near, seated-sub, seated-asc, seated-joined, seated-stops}
 use Rattle.cuckoo.specs.Seating.{look}

@@ -6,8 +6,9 @@ use mathlib.Core.Path.{_≡_, refl, sym, _∙_, ap}
 use mathlib.Core.Bool.{cond, true≢false}
 use mathlib.Core.Logic.{_⊎_, inl, inr}
 use mathlib.Core.List.{List, List·Memᴰ as In}
-use Rattle.cuckoo.specs.Graph.{without, onCycle, root, occupant}
-use Rattle.cuckoo.specs.Sets.{Sub, test, eq?, in-out, out-in, out-ne}
+use Rattle.basics.specs.Tests.{test, eq?}
+use Rattle.basics.specs.Sets.{without, Sub, in-out, out-in, out-ne}
+use Rattle.cuckoo.specs.Graph.{onCycle, root, occupant}
 use Rattle.cuckoo.specs.Joined.{Joined, jsym, jtrans, cut}
 use Rattle.cuckoo.specs.Settling.{OnCycle, Settled, onCycle-true, true-onCycle}
 use Rattle.cuckoo.specs.Seating.{Ends, from-a, from-b, ends-near, Bare, Sat, tree-root, tree-away, cycle-root, cycle-away, Rooted, rooted, root-same, sits-true, true-sits, occupant-is, occupant-from}

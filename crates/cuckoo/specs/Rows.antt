@@ -4,8 +4,9 @@ use Prim.Native.Nat.{ℕ, zero, suc, _+_, _/_, _%_}
 use mathlib.Core.Bool.{Bool, true, _&&_}
 use mathlib.Core.List.{List, [], _∷_, _++_}
 use lib.Dec.{T}
-use Rattle.cuckoo.specs.Graph.{without, label, joined, component, onCycle, cyclic, spare, settle, seated, stash, root, sits, occupant, next, slot-key, slot-next}
-use Rattle.cuckoo.specs.Lists.{same}
+use Rattle.basics.specs.Sets.{without}
+use Rattle.basics.specs.Lists.{same}
+use Rattle.cuckoo.specs.Graph.{label, joined, component, onCycle, cyclic, spare, settle, seated, stash, root, sits, occupant, next, slot-key, slot-next}
 
 -- the test board's slots of a key below 256: 0 to 3 in table 0, 4 to 7 in table 1
 abbrev pub board-0 : ℕ → ℕ

@@ -7,8 +7,9 @@ use mathlib.Core.Logic.{_⊎_, inl, inr}
 use mathlib.Core.List.{List, [], _∷_, List·Memᴰ as In, List·Memᴰ·head as here}
 use borrow.Author.Tests.{eqb-true, eqb-false, eq-eqb, ne-eqb, not-true}
 use lib.Dec.{eqb}
-use Rattle.cuckoo.specs.Graph.{joined, keep, without, onCycle, component, root, sits, occupant, first}
-use Rattle.cuckoo.specs.Sets.{keep-in, keep-test, in-keep, test, eq?, Sub, out-in, in-out, outs, first-in, first-two, and-true}
+use Rattle.basics.specs.Tests.{test, eq?, and-true}
+use Rattle.basics.specs.Sets.{keep, without, first, keep-in, keep-test, in-keep, Sub, out-in, in-out, outs, first-in, first-two}
+use Rattle.cuckoo.specs.Graph.{joined, onCycle, component, root, sits, occupant}
 use Rattle.cuckoo.specs.Settling.{OnCycle, Settled, onCycle-true, true-onCycle, onCycle?}
 use Rattle.cuckoo.specs.Joined.{Joined, past, along, back, jrefl, jsym, jtrans, edge, mono, split-out, cut, joined-true, true-joined, no-joined}
 

@@ -8,8 +8,9 @@ use mathlib.Core.List.{List, [], _∷_, List·Memᴰ as In}
 use native.Mathlib.Omega.{arith}
 use native.Mathlib.Nat.{le-of-eq}
 use lib.ListN.{length}
-use Rattle.cuckoo.specs.Graph.{joined, member, keep, without, onCycle, component, cyclic, spare, settle, seated, last}
-use Rattle.cuckoo.specs.Sets.{keep-test, in-keep, test, eq?, in?, Sub, out-in, in-out, out-ne, outs, out-sub, below-out, member-in, in-member, and-true, any-true, true-any, Asc, asc-keep, last-in, last-max, out-shorter, asc-out, in-length, some-or-all, both?, not?}
+use Rattle.basics.specs.Tests.{test, eq?, and-true}
+use Rattle.basics.specs.Sets.{member, keep, without, last, keep-test, in-keep, in?, Sub, out-in, in-out, out-ne, outs, out-sub, below-out, member-in, in-member, any-true, true-any, Asc, asc-keep, last-in, last-max, out-shorter, asc-out, in-length, some-or-all, both?, not?}
+use Rattle.cuckoo.specs.Graph.{joined, onCycle, component, cyclic, spare, settle, seated}
 use Rattle.cuckoo.specs.Joined.{Joined, past, along, back, jrefl, jsym, jtrans, edge, mono, split-out, cut, joined?, joined-true, true-joined, confine}
 use Rattle.cuckoo.specs.Forest.{forest, forest-in, spans, acyclic, not-largest}
 

@@ -8,8 +8,9 @@ use mathlib.Core.Logic.{_⊎_, inl, inr}
 use mathlib.Core.List.{List, List·Memᴰ as In}
 use borrow.Author.Tests.{eqb-true, eq-eqb, ne-eqb, not-true}
 use lib.Dec.{eqb}
-use Rattle.cuckoo.specs.Graph.{keep, joined, without}
-use Rattle.cuckoo.specs.Sets.{Sub, eq?, in?, some-or-all, in-out, out-sub, keep-in, keep-test, in-keep}
+use Rattle.basics.specs.Tests.{eq?}
+use Rattle.basics.specs.Sets.{keep, without, Sub, in?, some-or-all, in-out, out-sub, keep-in, keep-test, in-keep}
+use Rattle.cuckoo.specs.Graph.{joined}
 use Rattle.cuckoo.specs.Joined.{Joined, mono, joined?, joined-true, true-joined, false-joined, jsym, jrefl, jtrans, edge, least}
 use Rattle.cuckoo.specs.Seating.{Ends, from-a, from-b, Bare, one-near, not-both, away, ends-edge, ends-flip}
 

@@ -5,7 +5,8 @@ use mathlib.Core.Path.{_≡_, sym, _∙_}
 use mathlib.Core.Logic.{_⊎_, inl, inr}
 use mathlib.Core.List.{List, List·Memᴰ as In}
 use Rattle.cuckoo.specs.Graph.{root, seated, occupant}
-use Rattle.cuckoo.specs.Sets.{eq?, Asc}
+use Rattle.basics.specs.Tests.{eq?}
+use Rattle.basics.specs.Sets.{Asc}
 use Rattle.cuckoo.specs.Joined.{Joined, jsym, jrefl, jtrans, mono}
 use Rattle.cuckoo.specs.Settling.{Cyclic, Settled, cyclic?, cyclic-near, seated-asc, seated-sub, seated-stops}
 use Rattle.cuckoo.specs.Seating.{from-a, from-b, ends-near, rooted}

@@ -6,8 +6,8 @@ use mathlib.Core.Bool.{true}
 use mathlib.Core.Logic.{inl, inr, _↔_}
 use mathlib.Core.List.{List, [], _∷_, _++_, List·Memᴰ as In, List·Memᴰ·head as here, List·Memᴰ·tail as there}
 use mathlib.Core.List.{List·Memᴰ·append-cases as in-append, List·Memᴰ·not-nil as in-nil}
-use Rattle.cuckoo.specs.Graph.{label, joined, without, onCycle}
-use Rattle.cuckoo.specs.Sets.{Sub, out-in, in-out, out-ne}
+use Rattle.basics.specs.Sets.{without, Sub, out-in, in-out, out-ne}
+use Rattle.cuckoo.specs.Graph.{label, joined, onCycle}
 use Rattle.cuckoo.specs.Joined.{Joined, past, along, back, jrefl, jsym, jtrans, split, joined?, joined-true, true-joined}
 use Rattle.cuckoo.specs.Settling.{OnCycle, onCycle-true, true-onCycle}
 use Rattle.cuckoo.specs.Seating.{Ends, from-a, from-b, ends-edge, ends-cycle, ends-near}

@@ -10,10 +10,10 @@ use borrow.Author.Tests.{eq-eqb, le-ltb}
 use lib.Dec.{eqb, ltb}
 use lib.ListN.{length, take}
 use lib.Seq.{length-take-le}
-use Rattle.cuckoo.specs.Graph.{member, without}
-use Rattle.cuckoo.specs.Sets.{Asc, eq?}
+use Rattle.basics.specs.Tests.{eq?}
+use Rattle.basics.specs.Sets.{member, without, Asc}
 use Rattle.ordered.specs.Keys.{with-key}
-use Rattle.tabulation.specs.Refusal.{done, wrong-tabulation, wrong-shape, short-scratch, not-canonical, blank-key, key-present, key-absent, stash-full, first-refusal}
+use Rattle.refusals.specs.Refusal.{done, wrong-tabulation, wrong-shape, short-scratch, not-canonical, blank-key, key-present, key-absent, stash-full, first-refusal, front-applies}
 use Rattle.tabulation.specs.Hash.{tabulation-length, blank}
 use Rattle.layout.specs.Layout.{ValidSet, params-of, slots-of, places-of, scratch-length, shaped, fits, image, keys-in}
 use Rattle.layout.specs.Canonical.{canonical, canonical-true}
@@ -29,7 +29,7 @@ use Rattle.outcome.specs.Laws.{Ready, change-refused}
 use Rattle.outcome.specs.Held.{one-too-many, changed-valid}
 use Rattle.renewal.specs.declared.Reading.{Reading}
 use Rattle.renewal.specs.declared.Reading.the-variants.{Keys, NotCanonical}
-use Rattle.renewal.specs.Reading.{early-refusal, number, values, reading-refusal, reading-values, new-answer, new-words, set-buildable, told-tampered, told-keys}
+use Rattle.renewal.specs.Reading.{early-refusals, early-refusal, number, values, reading-refusal, reading-values, new-answer, new-words, set-buildable, told-tampered, told-keys}
 
 -- The words can be read, they are canonical, their n keys stand at the front of scratch, and the key is not blank.
 pub record Settable (tabulation ws scratch : List ℕ) (n key : ℕ) : Type 0 where
@@ -126,34 +126,17 @@ module _ {tabulation ws scratch : List ℕ} {n key : ℕ} (Z : Settable tabulati
 
 -- From the steps to the outcomes.
 
--- a list of refusals in front of others: the first that applies there, or the first of the others
-refusals-front : (rs ts : List (ℕ × Bool)) → (first-refusal rs ≡ 0 → ⊥) → first-refusal (rs ++ ts) ≡ first-refusal rs
-refusals-front [] ts n = absurd (n refl)
-refusals-front (r ∷ rs) ts n = go (r .1) (refusals-front rs ts) n
-  where
-    go : (t : Bool) → ((first-refusal rs ≡ 0 → ⊥) → first-refusal (rs ++ ts) ≡ first-refusal rs) → (cond t (r .0) (first-refusal rs) ≡ 0 → ⊥)
-        → cond t (r .0) (first-refusal (rs ++ ts)) ≡ cond t (r .0) (first-refusal rs)
-    go true more n = refl
-    go false more n = more n
-
 module _ (tabulation ws scratch : List ℕ) where
-  abbrev early-list : List (ℕ × Bool)
-  early-list =
-      (wrong-tabulation, not (eqb (length tabulation) tabulation-length))
-      ∷ (wrong-shape, not (shaped ws))
-      ∷ (short-scratch, ltb (length scratch) (scratch-length (slots-of ws) (places-of ws)))
-      ∷ []
-
   -- 1, 2 or 3 applies
   module _ (early : early-refusal tabulation ws (length scratch) ≡ 0 → ⊥) where
     pub check-early : early-refusal tabulation ws (length scratch) ≡ check-outcome tabulation ws scratch .answer
     unfolding early-refusal check-outcome
-    check-early = sym (refusals-front early-list ((not-canonical, not (canonical tabulation ws)) ∷ []) early)
+    check-early = sym (front-applies (early-refusals tabulation ws (length scratch)) ((not-canonical, not (canonical tabulation ws)) ∷ []) early)
 
     change-early : (kind : Change) (key : ℕ) → early-refusal tabulation ws (length scratch) ≡ change-outcome kind tabulation ws scratch key .answer
     unfolding early-refusal change-outcome change-refusal
     change-early kind key =
-        sym (refusals-front early-list
+        sym (front-applies (early-refusals tabulation ws (length scratch))
         ((not-canonical, not (canonical tabulation ws)) ∷ (blank-key, blank key) ∷ set-refusals kind (params-of tabulation ws) key (keys-in ws)) early)
 
   -- and where none does

@@ -1,42 +1,118 @@
-// Insert, remove and check: their whole outcome. All three start alike: the words are read as a set, that set is built anew in scratch, and the words must be
-// its image. Then the set changes, is built again, and is written. There are no incremental cases. `core` has the steps; here they meet the
-// counters.
+// Insert, remove and check: their whole outcome but the counters. All three start alike: the words are read as a set, that
+// set is built anew in scratch, and the words must be its image. Then the set changes, is built again, and is written. There
+// are no incremental cases.
 ghost use mathlib.Core.Path.{_≡_};
-ghost use lib.ListN.{length};
-ghost use Rattle.counters.specs.Counters.{counted};
-ghost use Rattle.layout.specs.Answers.{fresh-refusal, fresh-words};
-ghost use Rattle.outcome.specs.Outcome.{change-outcome};
-use counters::Counted;
-use counters::Counters;
-use counters::with_counts;
+ghost use Rattle.dictionary.specs.Core.{Settable, set-answer, set-words};
+ghost use Rattle.outcome.specs.Outcome.{change-outcome, check-outcome};
+ghost use Rattle.outcome.specs.declared.Change.the-variants.{Insert, Remove};
 use outcome::Change;
+use refusals::BLANK_KEY;
+use refusals::KEY_ABSENT;
+use refusals::KEY_PRESENT;
+use refusals::NOT_CANONICAL;
+use refusals::STASH_FULL;
+use renewal::Reading;
+use renewal::clear;
+use renewal::early;
+use renewal::read_set;
+use renewal::renew;
+use words::wide;
 
-pub mod core;
+// The keys at the front of scratch are the set of the words, and the key is not blank: the set with the key.
+fn insert_key(tabulation: &[u16], words: &mut [u32], scratch: &mut [u32], n: usize, key: u32) -> u32
+    requires { ⌜ Settable (now tabulation) (now words) (now scratch) n key ⌝ }
+    ensures answered { λ a. ⌜ a ≡ set-answer Insert (now (tabulation .entry)) (now (words .entry)) key ⌝ }
+    ensures written { λ a. ⌜ now (words .exit) ≡ set-words Insert (now (tabulation .entry)) (now (words .entry)) key ⌝ }
+{
+    if ordered::has(&scratch[..n], key) {
+        return KEY_PRESENT;
+    }
+    if wide(2 * words[0] + words[1]) <= n {
+        return STASH_FULL;
+    }
+    ordered::insert(&mut *scratch, n, key);
+    renew(tabulation, &mut *words, &mut *scratch, n + 1)
+}
 
-// `update` with counts in and counts out, for callers that hold the counters by value.
-pub fn update_counted(
+// The keys at the front of scratch are the set of the words, and the key is not blank: the set without the key.
+fn remove_key(tabulation: &[u16], words: &mut [u32], scratch: &mut [u32], n: usize, key: u32) -> u32
+    requires { ⌜ Settable (now tabulation) (now words) (now scratch) n key ⌝ }
+    ensures answered { λ a. ⌜ a ≡ set-answer Remove (now (tabulation .entry)) (now (words .entry)) key ⌝ }
+    ensures written { λ a. ⌜ now (words .exit) ≡ set-words Remove (now (tabulation .entry)) (now (words .entry)) key ⌝ }
+{
+    if !ordered::has(&scratch[..n], key) {
+        return KEY_ABSENT;
+    }
+    ordered::delete(&mut *scratch, n, key);
+    renew(tabulation, &mut *words, &mut *scratch, n - 1)
+}
+
+// The whole of insert and remove but for the clearing of scratch.
+fn change_words(
     kind: Change,
     tabulation: &[u16],
     words: &mut [u32],
     scratch: &mut [u32],
     key: u32,
-    counters: Counters,
-) -> Counted
-    ensures answered { λ c. ⌜ c .answer ≡ change-outcome kind (now (tabulation .entry)) (now (words .entry)) (now (scratch .entry)) key .answer ⌝ }
-    ensures changed { λ c. ⌜ now (words .exit) ≡ change-outcome kind (now (tabulation .entry)) (now (words .entry)) (now (scratch .entry)) key .words ⌝ }
-    ensures cleared { λ c. ⌜ now (scratch .exit) ≡ change-outcome kind (now (tabulation .entry)) (now (words .entry)) (now (scratch .entry)) key .scratch ⌝ }
-    ensures moved { λ c. ⌜ c .counters ≡ counted counters (change-outcome kind (now (tabulation .entry)) (now (words .entry)) (now (scratch .entry)) key .answer) ⌝ }
+) -> u32
+    ensures answered { λ a. ⌜ a ≡ change-outcome kind (now (tabulation .entry)) (now (words .entry)) (now (scratch .entry)) key .answer ⌝ }
+    ensures written { λ a. ⌜ now (words .exit) ≡ change-outcome kind (now (tabulation .entry)) (now (words .entry)) (now (scratch .entry)) key .words ⌝ }
 {
-    let answer = core::update(kind, tabulation, words, scratch, key);
-    with_counts(answer, counters)
+    let refusal = early(tabulation, &*words, scratch.len());
+    if refusal != 0 {
+        return refusal;
+    }
+    let reading = read_set(tabulation, &*words, &mut *scratch);
+    let Reading::Keys(n) = reading else {
+        return NOT_CANONICAL;
+    };
+    if tabulation::is_blank(key) {
+        return BLANK_KEY;
+    }
+    match kind {
+        Change::Insert => insert_key(tabulation, &mut *words, &mut *scratch, n, key),
+        Change::Remove => remove_key(tabulation, &mut *words, &mut *scratch, n, key),
+    }
 }
 
-// `access::fresh` with counts in and counts out, for callers that hold the counters by value.
-pub fn init_counted(words: &mut [u32], r: u32, s: u32, counters: Counters) -> Counted
-    ensures answered { λ c. ⌜ c .answer ≡ fresh-refusal (length (now (words .entry))) r s ⌝ }
-    ensures laid { λ c. ⌜ now (words .exit) ≡ fresh-words (now (words .entry)) r s ⌝ }
-    ensures moved { λ c. ⌜ c .counters ≡ counted counters (fresh-refusal (length (now (words .entry))) r s) ⌝ }
+// Insert and remove: their whole outcome but the counters.
+pub fn update(
+    kind: Change,
+    tabulation: &[u16],
+    words: &mut [u32],
+    scratch: &mut [u32],
+    key: u32,
+) -> u32
+    ensures answered { λ n. ⌜ n ≡ change-outcome kind (now (tabulation .entry)) (now (words .entry)) (now (scratch .entry)) key .answer ⌝ }
+    ensures changed { λ n. ⌜ now (words .exit) ≡ change-outcome kind (now (tabulation .entry)) (now (words .entry)) (now (scratch .entry)) key .words ⌝ }
+    ensures cleared { λ n. ⌜ now (scratch .exit) ≡ change-outcome kind (now (tabulation .entry)) (now (words .entry)) (now (scratch .entry)) key .scratch ⌝ }
 {
-    let answer = access::fresh(words, r, s);
-    with_counts(answer, counters)
+    let answer = change_words(kind, tabulation, &mut *words, &mut *scratch, key);
+    clear(&mut *scratch);
+    answer
+}
+
+// The whole of check but for the clearing of scratch.
+fn check_words(tabulation: &[u16], words: &[u32], scratch: &mut [u32]) -> u32
+    ensures { λ a. ⌜ a ≡ check-outcome (now (tabulation .entry)) (now (words .entry)) (now (scratch .entry)) .answer ⌝ }
+{
+    let refusal = early(tabulation, words, scratch.len());
+    if refusal != 0 {
+        return refusal;
+    }
+    let reading = read_set(tabulation, words, &mut *scratch);
+    let Reading::Keys(_) = reading else {
+        return NOT_CANONICAL;
+    };
+    0
+}
+
+// Check: its whole outcome. The words are only read.
+pub fn check(tabulation: &[u16], words: &[u32], scratch: &mut [u32]) -> u32
+    ensures answered { λ n. ⌜ n ≡ check-outcome (now (tabulation .entry)) (now (words .entry)) (now (scratch .entry)) .answer ⌝ }
+    ensures cleared { λ n. ⌜ now (scratch .exit) ≡ check-outcome (now (tabulation .entry)) (now (words .entry)) (now (scratch .entry)) .scratch ⌝ }
+{
+    let answer = check_words(tabulation, words, &mut *scratch);
+    clear(&mut *scratch);
+    answer
 }

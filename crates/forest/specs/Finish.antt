@@ -13,8 +13,9 @@ use mathlib.Core.List.{List, _∷_, List·Memᴰ as In, List·Memᴰ·head as he
 use native.Mathlib.Omega.{arith}
 use lib.ListN.{length, getD, set, length-set}
 use lib.Seq.{set-getD}
-use Rattle.cuckoo.specs.Graph.{without, root, occupant}
-use Rattle.cuckoo.specs.Sets.{eq?, le?, Sub, out-in, in-out, out-ne, around, out-shorter, Asc, below, below-in, below-lt}
+use Rattle.basics.specs.Tests.{eq?, le?}
+use Rattle.basics.specs.Sets.{without, Sub, out-in, in-out, out-ne, around, out-shorter, Asc, below, below-in, below-lt}
+use Rattle.cuckoo.specs.Graph.{root, occupant}
 use Rattle.cuckoo.specs.Joined.{Joined, past, along, back, split-out, jrefl, jsym, jtrans, edge, edge-head, mono, within, confine, more}
 use Rattle.cuckoo.specs.Settling.{OnCycle}
 use Rattle.cuckoo.specs.Seating.{Ends, from-a}

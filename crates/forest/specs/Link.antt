@@ -8,8 +8,9 @@ use mathlib.Core.Logic.{_⊎_, inl, inr}
 use mathlib.Core.List.{List, [], _∷_, List·Memᴰ as In, List·Memᴰ·head as here, List·Memᴰ·tail as there}
 use native.Mathlib.Omega.{arith}
 use lib.ListN.{length, getD, replicate}
-use Rattle.cuckoo.specs.Graph.{joined, without}
-use Rattle.cuckoo.specs.Sets.{eq?, Sub, in-out, out-shorter, asc-keep, Asc, none, some, below-in, below-lt, in-below}
+use Rattle.basics.specs.Tests.{eq?}
+use Rattle.basics.specs.Sets.{without, Sub, in-out, out-shorter, asc-keep, Asc, none, some, below-in, below-lt, in-below}
+use Rattle.cuckoo.specs.Graph.{joined}
 use Rattle.cuckoo.specs.Joined.{Joined, jrefl, jsym, jtrans, mono, within, more, joined?, true-joined, false-joined}
 use Rattle.cuckoo.specs.Seating.{Ends, ends-flip, ends-edge, ends-cycle}
 use Rattle.cuckoo.specs.Forest.{forest, forest-in, forest-no, in-forest, spans-key}

@@ -18,8 +18,8 @@ use lib.Dec.{eqb}
 use lib.ListN.{length, getD, set, List·getD-eq-default}
 use lib.Seq.{getD-set-same, getD-set-other, set-out}
 use borrow.Author.Tests.{eq-eqb, ne-eqb}
-use Rattle.cuckoo.specs.Graph.{without}
-use Rattle.cuckoo.specs.Sets.{eq?, le?, Sub, out-in, in-out, out-ne, around, out-sub, out-shorter, in-length}
+use Rattle.basics.specs.Tests.{eq?, le?}
+use Rattle.basics.specs.Sets.{without, Sub, out-in, in-out, out-ne, around, out-sub, out-shorter, in-length}
 use Rattle.cuckoo.specs.Joined.{Joined, past, along, back, jrefl, jsym, jtrans, edge, mono, split, confine}
 use Rattle.cuckoo.specs.Seating.{Ends, from-a, from-b, ends-edge, ends-cycle, ends-flip, one-near}
 use Rattle.cuckoo.specs.Tree.{Far, far-some}

@@ -11,8 +11,8 @@ use native.Mathlib.Nat.{not-suc-le-zero}
 use lib.Dec.{eqb}
 use lib.ListN.{length, getD, set, length-set}
 use borrow.Author.Tests.{eq-eqb, ne-eqb}
-use Rattle.cuckoo.specs.Graph.{without}
-use Rattle.cuckoo.specs.Sets.{eq?, out-in, around, out-shorter}
+use Rattle.basics.specs.Tests.{eq?}
+use Rattle.basics.specs.Sets.{without, out-in, around, out-shorter}
 use Rattle.cuckoo.specs.Joined.{Joined, jrefl, jsym, jtrans, mono}
 use Rattle.cuckoo.specs.Seating.{Ends, from-a, from-b}
 use Rattle.forest.specs.Oriented.{at-set, off-set, emptied, Forest, Oriented, Leads, forest-sub, recast, join, leads, tree-beyond, tree-below}

@@ -5,8 +5,9 @@ use mathlib.Core.Path.{_≡_, refl, sym, _∙_}
 use mathlib.Core.Logic.{inl, inr}
 use mathlib.Core.List.{List, List·Memᴰ as In}
 use lib.ListN.{getD, set}
-use Rattle.cuckoo.specs.Graph.{without, onCycle, root, occupant}
-use Rattle.cuckoo.specs.Sets.{test, eq?, Sub, out-in, in-out, out-ne}
+use Rattle.basics.specs.Tests.{test, eq?}
+use Rattle.basics.specs.Sets.{without, Sub, out-in, in-out, out-ne}
+use Rattle.cuckoo.specs.Graph.{onCycle, root, occupant}
 use Rattle.cuckoo.specs.Joined.{Joined, jrefl, jsym, jtrans, edge, confine}
 use Rattle.cuckoo.specs.Settling.{OnCycle, onCycle-true}
 use Rattle.cuckoo.specs.Seating.{root-same}

@@ -10,8 +10,8 @@ use native.Mathlib.Nat.{le-of-eq}
 use lib.Dec.{eqb, ltb}
 use lib.ListN.{length, getD}
 use borrow.Author.Tests.{eq-eqb, ne-eqb, lt-ltb, le-ltb}
-use Rattle.cuckoo.specs.Graph.{without}
-use Rattle.cuckoo.specs.Sets.{eq?, le?, Sub, outs, out-in, in-out, out-shorter}
+use Rattle.basics.specs.Tests.{eq?, le?}
+use Rattle.basics.specs.Sets.{without, Sub, outs, out-in, in-out, out-shorter}
 use Rattle.cuckoo.specs.Joined.{Joined, jrefl, jtrans, mono}
 use Rattle.cuckoo.specs.Seating.{Ends, past-it, by-v, by-w, over, ends-edge}
 use Rattle.forest.specs.Oriented.{Forest, Oriented, Leads, forest-sub, leads, tree-beyond, one-root, not-below, root-beyond, no-keys}

@@ -8,9 +8,9 @@ use mathlib.Core.List.{List, [], _∷_, map, map-map, List·Memᴰ as In, List·
 use native.Mathlib.Omega.{arith}
 use borrow.Author.Tests.{eq-eqb}
 use lib.ListN.{length}
-use Rattle.cuckoo.specs.Graph.{member}
-use Rattle.cuckoo.specs.Sets.{test, in-member, member-in, no-member}
-use Rattle.tabulation.specs.Refusal.{done, first-refusal}
+use Rattle.basics.specs.Tests.{test}
+use Rattle.basics.specs.Sets.{member, in-member, member-in, no-member}
+use Rattle.refusals.specs.Refusal.{done, first-refusal}
 use Rattle.layout.specs.Layout.{Params, scratch-length}
 use Rattle.outcome.specs.declared.Change.the-variants.{Insert, Remove}
 use Rattle.counters.specs.declared.Counters.{Counters}

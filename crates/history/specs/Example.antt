@@ -8,11 +8,10 @@ use mathlib.Core.Bool.{true}
 use mathlib.Core.List.{List, [], _∷_, map, List·Memᴰ·head as here, List·Memᴰ·tail as there}
 use native.Mathlib.Omega.{arith}
 use lib.ListN.{length, replicate, drop, getD}
-use Rattle.cuckoo.specs.Graph.{without}
-use Rattle.cuckoo.specs.Sets.{below}
+use Rattle.basics.specs.Sets.{without, below}
 use Rattle.cuckoo.specs.Placement.{Placement}
 use Rattle.ordered.specs.Keys.{with-key, above}
-use Rattle.tabulation.specs.Refusal.{done, stash-full}
+use Rattle.refusals.specs.Refusal.{done, stash-full}
 use Rattle.tabulation.specs.Hash.{slots-in-range, blank}
 use Rattle.tabulation.specs.Slots.{slot-0, slot-1}
 use Rattle.layout.specs.Layout.{Params, family, sizes-in-range, shaped, stash-of, fits, image}

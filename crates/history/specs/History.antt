@@ -10,9 +10,9 @@ use native.Mathlib.Omega.{arith}
 use borrow.Author.Tests.{eq-eqb, ne-eqb}
 use lib.Dec.{eqb}
 use lib.ListN.{length}
-use Rattle.cuckoo.specs.Graph.{member}
-use Rattle.cuckoo.specs.Sets.{eq?, test}
-use Rattle.tabulation.specs.Refusal.{done, wrong-tabulation, short-scratch, blank-key, first-refusal}
+use Rattle.basics.specs.Tests.{eq?, test}
+use Rattle.basics.specs.Sets.{member}
+use Rattle.refusals.specs.Refusal.{done, wrong-tabulation, short-scratch, blank-key, first-refusal}
 use Rattle.tabulation.specs.Hash.{tabulation-length, blank}
 use Rattle.layout.specs.Layout.{Params, ValidSet, fits, image}
 use Rattle.layout.specs.Answers.{lookup-refusal, lookup-values}

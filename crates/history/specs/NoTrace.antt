@@ -10,18 +10,18 @@ use mathlib.Core.List.{List, [], _∷_, _++_}
 use native.Mathlib.Omega.{arith}
 use borrow.Author.Tests.{ltb-false}
 use lib.ListN.{length}
-use Rattle.cuckoo.specs.Graph.{member}
-use Rattle.cuckoo.specs.Sets.{test}
+use Rattle.basics.specs.Tests.{test}
+use Rattle.basics.specs.Sets.{member}
 use Rattle.cuckoo.specs.Placement.{Placement}
 use Rattle.ordered.specs.Keys.{with-key}
-use Rattle.tabulation.specs.Refusal.{done, stash-full, first-refusal}
+use Rattle.refusals.specs.Refusal.{done, stash-full, first-refusal, passed-over}
 use Rattle.tabulation.specs.Hash.{blank}
 use Rattle.tabulation.specs.Slots.{slot-0, slot-1}
 use Rattle.layout.specs.Layout.{Params, family, scratch-length, fits, image}
 use Rattle.layout.specs.Canonical.{image-one}
 use Rattle.outcome.specs.declared.Change.the-variants.{Insert}
 use Rattle.counters.specs.declared.Counters.{Counters}
-use Rattle.outcome.specs.Laws.{passed-over, change-any-scratch, check-any-scratch}
+use Rattle.outcome.specs.Laws.{change-any-scratch, check-any-scratch}
 use Rattle.outcome.specs.Held.{Holds, held-some, held-full}
 use Rattle.history.specs.Calls.{Lent, own, wrong, lent-of, Call, Step, step, run, words-after, words-left}
 use Rattle.history.specs.Calls.{Allowed, none, more, Sequence, Like, Alike, end, then}

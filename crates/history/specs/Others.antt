@@ -4,7 +4,7 @@ use mathlib.Core.Path.{_≡_}
 use mathlib.Core.List.{List}
 use borrow.Author.Tests.{ne-eqb}
 use lib.ListN.{length}
-use Rattle.tabulation.specs.Refusal.{done}
+use Rattle.refusals.specs.Refusal.{done}
 use Rattle.layout.specs.Answers.{fresh-refusal, fresh-words}
 use Rattle.history.specs.Calls.{Other}
 

@@ -9,6 +9,7 @@ use native.Mathlib.Omega.{arith}
 use borrow.Author.Tests.{eqb-true, eq-eqb, not-true}
 use lib.Dec.{ltb, eqb}
 use lib.ListN.{length, getD}
+use Rattle.basics.specs.Tests.{and-true}
 
 -- "Entry i is (25,173 × i × i + 13,849) modulo 65,521"
 abbrev pub house-entry : ℕ → ℕ
@@ -53,10 +54,6 @@ test-from (suc n) i seen (x ∷ xs) = eqb x (house-entry i) && not (has x seen) 
 -- the whole test of a table of 2,048 entries
 unfoldable pub house-test : List ℕ → Bool
 house-test t = test-from 2048 0 leaf t
-
-and-true : (p q : Bool) → (p && q) ≡ true → (p ≡ true) × (q ≡ true)
-and-true true q e = (refl, e)
-and-true false q e = absurd (false≢true e)
 
 or-true : (p q : Bool) → q ≡ true → (p || q) ≡ true
 or-true true q e = refl

@@ -6,8 +6,8 @@ use mathlib.Core.Bool.{Bool, true, false, not, cond, _&&_, _||_}
 use mathlib.Core.List.{List, [], _∷_, List·Memᴰ as In}
 use lib.Dec.{eqb, ltb}
 use lib.ListN.{length, getD, take, drop, replicate}
-use Rattle.cuckoo.specs.Graph.{member}
-use Rattle.tabulation.specs.Refusal.{done, wrong-tabulation, wrong-shape, not-canonical, blank-key, first-refusal, first-refusal-in}
+use Rattle.basics.specs.Sets.{member}
+use Rattle.refusals.specs.Refusal.{done, wrong-tabulation, wrong-shape, not-canonical, blank-key, first-refusal, first-refusal-in}
 use Rattle.tabulation.specs.Hash.{Family, tabulation-length, blank}
 use Rattle.tabulation.specs.Slots.{slot-0, slot-1}
 use Rattle.layout.specs.Layout.{shaped, sizes-in-range, slots-of, places-of, stash-count, stash-at, stash-part, key-at, words-length}

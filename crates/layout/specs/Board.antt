@@ -10,14 +10,15 @@ use native.Mathlib.Omega.{arith}
 use borrow.Author.Tests.{eqb-true, ne-eqb, ltb-true, not-true}
 use lib.Dec.{T, eqb, ltb, leb}
 use lib.ListN.{length}
-use Rattle.cuckoo.specs.Graph.{without, label, joined, component, onCycle, cyclic, spare, settle, seated, stash, root, sits, occupant, next, slot-key, slot-next}
-use Rattle.cuckoo.specs.Lists.{same, same-true}
+use Rattle.basics.specs.Tests.{and-true, T-true}
+use Rattle.basics.specs.Sets.{without, Asc, none, some}
+use Rattle.basics.specs.Lists.{same, same-true}
+use Rattle.cuckoo.specs.Graph.{label, joined, component, onCycle, cyclic, spare, settle, seated, stash, root, sits, occupant, next, slot-key, slot-next}
 use Rattle.cuckoo.specs.Agree.{agree-none, agree-some}
-use Rattle.cuckoo.specs.Sets.{Asc, none, some, and-true}
 use Rattle.tabulation.specs.Hash.{Family, hash, blank, tabulation-length}
 use Rattle.tabulation.specs.Slots.{slot-0, slot-1}
-use Rattle.layout.specs.Layout.{Params, family, ValidSet, fits, image}
-use Rattle.layout.specs.Ends.{Known, fits-by, slot-words-by, image-by, fits-known, image-known}
+use Rattle.layout.specs.Layout.{Params, family, ValidSet, fits, image, fits-by, slot-words-by, image-by}
+use Rattle.layout.specs.Ends.{Known, fits-known, image-known}
 
 -- the test board's tabulation
 
@@ -138,10 +139,6 @@ unfolding same without label joined component onCycle cyclic spare settle seated
 rows-follow = tt
 
 -- what the test means
-
-T-true : (t : Bool) → T t → t ≡ true
-T-true true h = refl
-T-true false h = absurd h
 
 rises-valid : (n : ℕ) (S : List ℕ) → rises n S ≡ true → Asc S × ((c : ℕ) → In c S → n < c)
 rises-valid n [] e = (none, λ c i. elim i [ ])

@@ -7,8 +7,8 @@ use mathlib.Core.Bool.{Bool, true, false, _&&_, true≢false}
 use mathlib.Core.Logic.{inl, inr, _↔_}
 use mathlib.Core.List.{List}
 use native.Mathlib.Omega.{arith}
-use Rattle.cuckoo.specs.Sets.{test, and-true}
-use Rattle.cuckoo.specs.Lists.{same, same-true, true-same}
+use Rattle.basics.specs.Tests.{test, and-true}
+use Rattle.basics.specs.Lists.{same, same-true, true-same}
 use Rattle.layout.specs.Layout.{Params, ValidSet, slots-of, params-of, sizes-in-range, shaped, fits, image, keys-in}
 use Rattle.layout.specs.Shape.{shape}
 use Rattle.layout.specs.Image.{image-shaped, image-params}

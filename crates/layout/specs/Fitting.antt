@@ -7,8 +7,8 @@ use mathlib.Core.Logic.{inl, inr, _↔_}
 use mathlib.Core.List.{List}
 use native.Mathlib.Omega.{arith}
 use lib.ListN.{length}
-use Rattle.cuckoo.specs.Graph.{without}
-use Rattle.cuckoo.specs.Sets.{Sub, Asc, test, out-in, asc-out}
+use Rattle.basics.specs.Tests.{test}
+use Rattle.basics.specs.Sets.{without, Sub, Asc, out-in, asc-out}
 use Rattle.cuckoo.specs.Placement.{Placement, fits-placed, placed-fits, fits-bound, subset-fits}
 use Rattle.tabulation.specs.Slots.{slot-0, slot-1, slot-0-lt, slot-1-lt}
 use Rattle.layout.specs.Layout.{Params, family, ValidSet, fits}

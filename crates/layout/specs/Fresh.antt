@@ -9,9 +9,10 @@ use borrow.Author.Tests.{eqb-true}
 use lib.Dec.{eqb}
 use lib.ListN.{length, set, replicate, replicate-append-replicate}
 use Rattle.cuckoo.specs.Graph.{settle, seated, stash, occupant, slot-key, slot-next}
-use Rattle.cuckoo.specs.Sets.{none, test, and-true}
-use Rattle.tabulation.specs.Refusal.{done}
-use Rattle.layout.specs.Layout.{Params, ValidSet, slot-width, words-length, sizes-in-range, fits, slot-words, image}
+use Rattle.basics.specs.Tests.{test, and-true}
+use Rattle.basics.specs.Sets.{none}
+use Rattle.refusals.specs.Refusal.{done}
+use Rattle.layout.specs.Layout.{Params, ValidSet, slot-width, words-length, sizes-in-range, fits, slot-words, image, fits-by, image-by, slot-words-by}
 use Rattle.layout.specs.Answers.{fresh-refusal, fresh-words}
 use Rattle.layout.specs.Image.{le-fits}
 
@@ -20,18 +21,18 @@ empty-valid = record { asc = none; solid = λ c i. elim i [ ] }
 
 module _ (P : Params) where
   pub empty-fits : fits P [] ≡ true
-  unfolding fits stash
+  unfolding fits fits-by stash
   empty-fits = le-fits P [] (omega arith)
 
   -- no slot holds a key
   empty-slots : (v n : ℕ) → slot-words P [] v n ≡ replicate (slot-width * n) 0
-  unfolding slot-words slot-key slot-next occupant seated settle
+  unfolding slot-words-by slot-key slot-next occupant seated settle
   empty-slots v zero = refl
   empty-slots v (suc n) = let e : slot-width * suc n ≡ suc (suc (slot-width * n)) = omega arith in rw (e, empty-slots (suc v) n)
 
   -- "r, s and zeros"
   pub empty-image : image P [] ≡ P .slots ∷ P .places ∷ replicate (words-length (P .slots) (P .places) - 2) 0
-  unfolding image stash
+  unfolding image image-by stash
   empty-image =
       let r = P .slots in
       let s = P .places in

@@ -10,9 +10,9 @@ use borrow.Author.Tests.{leb-true, le-leb}
 use lib.ListN.{length, getD, drop, length-append, length-replicate, List·getD-append}
 use lib.Seq.{getD-drop, drop-drop, drop-at, ext-getD}
 use Rattle.cuckoo.specs.Graph.{stash, slot-key, slot-next}
-use Rattle.cuckoo.specs.Sets.{eq?, le?}
+use Rattle.basics.specs.Tests.{eq?, le?}
 use Rattle.tabulation.specs.Slots.{slot-0, slot-1}
-use Rattle.layout.specs.Layout.{Params, family, header-length, slot-width, key-at, stash-at, words-length, slots-of, places-of}
+use Rattle.layout.specs.Layout.{Params, family, header-length, slot-width, key-at, stash-at, words-length, slots-of, places-of, fits-by, image-by, slot-words-by}
 use Rattle.layout.specs.Layout.{stash-count, params-of, sizes-in-range, shaped, stash-of, fits, slot-words, stash-words, image}
 use Rattle.layout.specs.Shape.{sized, shape-true}
 
@@ -44,23 +44,23 @@ position r s i h =
 
 module _ (P : Params) (S : List ℕ) where
   pub fits-le : fits P S ≡ true → length (stash-of P S) ≤ P .places
-  unfolding fits
+  unfolding fits fits-by
   fits-le e = leb-true (length (stash-of P S)) (P .places) e
 
   pub le-fits : length (stash-of P S) ≤ P .places → fits P S ≡ true
-  unfolding fits
+  unfolding fits fits-by
   le-fits l = le-leb (length (stash-of P S)) (P .places) l
 
   -- the words of the slots
   slot-words-length : (v n : ℕ) → length (slot-words P S v n) ≡ slot-width * n
-  unfolding slot-words
+  unfolding slot-words-by
   slot-words-length v zero = omega arith
   slot-words-length v (suc n) = omega (arith, slot-words-length (suc v) n)
 
   slot-words-at : (v n i : ℕ) → i < n
       → (getD (slot-words P S v n) (slot-width * i) 0 ≡ slot-key (slot-0 (family P)) (slot-1 (family P)) S (v + i))
       × (getD (slot-words P S v n) (suc (slot-width * i)) 0 ≡ slot-next (slot-0 (family P)) (slot-1 (family P)) S (v + i))
-  unfolding slot-words
+  unfolding slot-words-by
   slot-words-at v zero i l = absurd (omega arith)
   slot-words-at v (suc n) zero l = let e : v + 0 ≡ v = omega arith in (rw e, rw e)
   slot-words-at v (suc n) (suc i) l =
@@ -74,24 +74,24 @@ module _ (P : Params) (S : List ℕ) where
 
   -- the header of the image
   pub image-slots : slots-of (image P S) ≡ P .slots
-  unfolding image
+  unfolding image image-by
   image-slots = refl
 
   pub image-places : places-of (image P S) ≡ P .places
-  unfolding image
+  unfolding image image-by
   image-places = refl
 
   pub image-keys : getD (image P S) 2 0 ≡ length S
-  unfolding image
+  unfolding image image-by
   image-keys = refl
 
   pub image-stashed : stash-count (image P S) ≡ length (stash (slot-0 (family P)) (slot-1 (family P)) S)
-  unfolding image
+  unfolding image image-by
   image-stashed = refl
 
   -- its slots
   image-after-header : drop header-length (image P S) ≡ slot-words P S 0 (P .slots + P .slots) ++ stash-words P S
-  unfolding image
+  unfolding image image-by
   image-after-header = refl
 
   in-slots : (i : ℕ) → i < slot-width * (P .slots + P .slots)
@@ -126,7 +126,7 @@ module _ (P : Params) (S : List ℕ) where
   image-stash-at i = sym (getD-drop (stash-at (P .slots)) (image P S) i 0) ∙ ap (λ (ws : List ℕ). getD ws i 0) image-stash
 
   pub image-length : fits P S ≡ true → length (image P S) ≡ words-length (P .slots) (P .places)
-  unfolding image
+  unfolding image image-by
   image-length e =
       omega (
         arith,
@@ -145,7 +145,7 @@ module _ (P : Params) (S : List ℕ) where
 
   -- and it is read with the parameters it was made with.
   pub image-params : params-of (P .tabulation) (image P S) ≡ P
-  unfolding image
+  unfolding image image-by
   image-params = refl
 
 -- Words that have at every position the word of the image of S.

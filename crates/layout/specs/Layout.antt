@@ -1,17 +1,17 @@
--- How a dictionary lies in words: the one home of the layout (document 01, "The memory" and "The canonical image"). Words 0 to 3 are r, s, the number
--- of keys and the number of stashed keys; then come the slots of table 0 and table 1, two words each (key, next), then s stash words.
--- This file is what a reader must believe; Image.antt has the laws.
+-- How a dictionary lies in words: the one home of the layout (document 01, "The memory" and "The canonical image"). A heading, then the slots of table 0 and
+-- table 1, then the stash. This file is what a reader must believe; Image.antt has the laws.
 use Prim.Native.Nat.{ℕ, zero, suc, _+_, _*_, _-_}
 use mathlib.Core.Path.{_≡_}
 use mathlib.Core.Bool.{Bool, false, not, _&&_}
 use mathlib.Core.List.{List, [], _∷_, _++_, List·Memᴰ as In}
 use lib.Dec.{eqb, leb}
 use lib.ListN.{length, getD, take, drop, replicate}
-use Rattle.cuckoo.specs.Graph.{keep, stash, slot-key, slot-next}
-use Rattle.cuckoo.specs.Sets.{Asc}
+use Rattle.basics.specs.Sets.{keep, Asc}
+use Rattle.cuckoo.specs.Graph.{stash, slot-key, slot-next}
 use Rattle.ordered.specs.Keys.{sorted, distinct}
 use Rattle.tabulation.specs.Hash.{Family, blank, slots-in-range}
 use Rattle.tabulation.specs.Slots.{slot-0, slot-1}
+use Rattle.layout.specs.declared.Header.{Header}
 
 -- what an image depends on besides its set: the tabulation, r and s
 pub record Params : Type 0 where
@@ -27,19 +27,46 @@ pub record ValidSet (S : List ℕ) : Type 0 where
   pub asc : Asc S
   pub solid : (c : ℕ) → In c S → blank c ≡ false
 
--- sizes
+-- the heading
+
+-- Words 0 to 3: r, s, the number of keys and the number of stashed keys; as they are read,
+abbrev pub header-of : List ℕ → Header
+header-of ws = record { slots = getD ws 0 0; places = getD ws 1 0; keys = getD ws 2 0; stashed = getD ws 3 0 }
+
+-- and as they are written.
+abbrev pub header-words : Header → List ℕ
+header-words h = h .slots ∷ h .places ∷ h .keys ∷ h .stashed ∷ []
 
 abbrev pub header-length : ℕ
 header-length = 4
 
+abbrev pub slots-of : List ℕ → ℕ
+slots-of ws = header-of ws .slots
+
+abbrev pub places-of : List ℕ → ℕ
+places-of ws = header-of ws .places
+
+abbrev pub stash-count : List ℕ → ℕ
+stash-count ws = header-of ws .stashed
+
+-- slots and stash places
+
+-- a slot is two words, its key and its next
+abbrev pub slot-record : ℕ → ℕ → List ℕ
+slot-record key next = key ∷ next ∷ []
+
 abbrev pub slot-width : ℕ
 slot-width = 2
+
+-- a stash place is one word, its key: so many words have n places
+abbrev pub stash-length : ℕ → ℕ
+stash-length n = n
 
 -- s, the number of stash places, is at most 64
 abbrev pub max-places : ℕ
 max-places = 64
 
--- where slot v begins (its key, then its next), and where the stash begins
+-- where slot v begins, and where the stash begins
 abbrev pub key-at : ℕ → ℕ
 key-at v = header-length + slot-width * v
 
@@ -48,22 +75,11 @@ stash-at r = key-at (r + r)
 
 -- "The length is exactly 4 + 4r + s words"
 abbrev pub words-length : ℕ → ℕ → ℕ
-words-length r s = stash-at r + s
+words-length r s = stash-at r + stash-length s
 
 -- "a work sheet of at least 8r + 4s words"
 abbrev pub scratch-length : ℕ → ℕ → ℕ
 scratch-length r s = 8 * r + 4 * s
-
--- the heading of given words
-
-abbrev pub slots-of : List ℕ → ℕ
-slots-of ws = getD ws 0 0
-
-abbrev pub places-of : List ℕ → ℕ
-places-of ws = getD ws 1 0
-
-abbrev pub stash-count : List ℕ → ℕ
-stash-count ws = getD ws 3 0
 
 -- the parameters that given words are read with
 abbrev pub params-of : List ℕ → List ℕ → Params
@@ -81,29 +97,43 @@ shaped ws =
 
 -- the image of a set
 
+-- It is made over two end functions, a key's slot in table 0 and in table 1.
+module _ (a b : ℕ → ℕ) where
+  -- the set fits: its stash has at most s keys
+  unfoldable pub fits-by : ℕ → List ℕ → Bool
+  fits-by s S = leb (length (stash a b S)) s
+
+  -- n slots from v on
+  unfoldable pub slot-words-by : List ℕ → ℕ → ℕ → List ℕ
+  slot-words-by S v zero = []
+  slot-words-by S v (suc n) = slot-record (slot-key a b S v) (slot-next a b S v) ++ slot-words-by S (suc v) n
+
+  -- "The drawer is ascending, then zeros."
+  abbrev pub stash-words-by : ℕ → List ℕ → List ℕ
+  stash-words-by s S = stash a b S ++ replicate (stash-length s - length (stash a b S)) 0
+
+  -- the heading, the slots, the stash
+  unfoldable pub image-by : ℕ → ℕ → List ℕ → List ℕ
+  image-by r s S =
+      header-words (record { slots = r; places = s; keys = length S; stashed = length (stash a b S) })
+      ++ (slot-words-by S 0 (r + r) ++ stash-words-by s S)
+
+-- With a tabulation the end functions are the hashes.
 abbrev pub stash-of : Params → List ℕ → List ℕ
 stash-of P S = stash (slot-0 (family P)) (slot-1 (family P)) S
 
--- the set fits: its stash has at most s keys
 unfoldable pub fits : Params → List ℕ → Bool
-fits P S = leb (length (stash-of P S)) (P .places)
+fits P S = fits-by (slot-0 (family P)) (slot-1 (family P)) (P .places) S
 
--- key and next of n slots from v on
-unfoldable pub slot-words : Params → List ℕ → ℕ → ℕ → List ℕ
-slot-words P S v zero = []
-slot-words P S v (suc n) =
-    slot-key (slot-0 (family P)) (slot-1 (family P)) S v
-    ∷ slot-next (slot-0 (family P)) (slot-1 (family P)) S v
-    ∷ slot-words P S (suc v) n
+abbrev pub slot-words : Params → List ℕ → ℕ → ℕ → List ℕ
+slot-words P S v n = slot-words-by (slot-0 (family P)) (slot-1 (family P)) S v n
 
--- "The drawer is ascending, then zeros."
 abbrev pub stash-words : Params → List ℕ → List ℕ
-stash-words P S = stash-of P S ++ replicate (P .places - length (stash-of P S)) 0
+stash-words P S = stash-words-by (slot-0 (family P)) (slot-1 (family P)) (P .places) S
 
 -- The canonical image of a set.
 unfoldable pub image : Params → List ℕ → List ℕ
-image P S =
-    P .slots ∷ P .places ∷ length S ∷ length (stash-of P S) ∷ slot-words P S 0 (P .slots + P .slots) ++ stash-words P S
+image P S = image-by (slot-0 (family P)) (slot-1 (family P)) (P .slots) (P .places) S
 
 -- the keys that stand in given words
 
@@ -114,7 +144,7 @@ slot-keys (suc n) ws = getD ws 0 0 ∷ slot-keys n (drop slot-width ws)
 
 -- the words of the stash
 abbrev pub stash-part : List ℕ → List ℕ
-stash-part ws = take (places-of ws) (drop (stash-at (slots-of ws)) ws)
+stash-part ws = take (stash-length (places-of ws)) (drop (stash-at (slots-of ws)) ws)
 
 -- every word at which a key can stand
 abbrev pub key-words : List ℕ → List ℕ

@@ -10,12 +10,13 @@ use borrow.Author.Tests.{eqb-true, eq-eqb, le-ltb}
 use lib.Dec.{eqb}
 use lib.ListN.{length, getD, replicate}
 use lib.Seq.{take-at}
-use Rattle.cuckoo.specs.Graph.{member, slot-key}
-use Rattle.cuckoo.specs.Sets.{test, member-in, in-member}
-use Rattle.tabulation.specs.Refusal.{done, blank-key}
+use Rattle.basics.specs.Tests.{test, or-cases, bool-ext}
+use Rattle.basics.specs.Sets.{member, member-in, in-member}
+use Rattle.cuckoo.specs.Graph.{slot-key}
+use Rattle.refusals.specs.Refusal.{done, blank-key}
 use Rattle.tabulation.specs.Hash.{tabulation-length, blank}
 use Rattle.tabulation.specs.Slots.{slot-0, slot-1, slot-0-lt, slot-1-lt}
-use Rattle.layout.specs.Layout.{Params, family, ValidSet, key-at, slots-of, params-of, sizes-in-range, stash-of, fits, image, stash-part}
+use Rattle.layout.specs.Layout.{Params, family, ValidSet, key-at, slots-of, params-of, sizes-in-range, stash-of, fits, image, stash-part, image-by}
 use Rattle.layout.specs.Answers.{lookup-refusal, stands, lookup-values, view-refusal, view-of}
 use Rattle.layout.specs.Shape.{sized}
 use Rattle.layout.specs.Image.{fits-le, image-slots, image-places, image-stashed, image-key, image-stash, image-shaped}
@@ -26,15 +27,6 @@ pub data Stands (tabulation ws : List ℕ) (key : ℕ) : Type 0 where
   in-table-0 : getD ws (key-at (slot-0 (family (params-of tabulation ws)) key)) 0 ≡ key → Stands tabulation ws key
   in-table-1 : getD ws (key-at (slot-1 (family (params-of tabulation ws)) key)) 0 ≡ key → Stands tabulation ws key
   in-stash-part : In key (stash-part ws) → Stands tabulation ws key
-
-or-cases : (p q : Bool) → (p || q) ≡ true → (p ≡ true) ⊎ (q ≡ true)
-or-cases true q e = inl refl
-or-cases false q e = inr e
-
-both-true : (p q : Bool) → (p ≡ true → q ≡ true) → (q ≡ true → p ≡ true) → p ≡ q
-both-true true q f g = sym (f refl)
-both-true false true f g = absurd (false≢true (g refl))
-both-true false false f g = refl
 
 module _ (tabulation ws : List ℕ) (key : ℕ) where
   abbrev word-0 : ℕ
@@ -71,7 +63,7 @@ module _ (P : Params) (S : List ℕ) (e : fits P S ≡ true) where
   module _ (valid : ValidSet S) where
     module _ (some : 0 < P .slots) (key : ℕ) where
       image-in-stands : In key S → Stands (P .tabulation) (image P S) key
-      unfolding image
+      unfolding image image-by
       image-in-stands i = elim (seen (slot-0 (family P)) (slot-1 (family P)) (valid .asc) i) [
         | table-0 q ↦ in-table-0 (at (slot-0 (family P) key) (omega (arith, slot-0-lt (family P) some key)) q)
         | table-1 q ↦ in-table-1 (at (slot-1 (family P) key) (slot-1-lt (family P) some key) q)
@@ -86,7 +78,7 @@ module _ (P : Params) (S : List ℕ) (e : fits P S ≡ true) where
       image-stands b =
           let ws = image P S in
           let t = P .tabulation in
-          both-true (stands t ws key) (member key S)
+          bool-ext (stands t ws key) (member key S)
           (λ q. in-member (image-key-in P S e valid (stands-key-word t ws key (rw (image-slots P S) some) (stands-true t ws key q)) (not-blank key b)))
           (λ q. true-stands t ws key (image-in-stands (member-in key S q)))
 

@@ -1,13 +1,14 @@
 -- What the shape of words means, as facts about numbers: for callers, which use these laws and not the text of `shaped`.
 use Prim.Native.Nat.{ℕ, _≤_, _<_}
-use mathlib.Core.Path.{_≡_, refl}
-use mathlib.Core.Bool.{Bool, true, false, not, cond, _&&_}
+use mathlib.Core.Path.{_≡_}
+use mathlib.Core.Bool.{true, not, _&&_}
 use mathlib.Core.List.{List}
 use native.Mathlib.Omega.{arith}
-use borrow.Author.Tests.{leb-true, eqb-true, le-leb, eq-eqb, ltb-false}
+use borrow.Author.Tests.{leb-true, eqb-true, le-leb, eq-eqb, ltb-false, not-false}
 use lib.Dec.{leb, ltb}
 use lib.ListN.{length}
-use Rattle.cuckoo.specs.Sets.{and-true}
+use Rattle.basics.specs.Tests.{and-true}
+use Rattle.refusals.specs.Refusal.{passed-over}
 use Rattle.tabulation.specs.Hash.{slots-in-range, max-slots, in-range-pos, in-range-max, range-in}
 use Rattle.layout.specs.Layout.{header-length, slots-of, places-of, stash-count, max-places, sizes-in-range, shaped, words-length}
 use Rattle.layout.specs.Answers.{view-refusal}
@@ -53,9 +54,7 @@ pub record Viewed (ws : List ℕ) : Type 0 where
 
 pub viewed : (ws : List ℕ) → view-refusal ws ≡ 0 → Viewed ws
 unfolding view-refusal
-viewed ws = go (shaped ws) (ltb (places-of ws) (stash-count ws)) refl refl
-  where
-    go : (p q : Bool) → shaped ws ≡ p → ltb (places-of ws) (stash-count ws) ≡ q → _≡_ {A = ℕ} (cond (not p) 2 (cond q 4 0)) 0 → Viewed ws
-    go true true e f h = absurd (omega arith)
-    go true false e f h = record { shape = shape ws e; filled = ltb-false _ _ f }
-    go false q e f h = absurd (omega arith)
+viewed ws e =
+    let a = passed-over (not (shaped ws)) e (λ q. omega arith) in
+    let b = passed-over (ltb (places-of ws) (stash-count ws)) (a .1) (λ q. omega arith) in
+    record { shape = shape ws (not-false _ (a .0)); filled = ltb-false _ _ (b .0) }

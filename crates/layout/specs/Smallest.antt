@@ -9,12 +9,13 @@ use native.Mathlib.Omega.{arith}
 use borrow.Author.Tests.{eq-eqb, ne-eqb, lt-ltb, le-ltb}
 use lib.Dec.{eqb}
 use lib.ListN.{length}
-use Rattle.cuckoo.specs.Graph.{without, label, joined, component, onCycle, cyclic, spare, settle, seated, stash, root, sits, occupant, next, slot-key, slot-next}
-use Rattle.cuckoo.specs.Sets.{test, Asc, none, some}
+use Rattle.basics.specs.Tests.{test}
+use Rattle.basics.specs.Sets.{without, Asc, none, some}
+use Rattle.cuckoo.specs.Graph.{label, joined, component, onCycle, cyclic, spare, settle, seated, stash, root, sits, occupant, next, slot-key, slot-next}
 use Rattle.tabulation.specs.Hash.{hash-lt}
-use Rattle.layout.specs.Layout.{Params, family, fits, image}
+use Rattle.layout.specs.Layout.{Params, family, fits, image, fits-by, slot-words-by, image-by}
 use Rattle.layout.specs.Fitting.{fits-length}
-use Rattle.layout.specs.Ends.{Known, fits-by, slot-words-by, image-by, fits-known, image-known}
+use Rattle.layout.specs.Ends.{Known, fits-known, image-known}
 
 -- more keys than slots and stash places do not fit
 crowded : (P : Params) {S : List ℕ} → Asc S → 0 < P .slots → P .slots + P .slots + P .places < length S → fits P S ≡ false

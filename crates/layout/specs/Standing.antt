@@ -10,9 +10,9 @@ use borrow.Author.Tests.{eqb-false, ne-eqb, not-true}
 use lib.Dec.{eqb}
 use lib.ListN.{length, getD, take, drop, replicate, length-take, length-drop}
 use lib.Seq.{getD-drop, getD-take, take-all}
-use Rattle.cuckoo.specs.Graph.{keep, seated, stash, slot-key}
-use Rattle.cuckoo.specs.Sets.{Asc, asc-ext, keep-in, keep-test, in-keep}
-use Rattle.cuckoo.specs.Lists.{getD-in}
+use Rattle.basics.specs.Sets.{keep, Asc, asc-ext, keep-in, keep-test, in-keep}
+use Rattle.basics.specs.Lists.{getD-in}
+use Rattle.cuckoo.specs.Graph.{seated, stash, slot-key}
 use Rattle.cuckoo.specs.Settling.{seated-sub, seated-stops}
 use Rattle.cuckoo.specs.Seating.{look, occupant-from}
 use Rattle.cuckoo.specs.Filled.{seated-or-stash, stash-sub}
@@ -20,7 +20,7 @@ use Rattle.ordered.specs.Sorting.{in-at}
 use Rattle.ordered.specs.Distinct.{distinct-sorted-asc, distinct-sorted-in, in-distinct-sorted}
 use Rattle.tabulation.specs.Hash.{blank}
 use Rattle.tabulation.specs.Slots.{slot-0, slot-1, slot-0-lt, slot-1-lt}
-use Rattle.layout.specs.Layout.{Params, family, ValidSet, header-length, slot-width, key-at, stash-at, words-length, slots-of, places-of}
+use Rattle.layout.specs.Layout.{Params, family, ValidSet, header-length, slot-width, key-at, stash-at, words-length, slots-of, places-of, image-by}
 use Rattle.layout.specs.Layout.{stash-of, fits, stash-words, image, slot-keys, stash-part, key-words, keys-in}
 use Rattle.layout.specs.Shape.{Shaped}
 use Rattle.layout.specs.Image.{stash-words-length, image-size, image-key, image-stash, image-stash-at}
@@ -166,7 +166,7 @@ module _ (P : Params) (S : List ℕ) where
 
   module _ (e : fits P S ≡ true) where
     pub image-stash-part : stash-part (image P S) ≡ stash-words P S
-    unfolding image
+    unfolding image image-by
     image-stash-part =
         ap (take (P .places)) (image-stash P S)
         ∙ take-all (P .places) (stash-words P S) (omega (arith, stash-words-length P S e))
@@ -174,7 +174,7 @@ module _ (P : Params) (S : List ℕ) where
     module _ (valid : ValidSet S) where
       -- only keys of the set stand in the image,
       pub image-key-in : {c : ℕ} → KeyWord (image P S) c → (c ≡ 0 → ⊥) → In c S
-      unfolding image
+      unfolding image image-by
       image-key-in (at-slot v l q) n = slot-key-in (slot-0 (family P)) (slot-1 (family P)) (valid .asc) v (sym (image-key P S v l) ∙ q) n
       image-key-in {c} (in-stash i l q) n =
           let k = getD-in (stash-words P S) i (omega (arith, stash-words-length P S e)) in
@@ -182,7 +182,7 @@ module _ (P : Params) (S : List ℕ) where
 
       -- and each of them does.
       image-in-key : 0 < P .slots → {c : ℕ} → In c S → KeyWord (image P S) c
-      unfolding image
+      unfolding image image-by
       image-in-key some {c} i = elim (seen (slot-0 (family P)) (slot-1 (family P)) (valid .asc) i) [
         | table-0 q ↦
             let l : slot-0 (family P) c < P .slots + P .slots = omega (arith, slot-0-lt (family P) some c) in

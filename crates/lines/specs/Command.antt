@@ -10,7 +10,7 @@ use borrow.Author.Tests.{eq-eqb, ne-eqb}
 use lib.Dec.{eqb}
 use lib.ListN.{length, take, drop, getD, length-append}
 use lib.Seq.{split-at}
-use Rattle.lines.specs.Tests.{eq?, le?, and-true, and-false}
+use Rattle.basics.specs.Tests.{eq?, le?, and-true, and-false}
 use Rattle.lines.specs.Decimal.{decimal, digits-32}
 use Rattle.lines.specs.Number.{number-of, is-digit, all-digits, not-digits, largest, number-decimal, number-largest, decimal-number, decimal-digits}
 use Rattle.lines.specs.Parted.{comma, fields, parted, place-of, parted-some, parted-one, parted-first, parted-append, place-le, place-at}

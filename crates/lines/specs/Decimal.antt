@@ -9,7 +9,7 @@ use native.Mathlib.Omega.{arith}
 use borrow.Author.Tests.{lt-ltb, le-ltb}
 use lib.Dec.{ltb}
 use lib.ListN.{length, length-append}
-use Rattle.lines.specs.Tests.{le?}
+use Rattle.basics.specs.Tests.{le?}
 
 -- ASCII: 48 is '0', 57 is '9'
 abbrev pub digit : ℕ → ℕ

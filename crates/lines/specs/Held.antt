@@ -10,7 +10,7 @@ use lib.Seq.{take-suc-set}
 use lib.Dec.{eqb}
 use mathlib.Core.Logic.{inl, inr}
 use borrow.Author.Tests.{eq-eqb, ne-eqb}
-use Rattle.lines.specs.Tests.{eq?}
+use Rattle.basics.specs.Tests.{eq?}
 use Rattle.lines.specs.Command.{longest}
 use Rattle.lines.specs.declared.Line.{Line}
 

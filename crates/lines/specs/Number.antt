@@ -12,7 +12,7 @@ use lib.ListN.{length, getD, drop, drop-of-length-le}
 use lib.Seq.{drop-cons, append-snoc}
 use borrow.Author.Tests.{le-leb, lt-leb, leb-true, leb-false, ne-eqb, eqb-false, not-true}
 use native.Mathlib.Numerals.{add-one}
-use Rattle.lines.specs.Tests.{bool?, and-true, and-false}
+use Rattle.basics.specs.Tests.{test, and-true, and-false}
 use Rattle.lines.specs.Decimal.{digit, decimal, decimal-small, decimal-large, decimal-more, by-digits}
 use Rattle.lines.specs.declared.Number.{Number}
 use Rattle.lines.specs.declared.Number.the-variants.{Value, Other}
@@ -60,9 +60,9 @@ read-number : (t : List ℕ) (n : ℕ) → n ≤ largest → read n t ≡ cond (
 unfolding read all-digits value
 read-number [] n h = rw (le-leb n largest h)
 read-number (b ∷ t) n h =
-    elim (bool? (is-digit b)) [
+    elim (test (is-digit b)) [
       | inr e ↦ rw e
-      | inl e ↦ elim (bool? (leb (10 * n + (b - 48)) largest)) [
+      | inl e ↦ elim (test (leb (10 * n + (b - 48)) largest)) [
         | inl f ↦ rw (e, f) (read-number t (10 * n + (b - 48)) (leb-true _ _ f))
         | inr f ↦
             let m = value-le t (10 * n + (b - 48)) in
@@ -124,7 +124,7 @@ read-done t i n h = rw (drop-of-length-le t h)
 
 -- ---- the grammar accepts exactly the decimal writings
 is-digit-true : (b : ℕ) → is-digit b ≡ true → (48 ≤ b) × (b ≤ 57)
-is-digit-true b e = elim (bool? (leb 48 b)) [
+is-digit-true b e = elim (test (leb 48 b)) [
   | inr f ↦ absurd (true≢false (sym e ∙ rw f))
   | inl f ↦ (leb-true 48 b f, leb-true b 57 (rw f at e))
 ]
@@ -163,7 +163,7 @@ module _ (t : List ℕ) where
   -- a byte that is no digit makes it no number
   pub not-digits : all-digits t ≡ false → number-of t ≡ Other
   unfolding number-of
-  not-digits e = elim (bool? (no-leading-zero t)) [ inl f ↦ rw (f, e) | inr f ↦ rw f ]
+  not-digits e = elim (test (no-leading-zero t)) [ inl f ↦ rw (f, e) | inr f ↦ rw f ]
 
 -- what is accepted is the decimal writing of its value
 pub number-decimal : (t : List ℕ) {n : ℕ} → number-of t ≡ Value n → t ≡ decimal n

@@ -11,7 +11,7 @@ use lib.Seq.{take-all, take-append-seam, drop-cons, append-snoc}
 use mathlib.Core.Logic.{inl, inr}
 use native.Mathlib.Numerals.{add-one}
 use borrow.Author.Tests.{eq-eqb, ne-eqb}
-use Rattle.lines.specs.Tests.{eq?}
+use Rattle.basics.specs.Tests.{eq?}
 
 -- ASCII: 10 ends a line, 44 is ','
 abbrev pub newline : ℕ

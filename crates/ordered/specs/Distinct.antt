@@ -9,7 +9,8 @@ use native.Mathlib.Omega.{arith}
 use borrow.Author.Tests.{eq-eqb, ne-eqb}
 use lib.ListN.{length, getD, set, take, drop, drop-of-length-le}
 use lib.Seq.{take-suc-set, drop-set-lt, drop-cons}
-use Rattle.cuckoo.specs.Sets.{Sub, Asc, eq?}
+use Rattle.basics.specs.Tests.{eq?}
+use Rattle.basics.specs.Sets.{Sub, Asc}
 use Rattle.ordered.specs.Keys.{sorted, distinct}
 use Rattle.ordered.specs.Sorting.{Sorted, sorted-sorted, sorted-in, in-sorted}
 

@@ -11,10 +11,9 @@ use borrow.Author.Tests.{eq-eqb, ne-eqb, lt-ltb, le-ltb, ltb-true}
 use lib.Dec.{eqb, ltb}
 use lib.ListN.{length, getD, take, drop, length-append}
 use lib.Seq.{getD-append-seam, take-append-seam, drop-append-seam, drop-append-add}
-use Rattle.cuckoo.specs.Graph.{member, without}
-use Rattle.cuckoo.specs.Sets.{Asc, none, some, asc-ext, asc-keep, asc-out, keep-in, keep-test, in-keep, length-keep}
-use Rattle.cuckoo.specs.Sets.{below, below-in, below-lt, in-below, out-in, out-ne, in-out, in?, eq?, le?, in-member, no-member}
-use Rattle.cuckoo.specs.Lists.{getD-in}
+use Rattle.basics.specs.Tests.{eq?, le?}
+use Rattle.basics.specs.Sets.{member, without, Asc, none, some, asc-ext, asc-keep, asc-out, keep-in, keep-test, in-keep, length-keep, below, below-in, below-lt, in-below, out-in, out-ne, in-out, in?, in-member, no-member}
+use Rattle.basics.specs.Lists.{getD-in}
 use Rattle.ordered.specs.Keys.{rank-of, above, with-key}
 
 -- the larger keys

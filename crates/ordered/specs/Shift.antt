@@ -7,8 +7,7 @@ use native.Mathlib.Numerals.{add-one}
 use native.Mathlib.Omega.{arith}
 use lib.ListN.{length, getD, set, take, drop, take-append-drop, length-take}
 use lib.Seq.{slice, slice-cons, slice-empty, take-suc-set, take-set-lt, drop-set-lt, set-split, take-at, drop-at, take-take, length-take-le}
-use Rattle.cuckoo.specs.Graph.{member, without}
-use Rattle.cuckoo.specs.Sets.{Asc, in-member, member-in}
+use Rattle.basics.specs.Sets.{member, without, Asc, in-member, member-in}
 use Rattle.ordered.specs.Keys.{rank-of, with-key}
 use Rattle.ordered.specs.Place.{rank-le, with-parts, without-parts, length-with, length-without}
 

@@ -7,10 +7,9 @@ use mathlib.Core.List.{List, [], _∷_, List·Memᴰ as In, List·Memᴰ·head a
 use native.Mathlib.Omega.{arith}
 use borrow.Author.Tests.{ne-eqb}
 use lib.ListN.{length}
-use Rattle.cuckoo.specs.Graph.{member, without}
-use Rattle.cuckoo.specs.Sets.{below, none, some}
+use Rattle.basics.specs.Sets.{member, without, below, none, some}
 use Rattle.ordered.specs.Keys.{with-key, above}
-use Rattle.tabulation.specs.Refusal.{done, stash-full}
+use Rattle.refusals.specs.Refusal.{done, stash-full}
 use Rattle.tabulation.specs.Hash.{tabulation-length, slots-in-range, blank}
 use Rattle.layout.specs.Layout.{ValidSet, scratch-length, sizes-in-range}
 use Rattle.layout.specs.Board.{Row, rows, Shown, Full, board, board-tabulation, board-length, board-rows}

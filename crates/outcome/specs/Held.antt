@@ -10,12 +10,12 @@ use native.Mathlib.Omega.{arith}
 use borrow.Author.Tests.{eq-eqb, le-ltb, not-false}
 use lib.Dec.{ltb}
 use lib.ListN.{length}
-use Rattle.cuckoo.specs.Graph.{member}
-use Rattle.cuckoo.specs.Sets.{test, member-in, in-member, out-in, out-ne, in-out}
+use Rattle.basics.specs.Tests.{test}
+use Rattle.basics.specs.Sets.{member, member-in, in-member, out-in, out-ne, in-out}
 use Rattle.cuckoo.specs.Placement.{Placement}
 use Rattle.ordered.specs.Keys.{with-key}
 use Rattle.ordered.specs.Place.{with-cases, with-here, with-there, asc-with, with-same, without-with, length-with}
-use Rattle.tabulation.specs.Refusal.{done, short-scratch, blank-key, key-present, key-absent, stash-full, first-refusal}
+use Rattle.refusals.specs.Refusal.{done, short-scratch, blank-key, key-present, key-absent, stash-full, first-refusal, passed-over}
 use Rattle.tabulation.specs.Hash.{tabulation-length, blank}
 use Rattle.tabulation.specs.Slots.{slot-0, slot-1}
 use Rattle.layout.specs.Layout.{Params, ValidSet, family, params-of, slots-of, places-of, scratch-length, sizes-in-range, shaped, fits, image, keys-in}
@@ -29,7 +29,7 @@ use Rattle.layout.specs.Fitting.{without-valid, without-fits, fits-length, fits
 use Rattle.outcome.specs.declared.Change.{Change}
 use Rattle.outcome.specs.declared.Change.the-variants.{Insert, Remove}
 use Rattle.outcome.specs.Outcome.{changed, set-refusals, change-refusal, change-outcome, check-outcome}
-use Rattle.outcome.specs.Laws.{Ready, passed-over, change-answer, change-done, change-set, change-passed}
+use Rattle.outcome.specs.Laws.{Ready, change-answer, change-done, change-set, change-passed}
 
 -- The words are a dictionary that holds S: r and s are in their ranges, and the words are the image of S, a set that fits.
 pub record Holds (P : Params) (S ws : List ℕ) : Type 0 where

@@ -9,8 +9,8 @@ use native.Mathlib.Omega.{arith}
 use borrow.Author.Tests.{eqb-true, eq-eqb, ne-eqb, ltb-false, lt-ltb, le-ltb, not-false}
 use lib.Dec.{eqb, ltb}
 use lib.ListN.{length, replicate}
-use Rattle.cuckoo.specs.Sets.{test}
-use Rattle.tabulation.specs.Refusal.{done, wrong-tabulation, wrong-shape, short-scratch, not-canonical, blank-key, first-refusal, numbers, first-refusal-in}
+use Rattle.basics.specs.Tests.{test}
+use Rattle.refusals.specs.Refusal.{done, wrong-tabulation, wrong-shape, short-scratch, not-canonical, blank-key, first-refusal, numbers, first-refusal-in, passed-over}
 use Rattle.tabulation.specs.Hash.{tabulation-length, blank}
 use Rattle.layout.specs.Layout.{Params, params-of, slots-of, places-of, scratch-length, shaped, image, keys-in}
 use Rattle.layout.specs.Canonical.{canonical, ImageOf, canonical-iff, not-canonical-iff}
@@ -31,11 +31,6 @@ check-answers = 0 ∷ 1 ∷ 2 ∷ 3 ∷ 4 ∷ []
 -- the refusals of insert and remove after 4
 abbrev pub later-refusals : Change → List ℕ → List ℕ → ℕ → List (ℕ × Bool)
 later-refusals kind tabulation ws key = (blank-key, blank key) ∷ set-refusals kind (params-of tabulation ws) key (keys-in ws)
-
--- a test that was passed over did not hold
-pub passed-over : {k m n : ℕ} (t : Bool) → cond t k m ≡ n → (n ≡ k → ⊥) → (t ≡ false) × (m ≡ n)
-passed-over true e ne = absurd (ne (sym e))
-passed-over false e ne = (refl, e)
 
 pub change-answer-in : (kind : Change) (tabulation ws scratch : List ℕ) (key : ℕ)
     → In (change-outcome kind tabulation ws scratch key .answer) (change-answers kind)

@@ -5,9 +5,9 @@ use mathlib.Core.Bool.{Bool, not, cond}
 use mathlib.Core.List.{List, [], _∷_, _++_}
 use lib.Dec.{eqb, ltb}
 use lib.ListN.{length, replicate}
-use Rattle.cuckoo.specs.Graph.{member, without}
+use Rattle.basics.specs.Sets.{member, without}
 use Rattle.ordered.specs.Keys.{with-key}
-use Rattle.tabulation.specs.Refusal.{done, wrong-tabulation, wrong-shape, short-scratch, not-canonical, blank-key, key-present, key-absent, stash-full, first-refusal}
+use Rattle.refusals.specs.Refusal.{done, wrong-tabulation, wrong-shape, short-scratch, not-canonical, blank-key, key-present, key-absent, stash-full, first-refusal}
 use Rattle.tabulation.specs.Hash.{tabulation-length, blank}
 use Rattle.layout.specs.Layout.{Params, params-of, slots-of, places-of, scratch-length, shaped, fits, image, keys-in}
 use Rattle.layout.specs.Canonical.{canonical}

@@ -6,7 +6,7 @@ use mathlib.Core.List.{List}
 use native.Mathlib.Omega.{arith}
 use lib.ListN.{length, getD, set, length-set}
 use lib.Seq.{getD-set-same, getD-set-other}
-use Rattle.cuckoo.specs.Sets.{eq?}
+use Rattle.basics.specs.Tests.{eq?}
 use Rattle.partition.specs.Words.{Representative, walk, walk-stop, walk-step, size-of, Mergeable, linked}
 
 -- from v, k parents lead to the representative r

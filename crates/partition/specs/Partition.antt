@@ -8,7 +8,7 @@ use native.Mathlib.Omega.{arith}
 use lib.ListN.{length, getD, length-replicate, getD-replicate}
 use lib.Pow.{pow-mono}
 use Rattle.cuckoo.specs.Graph.{label}
-use Rattle.cuckoo.specs.Sets.{le?}
+use Rattle.basics.specs.Tests.{le?}
 use Rattle.cuckoo.specs.Joined.{Joined, past, along, back, jrefl, more, split}
 use Rattle.partition.specs.Words.{max-points, max-steps, singletons-of, Representative, walk-stop, rep-of, size-of, Mergeable}
 use Rattle.partition.specs.Tally.{tally, tally-le, tally-two, tally-ext, tally-one}

@@ -6,7 +6,7 @@ use mathlib.Core.Logic.{inl, inr}
 use native.Mathlib.Omega.{arith}
 use lib.Dec.{eqb}
 use borrow.Author.Tests.{eq-eqb, ne-eqb}
-use Rattle.cuckoo.specs.Sets.{eq?}
+use Rattle.basics.specs.Tests.{eq?}
 
 unfoldable pub tally : (ℕ → ℕ) → ℕ → ℕ → ℕ
 tally f r zero = 0

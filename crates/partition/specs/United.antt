@@ -7,7 +7,7 @@ use mathlib.Core.List.{List, _∷_}
 use native.Mathlib.Omega.{arith}
 use borrow.Author.Tests.{lt-ltb, le-ltb}
 use lib.ListN.{length, getD}
-use Rattle.cuckoo.specs.Sets.{eq?, le?}
+use Rattle.basics.specs.Tests.{eq?, le?}
 use Rattle.cuckoo.specs.Joined.{Joined, jsym, jtrans, more, edge-head}
 use Rattle.partition.specs.Words.{Representative, rep-of, size-of, Mergeable, linked, smaller, larger, united}
 use Rattle.partition.specs.Tally.{tally, moved, moved-child, moved-other, tally-ext, tally-parent, tally-other}

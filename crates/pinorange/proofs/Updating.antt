@@ -1,10 +1,10 @@
 -- The walk of `pinorange_insert` and `pinorange_remove`, by hand and once for both: their MIR differs in the number of the variant that they pass on, their
 -- contracts in the kind. The borrow of the counters is opened and they are copied; tabulation, words and scratch are passed on for good to
--- `update_counted`; the counters that it gives back are stored, and the borrow is closed at them.
+-- `counted::update`; the counters that it gives back are stored, and the borrow is closed at them.
 --     function kind    the MIR of the call; each call's own proof compares it with what the front end made
 --     promised kind    its contract, likewise
 --     meets kind       the MIR meets the contract
--- All that the walk knows of `update_counted` is that it meets its contract. Assumes nothing.
+-- All that the walk knows of `counted::update` is that it meets its contract. Assumes nothing.
 use mathlib.Core.Path.{_≡_, refl}
 use Prim.Native.Nat.{ℕ, suc, _<_, _^_}
 use mathlib.Core.List.{[], _∷_, List}
@@ -57,8 +57,8 @@ use Rattle.counters.proofs.Counters as T
 use Rattle.counters.proofs.Counters.Laws as T′
 use Rattle.counters.proofs.Counted as R
 use Rattle.counters.proofs.Counted.Laws as R′
-use Rattle.dictionary.proofs.update_counted as callee
-use Rattle.dictionary.proofs.update_counted.Symbol.{name as #callee}
+use Rattle.counted.proofs.update as callee
+use Rattle.counted.proofs.update.Symbol.{name as #callee}
 use Rattle.pinorange.proofs.Counting.{slice-val, ref-val, counters-val, seen, lent, opens-counters, closes-counters, counters-of, answer-fits, spelled, says4}
 use Rattle.pinorange.proofs.pinorange_insert as self
 

@@ -7,7 +7,7 @@ use mathlib.Core.List.{List, [], _∷_, List·Memᴰ as In}
 use borrow.Author.Tests.{eq-eqb, ne-eqb}
 use lib.Dec.{eqb}
 use lib.ListN.{length}
-use Rattle.tabulation.specs.Refusal.{done, wrong-tabulation, first-refusal, first-refusal-in}
+use Rattle.refusals.specs.Refusal.{done, wrong-tabulation, first-refusal, first-refusal-in}
 use Rattle.tabulation.specs.Hash.{tabulation-length}
 use Rattle.house.specs.Rule.{house-table}
 

@@ -6,7 +6,7 @@ use mathlib.Core.Bool.{Bool, cond, true, false}
 use mathlib.Core.List.{List, [], _∷_}
 use lib.Dec.{eqb}
 use lib.ListN.{take, drop}
-use Rattle.tabulation.specs.Refusal.{done}
+use Rattle.refusals.specs.Refusal.{done}
 use Rattle.layout.specs.Layout.{slots-of, stash-count, stash-at}
 use Rattle.layout.specs.Answers.{lookup-values, view-refusal, view-of}
 

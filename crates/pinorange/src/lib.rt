@@ -11,8 +11,8 @@ ghost use Rattle.pinorange.specs.Out.{present-out, offset-out, length-ou
 use counters::Counters;
 use layout::Found;
 use outcome::Change;
+use refusals::WRONG_TABULATION;
 use tabulation::TABULATION_LENGTH;
-use tabulation::WRONG_TABULATION;
 
 // Whether the key is in the dictionary. Done, `present` is 1 or 0; refused, it stays as it was.
 #[no_mangle]
@@ -65,7 +65,7 @@ pub extern "C" fn pinorange_init(words: &mut [u32], r: u32, s: u32, counters: &m
     ensures moved { λ n. ⌜ now (counters .exit) ≡ counted (now (counters .entry)) (fresh-refusal (length (now (words .entry))) r s) ⌝ }
 {
     let old = *counters;
-    let new = dictionary::init_counted(words, r, s, old);
+    let new = counted::init(words, r, s, old);
     *counters = new.counters;
     new.answer
 }
@@ -85,7 +85,7 @@ pub extern "C" fn pinorange_insert(
     ensures moved { λ n. ⌜ now (counters .exit) ≡ counted (now (counters .entry)) (change-outcome Change.Insert (now (tabulation .entry)) (now (words .entry)) (now (scratch .entry)) key .answer) ⌝ }
 {
     let old = *counters;
-    let new = dictionary::update_counted(Change::Insert, tabulation, words, scratch, key, old);
+    let new = counted::update(Change::Insert, tabulation, words, scratch, key, old);
     *counters = new.counters;
     new.answer
 }
@@ -105,7 +105,7 @@ pub extern "C" fn pinorange_remove(
     ensures moved { λ n. ⌜ now (counters .exit) ≡ counted (now (counters .entry)) (change-outcome Change.Remove (now (tabulation .entry)) (now (words .entry)) (now (scratch .entry)) key .answer) ⌝ }
 {
     let old = *counters;
-    let new = dictionary::update_counted(Change::Remove, tabulation, words, scratch, key, old);
+    let new = counted::update(Change::Remove, tabulation, words, scratch, key, old);
     *counters = new.counters;
     new.answer
 }
@@ -116,7 +116,7 @@ pub extern "C" fn pinorange_check(tabulation: &[u16], words: &[u32], scratch: &m
     ensures answered { λ n. ⌜ n ≡ check-outcome (now (tabulation .entry)) (now (words .entry)) (now (scratch .entry)) .answer ⌝ }
     ensures cleared { λ n. ⌜ now (scratch .exit) ≡ check-outcome (now (tabulation .entry)) (now (words .entry)) (now (scratch .entry)) .scratch ⌝ }
 {
-    dictionary::core::check(tabulation, words, scratch)
+    dictionary::check(tabulation, words, scratch)
 }
 
 // The house tabulation, written into a lent one; 1 if that is not of the right length, and it stays.

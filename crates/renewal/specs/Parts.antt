@@ -7,7 +7,7 @@ use borrow.Rule.Slice.PartMut.{midOf}
 use lib.ListN.{length, take, drop, replicate}
 use Rattle.cuckoo.specs.Graph.{stash, slot-key, slot-next}
 use Rattle.tabulation.specs.Slots.{slot-0, slot-1}
-use Rattle.layout.specs.Layout.{Params, family, words-length, slots-of, places-of, stash-of, slot-words, image}
+use Rattle.layout.specs.Layout.{Params, family, words-length, slots-of, places-of, stash-of, slot-words, image, image-by, slot-words-by}
 use Rattle.layout.specs.Shape.{Shaped, Sized}
 use Rattle.build.specs.Slots.{listed}
 use Rattle.build.specs.Scratch.{parts, used}
@@ -57,7 +57,7 @@ module _ (r s : ℕ) (scratch : List ℕ) {a e : ℕ} where
 module _ (P : Params) (S : List ℕ) where
   woven-slots : (v n : ℕ) → woven (listed (slot-key (slot-0 (family P)) (slot-1 (family P)) S) n v)
       (listed (slot-next (slot-0 (family P)) (slot-1 (family P)) S) n v) ≡ slot-words P S v n
-  unfolding woven listed slot-words
+  unfolding woven listed slot-words-by
   woven-slots v zero = refl
   woven-slots v (suc n) = rw (woven-slots (suc v) n)
 
@@ -66,7 +66,7 @@ module _ (P : Params) (S : List ℕ) where
       (listed (slot-next (slot-0 (family P)) (slot-1 (family P)) S) (2 * P .slots) 0)
       (stash (slot-0 (family P)) (slot-1 (family P)) S ++ replicate (P .places - length (stash (slot-0 (family P)) (slot-1 (family P)) S)) 0)
       ≡ image P S
-  unfolding assembled image
+  unfolding assembled image image-by
   assembled-image =
       let e : 2 * P .slots ≡ P .slots + P .slots = omega arith in
       rw (e, woven-slots 0 (P .slots + P .slots))

@@ -5,14 +5,14 @@ use mathlib.Core.Path.{_≡_, refl, sym, _∙_, ap}
 use mathlib.Core.Bool.{Bool, true, false, not, cond}
 use mathlib.Core.List.{List, [], _∷_}
 use native.Mathlib.Omega.{arith}
-use borrow.Author.Tests.{eqb-true, ltb-false, lt-leb}
+use borrow.Author.Tests.{eqb-true, ltb-false, lt-leb, not-false}
 use lib.Dec.{eqb, ltb}
 use lib.ListN.{length, take}
 use lib.Seq.{take-take, length-take-le}
-use Rattle.cuckoo.specs.Lists.{same}
-use Rattle.tabulation.specs.Refusal.{done, wrong-tabulation, wrong-shape, short-scratch, not-canonical, stash-full, first-refusal}
+use Rattle.basics.specs.Lists.{same}
+use Rattle.refusals.specs.Refusal.{done, wrong-tabulation, wrong-shape, short-scratch, not-canonical, stash-full, first-refusal, passed-over}
 use Rattle.tabulation.specs.Hash.{tabulation-length}
-use Rattle.layout.specs.Layout.{Params, ValidSet, family, params-of, slots-of, places-of, scratch-length, shaped, stash-of, fits, image, keys-in}
+use Rattle.layout.specs.Layout.{Params, ValidSet, family, params-of, slots-of, places-of, scratch-length, shaped, stash-of, fits, image, keys-in, fits-by}
 use Rattle.layout.specs.Canonical.{canonical}
 use Rattle.layout.specs.Shape.{shape}
 use Rattle.layout.specs.Image.{le-fits}
@@ -27,13 +27,15 @@ use Rattle.renewal.specs.declared.Reading.{Reading}
 use Rattle.renewal.specs.declared.Reading.the-variants.{Keys, NotCanonical}
 
 -- 1, 2 and 3, which need no set
-unfoldable pub early-refusal : List ℕ → List ℕ → ℕ → ℕ
-early-refusal tabulation ws len =
-    first-refusal
-    ((wrong-tabulation, not (eqb (length tabulation) tabulation-length))
+abbrev pub early-refusals : List ℕ → List ℕ → ℕ → List (ℕ × Bool)
+early-refusals tabulation ws len =
+    (wrong-tabulation, not (eqb (length tabulation) tabulation-length))
     ∷ (wrong-shape, not (shaped ws))
     ∷ (short-scratch, ltb len (scratch-length (slots-of ws) (places-of ws)))
-    ∷ [])
+    ∷ []
+
+unfoldable pub early-refusal : List ℕ → List ℕ → ℕ → ℕ
+early-refusal tabulation ws len = first-refusal (early-refusals tabulation ws len)
 
 -- document 01's number of what reading answers, and its value: how many keys there are
 abbrev pub number : Reading → ℕ
@@ -59,18 +61,13 @@ abbrev pub new-words : Params → List ℕ → List ℕ → List ℕ
 new-words P S ws = cond (fits P S) (image P S) ws
 
 -- Where none of them applies, the words can be read.
-early-none : (tabulation ws scratch : List ℕ) → early-refusal tabulation ws (length scratch) ≡ 0 → Ready tabulation ws scratch
+early-none : (tabulation ws scratch : List ℕ) → early-refusal tabulation ws (length scratch) ≡ done → Ready tabulation ws scratch
 unfolding early-refusal
-early-none tabulation ws scratch =
-    go (eqb (length tabulation) tabulation-length) (shaped ws) (ltb (length scratch) (scratch-length (slots-of ws) (places-of ws))) refl refl refl
-  where
-    go : (p q t : Bool) → eqb (length tabulation) tabulation-length ≡ p → shaped ws ≡ q
-        → ltb (length scratch) (scratch-length (slots-of ws) (places-of ws)) ≡ t
-        → _≡_ {A = ℕ} (cond (not p) 1 (cond (not q) 2 (cond t 3 0))) 0 → Ready tabulation ws scratch
-    go true true true e f g h = absurd (omega arith)
-    go true true false e f g h = record { full = eqb-true _ _ e; shape = f; room = ltb-false _ _ g }
-    go true false t e f g h = absurd (omega arith)
-    go false q t e f g h = absurd (omega arith)
+early-none tabulation ws scratch e =
+    let a = passed-over (not (eqb (length tabulation) tabulation-length)) e (λ q. omega arith) in
+    let b = passed-over (not (shaped ws)) (a .1) (λ q. omega arith) in
+    let c = passed-over (ltb (length scratch) (scratch-length (slots-of ws) (places-of ws))) (b .1) (λ q. omega arith) in
+    record { full = eqb-true _ _ (not-false _ (a .0)); shape = not-false _ (b .0); room = ltb-false _ _ (c .0) }
 
 pub early-ready : (tabulation ws scratch : List ℕ) {n : ℕ} → n ≡ early-refusal tabulation ws (length scratch) → n ≡ 0 → Ready tabulation ws scratch
 early-ready tabulation ws scratch e z = early-none tabulation ws scratch (sym e ∙ z)
@@ -83,7 +80,7 @@ module _ (P : Params) (S : List ℕ) where
 
   -- a build that has no room is of a set that does not fit
   full-fits : P .places < length (stash-of P S) → fits P S ≡ false
-  unfolding fits
+  unfolding fits fits-by
   full-fits l = lt-leb (length (stash-of P S)) (P .places) l
 
 -- a valid set at the front of scratch can be built

@@ -11,18 +11,14 @@ use build::StashCount;
 use codec::collect::collect_keys;
 use parts::matches_built;
 use parts::write_built;
+use refusals::SHORT_SCRATCH;
+use refusals::STASH_FULL;
+use refusals::WRONG_SHAPE;
+use refusals::WRONG_TABULATION;
 use tabulation::TABULATION_LENGTH;
-use tabulation::WRONG_SHAPE;
-use tabulation::WRONG_TABULATION;
 use words::fill;
 
 mod parts;
-
-// Document 01's 3.
-pub const SHORT_SCRATCH: u32 = 3;
-
-// Document 01's 8.
-pub const STASH_FULL: u32 = 8;
 
 // What reading words as a set gives: how many keys it has, or that they are the image of no set.
 pub enum Reading {

@@ -2,7 +2,7 @@
 ghost use mathlib.Core.Path.{_≡_};
 ghost use Prim.Native.Nat.{_*_, _≤_};
 ghost use lib.ListN.{length};
-ghost use Rattle.cuckoo.specs.Lists.{same};
+ghost use Rattle.basics.specs.Lists.{same};
 ghost use Rattle.build.specs.Scratch.{parts};
 ghost use Rattle.renewal.specs.Parts.{Parted, Comparable, Writable, assembled-in};
 use linking::parts::held_start;

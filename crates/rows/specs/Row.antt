@@ -1,7 +1,7 @@
 -- What the console prints, byte by byte: a row of fields parted by commas and ended by a newline. Assumes nothing.
 use Prim.Native.Nat.{ℕ}
 use mathlib.Core.List.{List, [], _∷_, _++_}
-use Rattle.tabulation.specs.Refusal.{done}
+use Rattle.refusals.specs.Refusal.{done}
 use Rattle.lines.specs.Decimal.{decimal}
 use Rattle.lines.specs.Parted.{newline, comma}
 use Rattle.lines.specs.Command.{letter-A, letter-W, letter-L}

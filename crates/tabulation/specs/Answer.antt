@@ -7,7 +7,7 @@ use native.Mathlib.Omega.{arith}
 use mathlib.Core.List.{List, [], _∷_, List·Memᴰ as In}
 use lib.Dec.{eqb}
 use lib.ListN.{length}
-use Rattle.tabulation.specs.Refusal.{done, wrong-tabulation, wrong-shape, blank-key, first-refusal, first-refusal-in}
+use Rattle.refusals.specs.Refusal.{done, wrong-tabulation, wrong-shape, blank-key, first-refusal, first-refusal-in}
 use Rattle.tabulation.specs.Hash.{tabulation-length, slots-in-range, blank, Family, hash}
 use Rattle.tabulation.specs.declared.Hashed.{Hashed}
 use Rattle.tabulation.specs.declared.Hashed.the-variants.{At, Refused}

@@ -2,12 +2,13 @@
 -- What callers use of `hash` is its law `hash-lt`; its text may change behind its name. The worked rows K1 to K12 alone compute with it.
 use Prim.Native.Nat.{ℕ, zero, suc, _+_, _*_, _/_, _%_, _<_, _≤_}
 use mathlib.Core.Path.{_≡_}
-use mathlib.Core.Bool.{Bool, true, false, _&&_, false≢true}
+use mathlib.Core.Bool.{Bool, true, _&&_}
 use mathlib.Core.List.{List}
 use native.Mathlib.Nat.{mod-lt}
 use borrow.Author.Tests.{leb-true, le-leb}
 use lib.Dec.{eqb, leb}
 use lib.ListN.{getD}
+use Rattle.basics.specs.Tests.{and-true}
 
 -- the tabulation (document 01's 'spread book') is 2,048 numbers
 abbrev pub tabulation-length : ℕ
@@ -45,11 +46,6 @@ hash F table key =
     (e 0 (byte 0 key) + e 1 (byte 1 key) + e 2 (byte 2 key) + e 3 (byte 3 key)) % F .slots
 
 -- The laws that callers use.
-
-and-true : (p q : Bool) → (p && q) ≡ true → (p ≡ true) × (q ≡ true)
-and-true true true e = (e, e)
-and-true true false e = absurd (false≢true e)
-and-true false q e = absurd (false≢true e)
 
 pub in-range-pos : (r : ℕ) → slots-in-range r ≡ true → 0 < r
 unfolding slots-in-range

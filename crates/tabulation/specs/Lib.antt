@@ -1,5 +1,4 @@
 -- What the contracts of `tabulation` cite, and the laws that the crates above use.
-pub mod Refusal
 pub mod Hash
 pub mod Answer
 pub mod Sum

@@ -6,13 +6,9 @@ ghost use lib.ListN.{length};
 ghost use Rattle.tabulation.specs.Slots.{slot-0, slot-1};
 ghost use Rattle.tabulation.specs.Hash.{tabulation-length, max-slots, slots-in-range, blank, entry, hash};
 ghost use Rattle.tabulation.specs.Answer.{number, values, hashes-refusal, hashes-values, written};
-
-// Document 01's numbers, as far as this crate gives them.
-pub const WRONG_TABULATION: u32 = 1;
-
-pub const WRONG_SHAPE: u32 = 2;
-
-pub const BLANK_KEY: u32 = 5;
+use refusals::BLANK_KEY;
+use refusals::WRONG_SHAPE;
+use refusals::WRONG_TABULATION;
 
 // The length of a tabulation, and the most slots of a table.
 pub const TABULATION_LENGTH: usize = 2048;

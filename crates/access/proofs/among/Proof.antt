@@ -9,7 +9,7 @@ use lib.ListN.{length, drop, drop-of-length-le}
 use lib.Seq.{drop-cons}
 use borrow.Author.Needs.{needs}
 use borrow.Author.Tests.{eq-eqb, ne-eqb}
-use Rattle.cuckoo.specs.Graph.{member}
+use Rattle.basics.specs.Sets.{member}
 use Rattle.access.proofs.among.Statement.{statement}
 use Rattle.access.proofs.among.Tie as tie
 

@@ -6,7 +6,7 @@ use lib.ListN.{take}
 use lib.Seq.{length-take-le}
 use Rattle.ordered.specs.Place.{rank-found}
 use Rattle.ordered.specs.Shift.{closed-set}
-use Rattle.cuckoo.specs.Sets.{member-in}
+use Rattle.basics.specs.Sets.{member-in}
 use Rattle.ordered.proofs.delete.Statement.{statement}
 use Rattle.ordered.proofs.delete.Tie as tie
 

@@ -1,6 +1,6 @@
 -- `pinorange::pinorange_init` meets its contract: a walk of its MIR, by hand. The borrow of the counters is opened and they are copied; the words are
--- passed on for good to `init_counted`; the counters that it gives back are stored, and the borrow is closed at them.
--- All that the walk knows of `init_counted` is that it meets its contract. Assumes nothing.
+-- passed on for good to `counted::init`; the counters that it gives back are stored, and the borrow is closed at them.
+-- All that the walk knows of `counted::init` is that it meets its contract. Assumes nothing.
 use mathlib.Core.Path.{_≡_, refl}
 use Prim.Native.Nat.{ℕ, _<_, _^_}
 use mathlib.Core.List.{[], _∷_, List}
@@ -47,10 +47,10 @@ use Rattle.counters.proofs.Counters as T
 use Rattle.counters.proofs.Counters.Laws as T′
 use Rattle.counters.proofs.Counted as R
 use Rattle.counters.proofs.Counted.Laws as R′
-use Rattle.dictionary.proofs.init_counted as callee
-use Rattle.dictionary.proofs.init_counted.Symbol as callee-def
-use Rattle.dictionary.proofs.init_counted.Symbol.{name as #callee}
-use Rattle.dictionary.proofs.init_counted.Met as callee-thm
+use Rattle.counted.proofs.init as callee
+use Rattle.counted.proofs.init.Symbol as callee-def
+use Rattle.counted.proofs.init.Symbol.{name as #callee}
+use Rattle.counted.proofs.init.Met as callee-thm
 use Rattle.pinorange.proofs.Counting.{slice-val, ref-val, counters-val, seen, lent, opens-counters, closes-counters, counters-of, answer-fits, spelled, says3}
 use Rattle.pinorange.proofs.pinorange_init.Key.{name as #self}
 use Rattle.pinorange.proofs.pinorange_init as self
@@ -205,4 +205,4 @@ pinorange-init-spec 𝓤 H 𝓜 𝓖 𝓡 =
     entered 𝓤 H (tripleOf 𝓤 H (𝓖 .A) self.signature (self.spec 𝓤 H (𝓖 .A) (𝓜 .mem) (𝓡 .run)))
     (tables 𝓤 H 𝓜 𝓡 code.env .C) (tables 𝓤 H 𝓜 𝓡 code.env .Λ) #self code.function (code.unfolded 𝓤 H 𝓜 𝓡)
     (meets 𝓤 H (𝓖 .A) (givenOf 𝓤 H 𝓜 𝓖) (𝓜 .mem) (𝓡 .run) (tablesOf 𝓤 H 𝓜 (tables 𝓤 H 𝓜 𝓡 code.env))
-    (cited 𝓤 H (Callee 𝓤 H (𝓖 .A) (𝓜 .mem) (𝓡 .run)) 𝓜 𝓡 code.env #callee callee-def.routine code.calls-dictionary·init-counted (callee-thm.met 𝓤 H 𝓜 𝓖 𝓡)))
+    (cited 𝓤 H (Callee 𝓤 H (𝓖 .A) (𝓜 .mem) (𝓡 .run)) 𝓜 𝓡 code.env #callee callee-def.routine code.calls-counted·init (callee-thm.met 𝓤 H 𝓜 𝓖 𝓡)))

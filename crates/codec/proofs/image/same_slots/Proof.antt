@@ -4,7 +4,7 @@ use mathlib.Core.Path.{_≡_, refl, sym, _∙_}
 use native.Mathlib.Omega.{arith}
 use borrow.Author.Tests.{not-true, not-false}
 use lib.ListN.{length, drop}
-use Rattle.cuckoo.specs.Lists.{same}
+use Rattle.basics.specs.Lists.{same}
 use Rattle.codec.specs.Assembled.{woven}
 use Rattle.codec.specs.Weave.{same-slots-step, same-slots-end}
 use borrow.Author.Needs.{needs}

@@ -4,7 +4,7 @@ use mathlib.Core.Path.{_≡_, refl, sym, _∙_}
 use native.Mathlib.Omega.{arith}
 use borrow.Author.Tests.{eq-eqb, ne-eqb}
 use lib.ListN.{length, drop}
-use Rattle.cuckoo.specs.Lists.{same}
+use Rattle.basics.specs.Lists.{same}
 use Rattle.codec.specs.Weave.{same-step, same-end}
 use borrow.Author.Needs.{needs}
 use Rattle.codec.proofs.image.same_words.Statement.{statement}

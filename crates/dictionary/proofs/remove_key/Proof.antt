@@ -1,17 +1,17 @@
--- `dictionary::core::remove_key` meets its contract: the key is not there, or the set without it is built.
+-- `dictionary::remove_key` meets its contract: the key is not there, or the set without it is built.
 use Prim.Native.Nat.{_+_, _-_, _*_, _≤_}
 use mathlib.Core.Path.{_≡_, sym, _∙_}
 use mathlib.Core.Bool.{true}
 use native.Mathlib.Omega.{arith}
 use borrow.Author.Tests.{not-true, not-false}
 use lib.ListN.{take}
-use Rattle.cuckoo.specs.Graph.{member}
+use Rattle.basics.specs.Sets.{member}
 use Rattle.layout.specs.Layout.{slots-of, places-of}
 use Rattle.outcome.specs.declared.Change.the-variants.{Remove}
 use Rattle.dictionary.specs.Core.{key-count, front-fits, front-length, front-asc, remove-absent, remove-some, remove-renewed, changed-buildable, changed-renewed}
 use borrow.Author.Needs.{needs}
-use Rattle.dictionary.proofs.core.remove_key.Statement.{statement}
-use Rattle.dictionary.proofs.core.remove_key.Tie as tie
+use Rattle.dictionary.proofs.remove_key.Statement.{statement}
+use Rattle.dictionary.proofs.remove_key.Tie as tie
 
 slice-reshare-prefix-has : tie.Need-slice-reshare-prefix-has
 slice-reshare-prefix-has c = front-fits (c .before .before .before .pre)

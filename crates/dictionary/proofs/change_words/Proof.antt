@@ -1,10 +1,10 @@
--- `dictionary::core::change_words` meets its contract: 1 to 3, then 4, then 5, then what the set decides.
+-- `dictionary::change_words` meets its contract: 1 to 3, then 4, then 5, then what the set decides.
 use Rattle.outcome.specs.Laws.{Ready}
 use Rattle.renewal.specs.Reading.{early-ready}
 use Rattle.dictionary.specs.Core.{Settable, settable, left-early, left-tampered, left-blank, left-set}
 use borrow.Author.Needs.{needs}
-use Rattle.dictionary.proofs.core.change_words.Statement.{statement}
-use Rattle.dictionary.proofs.core.change_words.Tie as tie
+use Rattle.dictionary.proofs.change_words.Statement.{statement}
+use Rattle.dictionary.proofs.change_words.Tie as tie
 
 early-requires : tie.Need-early-requires
 early-requires c κs = search needs

@@ -1,8 +1,8 @@
--- Lists of numbers as sets: membership, what `keep` and `without` keep, the smaller members (`below`), and ascending lists, which are equal where their
--- members are (`asc-ext`). Assumes nothing.
+-- Lists of numbers as sets: membership, the members that pass a test (`keep`), all but one (`without`), the smaller ones (`below`), and ascending lists, which are
+-- equal where their members are (`asc-ext`). The definitions come first: a reader must believe them. Assumes nothing.
 use Prim.Native.Nat.{ℕ, suc, _<_, _≤_, max, zero-le}
 use mathlib.Core.Path.{_≡_, refl, sym, _∙_}
-use mathlib.Core.Bool.{Bool, true, false, not, cond, _&&_, or-true, true≢false, false≢true}
+use mathlib.Core.Bool.{Bool, true, false, not, cond, _||_, or-true, true≢false, false≢true}
 use mathlib.Core.Logic.{_⊎_, inl, inr}
 use mathlib.Core.List.{List, [], _∷_, _++_, List·Memᴰ as In, List·Memᴰ·head as here, List·Memᴰ·tail as there}
 use native.Mathlib.Omega.{arith}
@@ -10,15 +10,50 @@ use native.Mathlib.Nat.{le-of-eq}
 use lib.ListN.{length}
 use lib.Dec.{eqb, ltb, leb}
 use borrow.Author.Tests.{eqb-true, eqb-false, eq-eqb, ne-eqb, ltb-true, lt-ltb, leb-true, leb-false, not-true}
-use Rattle.cuckoo.specs.Graph.{member, keep, any, without, last, first}
+use Rattle.basics.specs.Tests.{test, eq?}
 
+abbrev pub member : ℕ → List ℕ → Bool
+member c [] = false
+member c (d ∷ R) = eqb c d || member c R
+
+-- those of R that pass the test p, in their order
+abbrev pub keep : (ℕ → Bool) → List ℕ → List ℕ
+keep p [] = []
+keep p (d ∷ R) = cond (p d) (d ∷ keep p R) (keep p R)
+
+abbrev pub any : (ℕ → Bool) → List ℕ → Bool
+any p [] = false
+any p (d ∷ R) = p d || any p R
+
+-- the smallest of an ascending list, 0 where there is none
+abbrev pub first : List ℕ → ℕ
+first [] = 0
+first (c ∷ R) = c
+
+-- the largest of an ascending list, 0 where there is none
+abbrev pub last : List ℕ → ℕ
+last [] = 0
+last (c ∷ []) = c
+last (c ∷ d ∷ R) = last (d ∷ R)
+
+-- R without c
+unfoldable pub without : ℕ → List ℕ → List ℕ
+without c R = keep (λ d. not (eqb c d)) R
+
+-- below n R: the smaller keys of R
+unfoldable pub below : ℕ → List ℕ → List ℕ
+below n R = keep (λ d. ltb d n) R
+
+-- strictly ascending
+pub data Asc : List ℕ → Type 0 where
+  none : Asc []
+  some : {c : ℕ} {R : List ℕ} → ((d : ℕ) → In d R → c < d) → Asc R → Asc (c ∷ R)
+
+-- each member of R is one of R′
 abbrev pub Sub : List ℕ → List ℕ → Type 0
 Sub R R′ = (c : ℕ) → In c R → In c R′
 
--- a test decides
-pub test : (t : Bool) → (t ≡ true) ⊎ (t ≡ false)
-test true = inl refl
-test false = inr refl
+-- The laws.
 
 -- what `keep` keeps
 cond-in : (t : Bool) {c d : ℕ} {L : List ℕ} → In c (cond t (d ∷ L) L) → ((t ≡ true) × (c ≡ d)) ⊎ In c L
@@ -57,12 +92,6 @@ in-member {c} (there {x = d} {xs = R} h) = rw (in-member h, or-true)
 pub in? : (c : ℕ) (R : List ℕ) → In c R ⊎ (In c R → ⊥)
 in? c R = elim (test (member c R)) [ inl e ↦ inl (member-in c R e) | inr e ↦ inr (λ h. true≢false (sym (in-member h) ∙ e)) ]
 
-pub eq? : (c d : ℕ) → (c ≡ d) ⊎ (c ≡ d → ⊥)
-eq? c d = elim (test (eqb c d)) [ inl e ↦ inl (eqb-true c d e) | inr e ↦ inr (eqb-false c d e) ]
-
-pub le? : (m n : ℕ) → (m ≤ n) ⊎ (n < m)
-le? m n = elim (test (leb m n)) [ inl e ↦ inl (leb-true m n e) | inr e ↦ inr (leb-false m n e) ]
-
 -- without c R: the other keys of R
 pub out-in : (c : ℕ) (R : List ℕ) {d : ℕ} → In d (without c R) → In d R
 unfolding without
@@ -81,10 +110,6 @@ around c R d h = elim (eq? c d) [ inl e ↦ here (sym e) | inr ne ↦ there (in-
 
 pub out-sub : (c : ℕ) {R R′ : List ℕ} → Sub R R′ → Sub (without c R) (without c R′)
 out-sub c {R} {R′} s d h = in-out c R′ (out-ne c R h) (s d (out-in c R h))
-
--- below n R: the smaller keys of R
-unfoldable pub below : ℕ → List ℕ → List ℕ
-below n R = keep (λ d. ltb d n) R
 
 pub below-in : (n : ℕ) (R : List ℕ) {d : ℕ} → In d (below n R) → In d R
 unfolding below
@@ -124,10 +149,6 @@ in-top (there {x = d} {xs = R} h) = omega (arith, in-top h)
 -- for `search`: whether a key is in a set that `without` makes
 pub ruleset outs = (in-out, out-in, out-ne)
 
-pub and-true : (p q : Bool) → (p && q) ≡ true → (p ≡ true) × (q ≡ true)
-and-true true q e = (refl, e)
-and-true false q e = absurd (false≢true e)
-
 pub any-true : (p : ℕ → Bool) (R : List ℕ) → any p R ≡ true → (d : ℕ) × In d R × (p d ≡ true)
 any-true p [] e = absurd (false≢true e)
 any-true p (d ∷ R) e =
@@ -139,11 +160,6 @@ any-true p (d ∷ R) e =
 pub true-any : (p : ℕ → Bool) {R : List ℕ} {d : ℕ} → In d R → p d ≡ true → any p R ≡ true
 true-any p (here {x = d} q) e = let e′ : p d ≡ true = cc in rw e′
 true-any p (there {x = d} h) e = rw (true-any p h e, or-true)
-
--- ascending lists
-pub data Asc : List ℕ → Type 0 where
-  none : Asc []
-  some : {c : ℕ} {R : List ℕ} → ((d : ℕ) → In d R → c < d) → Asc R → Asc (c ∷ R)
 
 pub asc-keep : (p : ℕ → Bool) {R : List ℕ} → Asc R → Asc (keep p R)
 asc-keep p none = none

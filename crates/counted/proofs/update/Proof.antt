@@ -1,9 +1,9 @@
--- `dictionary::update_counted` meets its contract: `update` says the answer and what is left, `with_counts` the counters.
+-- `counted::update` meets its contract: `update` says the answer and what is left, `with_counts` the counters.
 use mathlib.Core.Path.{_∙_, ap}
 use borrow.Author.Needs.{needs}
 use Rattle.counters.specs.Counters.{counted}
-use Rattle.dictionary.proofs.update_counted.Statement.{statement}
-use Rattle.dictionary.proofs.update_counted.Tie as tie
+use Rattle.counted.proofs.update.Statement.{statement}
+use Rattle.counted.proofs.update.Tie as tie
 
 update-requires : tie.Need-update-requires
 update-requires c κs = search needs
@@ -23,5 +23,5 @@ returns c =
     let d = c .with-counts .ensures in
     (d .0 ∙ e .0, (e .1 .0, (e .1 .1, d .1 ∙ ap (counted _) (e .0))))
 
-pub update-counted-spec : {M : Type 1} → statement M
-update-counted-spec = tie.close (tie.spec update-requires with-counts-requires same-length same-length-2 returns)
+pub update-spec : {M : Type 1} → statement M
+update-spec = tie.close (tie.spec update-requires with-counts-requires same-length same-length-2 returns)

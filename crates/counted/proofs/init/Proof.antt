@@ -1,9 +1,9 @@
--- `dictionary::init_counted` meets its contract: `fresh` says the answer and the words, `with_counts` the counters.
+-- `counted::init` meets its contract: `fresh` says the answer and the words, `with_counts` the counters.
 use mathlib.Core.Path.{_∙_, ap}
 use borrow.Author.Needs.{needs}
 use Rattle.counters.specs.Counters.{counted}
-use Rattle.dictionary.proofs.init_counted.Statement.{statement}
-use Rattle.dictionary.proofs.init_counted.Tie as tie
+use Rattle.counted.proofs.init.Statement.{statement}
+use Rattle.counted.proofs.init.Tie as tie
 
 fresh-requires : tie.Need-fresh-requires
 fresh-requires c κs = search needs
@@ -20,5 +20,5 @@ returns c =
     let d = c .with-counts .ensures in
     (d .0 ∙ e .0, (e .1, d .1 ∙ ap (counted _) (e .0)))
 
-pub init-counted-spec : {M : Type 1} → statement M
-init-counted-spec = tie.close (tie.spec fresh-requires with-counts-requires same-length returns)
+pub init-spec : {M : Type 1} → statement M
+init-spec = tie.close (tie.spec fresh-requires with-counts-requires same-length returns)

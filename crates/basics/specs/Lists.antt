@@ -12,16 +12,10 @@ use borrow.Author.Tests.{eqb-true, eq-eqb, ltb-true, lt-ltb, le-ltb}
 use lib.Dec.{eqb, ltb}
 use lib.ListN.{length, getD, drop, drop-of-length-le}
 use lib.Seq.{drop-cons}
-use Rattle.cuckoo.specs.Graph.{keep, first}
-use Rattle.cuckoo.specs.Sets.{test, eq?, le?, and-true, keep-in, keep-test, in-keep, length-drop, below, in-below, Asc, none, some, asc-keep, first-in}
+use Rattle.basics.specs.Tests.{test, eq?, le?, and-true, bool-ext}
+use Rattle.basics.specs.Sets.{keep, first, keep-in, keep-test, in-keep, length-drop, below, in-below, Asc, none, some, asc-keep, first-in}
 
 -- equality
-
--- two tests that pass together are equal
-pub bool-ext : (p q : Bool) → (p ≡ true → q ≡ true) → (q ≡ true → p ≡ true) → p ≡ q
-bool-ext true q f g = sym (f refl)
-bool-ext false true f g = g refl
-bool-ext false false f g = refl
 
 -- two lists are equal, as a test
 unfoldable pub same : List ℕ → List ℕ → Bool

@@ -1,9 +1,9 @@
--- `dictionary::core::update` meets its contract: what `change_words` answers and leaves, and cleared scratch.
+-- `dictionary::update` meets its contract: what `change_words` answers and leaves, and cleared scratch.
 use mathlib.Core.Path.{sym, _∙_}
 use Rattle.outcome.specs.Laws.{change-scratch}
 use borrow.Author.Needs.{needs}
-use Rattle.dictionary.proofs.core.update.Statement.{statement}
-use Rattle.dictionary.proofs.core.update.Tie as tie
+use Rattle.dictionary.proofs.update.Statement.{statement}
+use Rattle.dictionary.proofs.update.Tie as tie
 
 change-words-requires : tie.Need-change-words-requires
 change-words-requires c κs = search needs

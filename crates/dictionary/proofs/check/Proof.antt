@@ -1,9 +1,9 @@
--- `dictionary::core::check` meets its contract: what `check_words` answers, and cleared scratch.
+-- `dictionary::check` meets its contract: what `check_words` answers, and cleared scratch.
 use mathlib.Core.Path.{sym, _∙_}
 use Rattle.outcome.specs.Laws.{check-scratch}
 use borrow.Author.Needs.{needs}
-use Rattle.dictionary.proofs.core.check.Statement.{statement}
-use Rattle.dictionary.proofs.core.check.Tie as tie
+use Rattle.dictionary.proofs.check.Statement.{statement}
+use Rattle.dictionary.proofs.check.Tie as tie
 
 check-words-requires : tie.Need-check-words-requires
 check-words-requires c κs = search needs

@@ -1,17 +1,17 @@
--- `dictionary::core::insert_key` meets its contract: the key is there, there is no room for a further key, or the set with it is built.
+-- `dictionary::insert_key` meets its contract: the key is there, there is no room for a further key, or the set with it is built.
 use Prim.Native.Nat.{_+_, _*_, _≤_}
 use mathlib.Core.Path.{_≡_, sym, _∙_}
 use mathlib.Core.Bool.{false}
 use native.Mathlib.Omega.{arith}
 use lib.ListN.{take}
-use Rattle.cuckoo.specs.Graph.{member}
+use Rattle.basics.specs.Sets.{member}
 use Rattle.layout.specs.Layout.{slots-of, places-of}
 use Rattle.layout.specs.Shape.{shape}
 use Rattle.outcome.specs.declared.Change.the-variants.{Insert}
 use Rattle.dictionary.specs.Core.{front-fits, front-length, front-asc, insert-present, insert-crowded, insert-renewed, changed-buildable, changed-renewed}
 use borrow.Author.Needs.{needs}
-use Rattle.dictionary.proofs.core.insert_key.Statement.{statement}
-use Rattle.dictionary.proofs.core.insert_key.Tie as tie
+use Rattle.dictionary.proofs.insert_key.Statement.{statement}
+use Rattle.dictionary.proofs.insert_key.Tie as tie
 
 slice-reshare-prefix-has : tie.Need-slice-reshare-prefix-has
 slice-reshare-prefix-has c = front-fits (c .before .before .before .pre)

@@ -1,0 +1,39 @@
+// Init, insert and remove with the counters, by value: counts in and counts out, for callers that hold them so. The calls
+// that hold the counters by reference are in `pinorange`.
+ghost use mathlib.Core.Path.{_≡_};
+ghost use lib.ListN.{length};
+ghost use Rattle.counters.specs.Counters.{counted};
+ghost use Rattle.layout.specs.Answers.{fresh-refusal, fresh-words};
+ghost use Rattle.outcome.specs.Outcome.{change-outcome};
+use counters::Counted;
+use counters::Counters;
+use counters::with_counts;
+use outcome::Change;
+
+// Insert and remove.
+pub fn update(
+    kind: Change,
+    tabulation: &[u16],
+    words: &mut [u32],
+    scratch: &mut [u32],
+    key: u32,
+    counters: Counters,
+) -> Counted
+    ensures answered { λ c. ⌜ c .answer ≡ change-outcome kind (now (tabulation .entry)) (now (words .entry)) (now (scratch .entry)) key .answer ⌝ }
+    ensures changed { λ c. ⌜ now (words .exit) ≡ change-outcome kind (now (tabulation .entry)) (now (words .entry)) (now (scratch .entry)) key .words ⌝ }
+    ensures cleared { λ c. ⌜ now (scratch .exit) ≡ change-outcome kind (now (tabulation .entry)) (now (words .entry)) (now (scratch .entry)) key .scratch ⌝ }
+    ensures moved { λ c. ⌜ c .counters ≡ counted counters (change-outcome kind (now (tabulation .entry)) (now (words .entry)) (now (scratch .entry)) key .answer) ⌝ }
+{
+    let answer = dictionary::update(kind, tabulation, words, scratch, key);
+    with_counts(answer, counters)
+}
+
+// Init.
+pub fn init(words: &mut [u32], r: u32, s: u32, counters: Counters) -> Counted
+    ensures answered { λ c. ⌜ c .answer ≡ fresh-refusal (length (now (words .entry))) r s ⌝ }
+    ensures laid { λ c. ⌜ now (words .exit) ≡ fresh-words (now (words .entry)) r s ⌝ }
+    ensures moved { λ c. ⌜ c .counters ≡ counted counters (fresh-refusal (length (now (words .entry))) r s) ⌝ }
+{
+    let answer = access::fresh(words, r, s);
+    with_counts(answer, counters)
+}

@@ -1,0 +1,110 @@
+-- Refusals, document 01's "What a call gives back": the numbers of the table, and that "they are tried in this order". Every call lists
+-- its refusals as pairs of a number and a test; what it answers is the first of them that applies. Assumes nothing.
+use Prim.Native.Nat.{ℕ}
+use mathlib.Core.Path.{_≡_, refl, sym}
+use mathlib.Core.Bool.{Bool, true, false, cond}
+use mathlib.Core.List.{List, [], _∷_, _++_, map, List·Memᴰ as In, List·Memᴰ·head as here, List·Memᴰ·tail as there}
+
+-- 0, "done": accepted
+abbrev pub done : ℕ
+done = 0
+
+-- 1, "wrong book": the tabulation is not 2,048 long
+abbrev pub wrong-tabulation : ℕ
+wrong-tabulation = 1
+
+-- 2, "wrong shape": the words are not laid out as a dictionary; of the hashes of a key alone, r outside its range
+abbrev pub wrong-shape : ℕ
+wrong-shape = 2
+
+-- 3, "short sheet": the scratch is too short
+abbrev pub short-scratch : ℕ
+short-scratch = 3
+
+-- 4, "tampered": the words are the canonical image of no set
+abbrev pub not-canonical : ℕ
+not-canonical = 4
+
+-- 5, "blank card"
+abbrev pub blank-key : ℕ
+blank-key = 5
+
+-- 6, "listed": insert of a key that is in the set
+abbrev pub key-present : ℕ
+key-present = 6
+
+-- 7, "not listed": removal of a key that is not in the set
+abbrev pub key-absent : ℕ
+key-absent = 7
+
+-- 8, "full drawer": the stash of the new set would have more than s keys
+abbrev pub stash-full : ℕ
+stash-full = 8
+
+-- the number of the first refusal whose test holds, or done
+abbrev pub first-refusal : List (ℕ × Bool) → ℕ
+first-refusal [] = done
+first-refusal (r ∷ rs) = cond (r .1) (r .0) (first-refusal rs)
+
+-- no refusal of the list applies
+pub data None : List (ℕ × Bool) → Type 0 where
+  none : None []
+  and : {r : ℕ × Bool} {rs : List (ℕ × Bool)} → r .1 ≡ false → None rs → None (r ∷ rs)
+
+-- The laws. The numbers are those of document 01's table, in its order.
+pub table : done ∷ wrong-tabulation ∷ wrong-shape ∷ short-scratch ∷ not-canonical ∷ blank-key ∷ key-present ∷ key-absent ∷ stash-full ∷ []
+    ≡ 0 ∷ 1 ∷ 2 ∷ 3 ∷ 4 ∷ 5 ∷ 6 ∷ 7 ∷ 8 ∷ []
+table = refl
+
+-- the first applies
+pub first-applies : {t : Bool} (n : ℕ) (rs : List (ℕ × Bool)) → t ≡ true → first-refusal ((n, t) ∷ rs) ≡ n
+first-applies n rs e = rw e
+
+-- the first does not
+pub first-passes : {t : Bool} (n : ℕ) (rs : List (ℕ × Bool)) → t ≡ false → first-refusal ((n, t) ∷ rs) ≡ first-refusal rs
+first-passes n rs e = rw e
+
+-- what is answered is 0 or the number of one of the refusals, "and none is given otherwise"
+abbrev pub numbers : List (ℕ × Bool) → List ℕ
+numbers rs = map (λ (r : ℕ × Bool). r .0) rs
+
+pub first-refusal-in : (rs : List (ℕ × Bool)) → In (first-refusal rs) (done ∷ numbers rs)
+first-refusal-in [] = here refl
+first-refusal-in (r ∷ rs) = go (r .1) (first-refusal-in rs)
+  where
+    go : (t : Bool) → In (first-refusal rs) (done ∷ numbers rs) → In (cond t (r .0) (first-refusal rs)) (done ∷ r .0 ∷ numbers rs)
+    go true i = there (here refl)
+    go false (here q) = here q
+    go false (there i) = there (there i)
+
+-- a refusal whose number is not the answer was passed over: its test did not hold
+pub passed-over : {k m n : ℕ} (t : Bool) → cond t k m ≡ n → (n ≡ k → ⊥) → (t ≡ false) × (m ≡ n)
+passed-over true e ne = absurd (ne (sym e))
+passed-over false e ne = (refl, e)
+
+-- a list of refusals in front of others: the first that applies there,
+pub front-applies : (rs ts : List (ℕ × Bool)) → (first-refusal rs ≡ done → ⊥) → first-refusal (rs ++ ts) ≡ first-refusal rs
+front-applies [] ts n = absurd (n refl)
+front-applies (r ∷ rs) ts n = go (r .1) (front-applies rs ts) n
+  where
+    go : (t : Bool) → ((first-refusal rs ≡ done → ⊥) → first-refusal (rs ++ ts) ≡ first-refusal rs)
+        → (cond t (r .0) (first-refusal rs) ≡ done → ⊥) → cond t (r .0) (first-refusal (rs ++ ts)) ≡ cond t (r .0) (first-refusal rs)
+    go true more n = refl
+    go false more n = more n
+
+-- or, where none does, the first of the others
+pub front-passes : (rs ts : List (ℕ × Bool)) → None rs → first-refusal (rs ++ ts) ≡ first-refusal ts
+front-passes [] ts none = refl
+front-passes (r ∷ rs) ts (and e h) = rw e (front-passes rs ts h)
+
+-- none applies
+pub none-applies : (rs : List (ℕ × Bool)) → None rs → first-refusal rs ≡ done
+none-applies [] none = refl
+none-applies (r ∷ rs) (and e h) = rw e (none-applies rs h)
+
+-- and where 0 is answered none did, for numbers that are not 0
+pub done-none : (rs : List (ℕ × Bool)) → (In done (numbers rs) → ⊥) → first-refusal rs ≡ done → None rs
+done-none [] n e = none
+done-none (r ∷ rs) n e =
+    let p = passed-over (r .1) e (λ q. n (here q)) in
+    and (p .0) (done-none rs (λ i. n (there i)) (p .1))

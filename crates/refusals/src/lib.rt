@@ -1,0 +1,26 @@
+// The numbers that calls answer: document 01's table, "What a call gives back". What each means, and that the first that applies is given, is in
+// specs/Refusal.antt. 0 is "done".
+
+// The tabulation has another length.
+pub const WRONG_TABULATION: u32 = 1;
+
+// The words are not laid out as a dictionary; of the hashes of a key alone, r is outside its range.
+pub const WRONG_SHAPE: u32 = 2;
+
+// The scratch is too short.
+pub const SHORT_SCRATCH: u32 = 3;
+
+// The words are the canonical image of no set.
+pub const NOT_CANONICAL: u32 = 4;
+
+// The key is blank.
+pub const BLANK_KEY: u32 = 5;
+
+// Insert of a key that is in the set.
+pub const KEY_PRESENT: u32 = 6;
+
+// Removal of a key that is not in the set.
+pub const KEY_ABSENT: u32 = 7;
+
+// The stash of the new set would have more keys than there are places.
+pub const STASH_FULL: u32 = 8;
