@@ -1,7 +1,5 @@
 // The console: book.bin and the lines of standard input in, rows on standard output. The grammar is that of `lines`, the rows are those of `rows`, the
 // calls those of `dictionary` and `layout`; here is only the reading and writing.
-mod listing;
-mod printing;
 mod session;
 
 ghost use Prim.Native.Nat.{_≤_};
@@ -92,7 +90,7 @@ fn run(tabulation: &[u16], words: &mut [u32], scratch: &mut [u32], r: u32, s: u3
     let counters = laid.counters;
     let mut out = [0u8; printing::ROOM];
     let at = session::serve(tabulation, &mut *words, &mut *scratch, &mut out, counters);
-    let end = listing::list(&*words, &mut out, at);
+    let end = printing::listing::list(&*words, &mut out, at);
     printing::flush(&out, end);
 }
 

@@ -1,15 +1,14 @@
 // The lines after the first: each is answered by a row when its newline, or the end of the input, is read. Byte by byte this is a `Run` of
 // lines/specs/Reading.antt, whose law says that these are the lines of the input, and all of them.
 ghost use Prim.Native.Nat.{_≤_};
-ghost use Rattle.console.specs.Short.{room};
-use crate::printing;
-use crate::printing::ROOM;
+ghost use Rattle.printing.specs.Short.{room};
 use counters::Counters;
 use libc::STDIN_FILENO;
 use lines::Command;
 use lines::Line;
 use lines::NEWLINE;
 use outcome::Change;
+use printing::ROOM;
 
 // What the lines so far left behind: the counters, and where the next row goes in the buffer.
 pub struct Done {

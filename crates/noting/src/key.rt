@@ -6,9 +6,9 @@ ghost use Rattle.forest.specs.Held.{holding};
 ghost use Rattle.build.specs.Labels.{label-of};
 ghost use Rattle.build.specs.Scratch.{parts};
 ghost use Rattle.build.specs.Access.{tables, Room, Fit, NoteAt};
-use linking::parts::held_start;
-use linking::parts::next_start;
-use linking::parts::sets_start;
+use parts::held_start;
+use parts::next_start;
+use parts::sets_start;
 use words::wide;
 
 pub fn is_held(scratch: &[u32], tabulation: &[u16], r: u32, s: u32, key: u32) -> bool

@@ -10,8 +10,8 @@ ghost use Rattle.build.specs.NotesCode.{noting-after, key-noted, held-key-noted
 use crate::key::is_held;
 use crate::key::note_at;
 use build::StashCount;
-use linking::parts::sets_start;
-use linking::parts::stash_start;
+use parts::sets_start;
+use parts::stash_start;
 use words::fill;
 use words::wide;
 

@@ -1,6 +1,7 @@
 -- What insert, remove and check answer and leave (Outcome): the definitions. Then their laws: for all inputs (Laws), and for a dictionary that holds a set
--- (Held); and document 01's board as calls (Board).
+-- (Held); demands 1 and 2, each as one theorem (Demands); and document 01's board as calls (Board).
 pub mod Outcome
 pub mod Laws
 pub mod Held
+pub mod Demands
 pub mod Board

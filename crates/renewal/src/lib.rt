@@ -8,9 +8,9 @@ ghost use Rattle.build.specs.Outcome.{Buildable};
 ghost use Rattle.outcome.specs.Laws.{Ready};
 ghost use Rattle.renewal.specs.Reading.{early-refusal, number, values, reading-refusal, reading-values, new-answer, new-words};
 use build::StashCount;
+use built::matches_built;
+use built::write_built;
 use codec::collect::collect_keys;
-use parts::matches_built;
-use parts::write_built;
 use refusals::SHORT_SCRATCH;
 use refusals::STASH_FULL;
 use refusals::WRONG_SHAPE;
@@ -18,7 +18,7 @@ use refusals::WRONG_TABULATION;
 use tabulation::TABULATION_LENGTH;
 use words::fill;
 
-mod parts;
+mod built;
 
 // What reading words as a set gives: how many keys it has, or that they are the image of no set.
 pub enum Reading {

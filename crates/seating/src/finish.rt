@@ -5,10 +5,10 @@ ghost use Rattle.build.specs.Scratch.{parts, glue};
 ghost use Rattle.build.specs.Access.{tables, Room};
 ghost use Rattle.build.specs.Passes.{finished-parts};
 ghost use Rattle.build.specs.FinishCode.{label-finished};
-use linking::parts::held_start;
-use linking::parts::next_start;
-use linking::parts::sets_start;
 use noting::key::is_held;
+use parts::held_start;
+use parts::next_start;
+use parts::sets_start;
 use words::wide;
 
 // The component of label l: a tree if its note is held, and otherwise the note closes its cycle. No note: it has no keys.

@@ -10,7 +10,6 @@ ghost use Rattle.build.specs.NextCode.{Chainable};
 ghost use Rattle.build.specs.Whole.{noted-from, seated-from, whole-noting};
 ghost use Rattle.build.specs.Outcome.{Buildable, Built};
 use build::StashCount;
-use linking::link;
 use noting::notes;
 
 mod finish;
@@ -22,8 +21,8 @@ fn prepare(scratch: &mut [u32], tabulation: &[u16], r: u32, s: u32, n: usize) ->
     ensures prepared { λ _. ⌜ now (scratch .exit) ≡ glue (noted-from (record { tabulation = now (tabulation .entry); slots = r }) s n (parts r s (now (scratch .entry)))) ⌝ }
     ensures counted { λ k. ⌜ k ≡ answer (whole-noting (record { tabulation = now (tabulation .entry); slots = r }) s n (parts r s (now (scratch .entry)))) ⌝ }
 {
-    link::link_keys(&mut *scratch, tabulation, r, s, n);
-    link::label_slots(&mut *scratch, r, s);
+    linking::link_keys(&mut *scratch, tabulation, r, s, n);
+    linking::label_slots(&mut *scratch, r, s);
     notes::note_keys(&mut *scratch, tabulation, r, s, n)
 }
 

@@ -6,11 +6,11 @@ ghost use Rattle.build.specs.Scratch.{parts, glue};
 ghost use Rattle.build.specs.Access.{tables, Enough, Room, Fit};
 ghost use Rattle.build.specs.Passes.{last-seen-parts, chained-parts, blanked-parts};
 ghost use Rattle.build.specs.NextCode.{seat-in, label-at, Readable, Chainable, key-seen, slot-put, key-put, key-chained};
-use linking::parts::held_start;
-use linking::parts::next_start;
-use linking::parts::sets_start;
 use noting::key::is_held;
 use noting::key::note_at;
+use parts::held_start;
+use parts::next_start;
+use parts::sets_start;
 use words::wide;
 
 // One key of the first pass: held, it is now the last seen of its label.

@@ -1,0 +1,74 @@
+// The listing at the end: a row for each filled slot in order, then a row for each stashed key.
+ghost use Prim.Native.Nat.{_≤_};
+ghost use lib.ListN.{length};
+ghost use Rattle.layout.specs.Shape.{Shaped};
+ghost use Rattle.printing.specs.Short.{room};
+use crate::ROOM;
+use access::HEADER_LENGTH;
+use access::SLOT_WIDTH;
+use words::wide;
+
+// One slot, if it is filled.
+fn list_slot(out: &mut [u8; ROOM], at: usize, table: u32, slot: u32, key: u32, next: u32) -> usize
+    requires { ⌜ at ≤ room ⌝ }
+    ensures { λ end. ⌜ end ≤ room ⌝ }
+{
+    if key == 0 {
+        return at;
+    }
+    crate::add_slot(out, at, table, slot, key, next)
+}
+
+// The filled slots of one table.
+fn list_table(slots: &[u32], table: u32, out: &mut [u8; ROOM], start: usize) -> usize
+    requires { ⌜ (length (now slots) ≤ 2048) × (start ≤ room) ⌝ }
+    ensures { λ end. ⌜ end ≤ room ⌝ }
+{
+    let mut at = start;
+    let mut slot: u32 = 0;
+    while SLOT_WIDTH * wide(slot) + 1 < slots.len() {
+        let key = slots[SLOT_WIDTH * wide(slot)];
+        let next = slots[SLOT_WIDTH * wide(slot) + 1];
+        at = list_slot(&mut *out, at, table, slot, key, next);
+        slot += 1;
+    }
+    at
+}
+
+// The stashed keys.
+fn list_stash(keys: &[u32], out: &mut [u8; ROOM], start: usize) -> usize
+    requires { ⌜ start ≤ room ⌝ }
+    ensures { λ end. ⌜ end ≤ room ⌝ }
+{
+    let mut at = start;
+    let mut i = 0;
+    while i < keys.len() {
+        at = crate::add_stashed(&mut *out, at, keys[i]);
+        i += 1;
+    }
+    at
+}
+
+// The slots of both tables, then the stash.
+fn list_words(words: &[u32], out: &mut [u8; ROOM], start: usize) -> usize
+    requires { ⌜ Shaped (now words) × (start ≤ room) ⌝ }
+    ensures { λ end. ⌜ end ≤ room ⌝ }
+{
+    let r = words[0];
+    let middle = HEADER_LENGTH + SLOT_WIDTH * wide(r);
+    let end = access::stash_start(r);
+    let second = list_table(&words[HEADER_LENGTH..middle], 0, &mut *out, start);
+    let third = list_table(&words[middle..end], 1, &mut *out, second);
+    list_stash(access::stash(words), &mut *out, third)
+}
+
+// Words that do not have the shape of a dictionary have no listing.
+pub fn list(words: &[u32], out: &mut [u8; ROOM], start: usize) -> usize
+    requires { ⌜ start ≤ room ⌝ }
+    ensures { λ end. ⌜ end ≤ room ⌝ }
+{
+    if access::is_shaped(words) {
+        return list_words(words, out, start);
+    }
+    start
+}

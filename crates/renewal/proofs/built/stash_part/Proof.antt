@@ -1,0 +1,43 @@
+-- `renewal::built::stash_part` meets its contract: s words from where the stash begins.
+use mathlib.Core.Path.{refl}
+use Rattle.renewal.specs.Parts.{stash-lent}
+use borrow.Author.Needs.{needs}
+use Rattle.renewal.proofs.built.stash_part.Statement.{statement}
+use Rattle.renewal.proofs.built.stash_part.Tie as tie
+
+stash-start-requires : tie.Need-stash-start-requires
+stash-start-requires c κs = search needs
+
+wide-requires : tie.Need-wide-requires
+wide-requires c κs = search needs
+
+add-end : tie.Need-add-end
+add-end c = search needs
+
+mul-result : tie.Need-mul-result
+mul-result c = search needs
+
+sub-result : tie.Need-sub-result
+sub-result c = search needs
+
+part-result-start : tie.Need-part-result-start
+part-result-start c = search needs
+
+part-result-end : tie.Need-part-result-end
+part-result-end c = search needs
+
+returns : tie.Need-returns
+returns c = (stash-lent _ _ _ (c .before .before .stash-start .ensures) (c .before .wide .ensures) refl, search needs)
+
+pub stash-part-spec : {M : Type 1} → statement M
+stash-part-spec =
+    tie.close
+    (tie.spec
+    stash-start-requires
+    wide-requires
+    add-end
+    mul-result
+    sub-result
+    part-result-start
+    part-result-end
+    returns)
