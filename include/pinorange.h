@@ -1,8 +1,8 @@
 /* The card list of a pump head: a dictionary in lent words whose content is a function of the set of keys alone (libpinorange.a).
  *
  * Every call below is proved: it reads and writes nothing outside the memory that it is lent, for every content and length, and returns. What each
- * call promises is stated in crates/pinorange/src/lib.rt; docs/01-scope.md has the table of numbers, in the words of the trade: key is its card, slot
- * its pocket, table its rack, stash its drawer, tabulation its spread book, scratch its work sheet, counters its meter, words its list.
+ * call promises is stated in crates/pinorange/src/lib.rt; docs/SPECIFICATION.md has the table of numbers, docs/GLOSSARY.md the words of the trade: key is its
+ * card, slot its pocket, table its rack, stash its drawer, tabulation its spread book, scratch its work sheet, counters its meter, words its list.
  *
  * What the caller sees to: no pointer is null (a length of 0 needs one, too), pointers are aligned, and no two lent pieces of memory overlap. One
  * tabulation goes with a dictionary; under another its words are, in general, the image of no set (4). No call keeps state of its own. The promises hold when

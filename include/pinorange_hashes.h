@@ -1,7 +1,8 @@
 /* The hashes of a key, for whoever links the hashing alone (libtabulation.a), without the dictionary. libpinorange.a has this call, too: link one of the two.
  *
  * The function below is proved: it reads nothing outside the `length` entries it is lent, writes nothing but the two
- * out-parameters, and returns for every input. The promise is stated in crates/tabulation/src/lib.rt. */
+ * out-parameters, and returns for every input. The promise is stated in crates/tabulation/src/lib.rt,
+ * the words of the trade in docs/GLOSSARY.md: key is its card, slot its pocket, table its rack, tabulation its spread book. */
 #ifndef PINORANGE_HASHES_H
 #define PINORANGE_HASHES_H
 
@@ -11,6 +12,9 @@
 #ifdef __cplusplus
 extern "C" {
 #endif
+
+/* The version of the library and of the layout of the words. Heads whose first numbers differ must not be mixed: see CHANGELOG.md. */
+#define PINORANGE_VERSION "1.0.0"
 
 /* The numbers that a call answers. */
 #define PINORANGE_DONE 0u             /* accepted */
