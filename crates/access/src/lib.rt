@@ -1,15 +1,18 @@
-// Words read in place: the shape test, lookup, the stash view; and the laying of fresh words. Every call takes words of any content and length, and
-// promises its whole answer by a definition of layout/specs/Answers.antt.
+// Words read in place: the shape test, lookup, the stash view; and the laying of fresh words. Every call takes words of
+// any content and length, and promises its whole answer by a definition of layout/specs/Answers.antt.
 ghost use mathlib.Core.Path.{_≡_};
+ghost use mathlib.Core.List.{_++_};
 ghost use Prim.Native.Nat.{_+_, _*_, _≤_, _<_};
 ghost use lib.Dec.{eqb};
-ghost use lib.ListN.{length, getD};
+ghost use lib.ListN.{length, getD, take, drop};
 ghost use Rattle.basics.specs.Sets.{member};
 ghost use Rattle.tabulation.specs.Hash.{tabulation-length, max-slots};
-ghost use Rattle.layout.specs.Layout.{sizes-in-range, shaped, words-length, scratch-length, key-at, stash-at};
+ghost use Rattle.layout.specs.Layout.{header-words, header-length, slot-width, slots-of, places-of, key-count, stash-count, sizes-in-range, shaped, words-length, scratch-length, key-at, stash-at};
 ghost use Rattle.layout.specs.Shape.{Sized, Shaped};
 ghost use Rattle.layout.specs.Answers.{number, values, lookup-refusal, lookup-values, stands, view-refusal, view-of, fresh-refusal, fresh-words};
 use layout::Found;
+use layout::Header;
+use layout::Slot;
 use refusals::BLANK_KEY;
 use refusals::NOT_CANONICAL;
 use refusals::WRONG_SHAPE;
@@ -32,6 +35,66 @@ pub fn are_sizes(r: u32, s: u32) -> bool
     ensures { λ b. ⌜ b ≡ sizes-in-range r s ⌝ }
 {
     tabulation::in_range(r) && s <= MAX_PLACES
+}
+
+// The heading of words that are long enough to have one.
+pub fn read_header(words: &[u32]) -> Header
+    requires { ⌜ header-length ≤ length (now words) ⌝ }
+    ensures slots { λ h. ⌜ h .slots ≡ slots-of (now (words .entry)) ⌝ }
+    ensures places { λ h. ⌜ h .places ≡ places-of (now (words .entry)) ⌝ }
+    ensures keys { λ h. ⌜ h .keys ≡ key-count (now (words .entry)) ⌝ }
+    ensures stashed { λ h. ⌜ h .stashed ≡ stash-count (now (words .entry)) ⌝ }
+{
+    Header {
+        slots: words[0],
+        places: words[1],
+        keys: words[2],
+        stashed: words[3],
+    }
+}
+
+// Writes the heading. The words behind it stay.
+pub fn write_header(words: &mut [u32], header: Header)
+    requires { ⌜ header-length ≤ length (now words) ⌝ }
+    ensures { λ _. ⌜ now (words .exit) ≡ header-words header ++ drop header-length (now (words .entry)) ⌝ }
+{
+    words[0] = header.slots;
+    words[1] = header.places;
+    words[2] = header.keys;
+    words[3] = header.stashed;
+}
+
+// Slot v of a stretch of slots.
+pub fn slot_in(slots: &[u32], v: usize) -> Slot
+    requires { ⌜ slot-width * v + slot-width ≤ length (now slots) ⌝ }
+    ensures key { λ x. ⌜ x .key ≡ getD (now (slots .entry)) (slot-width * v) 0 ⌝ }
+    ensures next { λ x. ⌜ x .next ≡ getD (now (slots .entry)) (slot-width * v + 1) 0 ⌝ }
+{
+    Slot {
+        key: slots[SLOT_WIDTH * v],
+        next: slots[SLOT_WIDTH * v + 1],
+    }
+}
+
+// The slots of table 0, and those of table 1: parts of the lent words.
+pub fn table_0(words: &[u32]) -> &[u32]
+    requires { ⌜ Shaped (now words) ⌝ }
+    ensures part { λ t. ⌜ now t ≡ take (slot-width * slots-of (now (words .entry))) (drop header-length (now (words .entry))) ⌝ }
+    ensures sized { λ t. ⌜ length (now t) ≡ slot-width * slots-of (now (words .entry)) ⌝ }
+{
+    let end = HEADER_LENGTH + SLOT_WIDTH * wide(words[0]);
+    &words[HEADER_LENGTH..end]
+}
+
+pub fn table_1(words: &[u32]) -> &[u32]
+    requires { ⌜ Shaped (now words) ⌝ }
+    ensures part { λ t. ⌜ now t ≡ take (slot-width * slots-of (now (words .entry)))
+        (drop (key-at (slots-of (now (words .entry)))) (now (words .entry))) ⌝ }
+    ensures sized { λ t. ⌜ length (now t) ≡ slot-width * slots-of (now (words .entry)) ⌝ }
+{
+    let start = HEADER_LENGTH + SLOT_WIDTH * wide(words[0]);
+    let end = stash_start(words[0]);
+    &words[start..end]
 }
 
 // Where the stash begins.

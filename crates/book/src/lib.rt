@@ -1,4 +1,5 @@
-// The bytes of book.bin, in which a tabulation is kept: each entry as two bytes, the low byte first. Both ways, with no file in sight.
+// The bytes of book.bin, in which a tabulation is kept: each entry as two bytes, the low byte first. Both ways, with no
+// file in sight.
 ghost use Prim.Native.Nat.{_+_, _*_, _/_, _%_};
 ghost use mathlib.Core.Path.{_≡_};
 ghost use lib.ListN.{length};

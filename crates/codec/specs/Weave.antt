@@ -121,15 +121,6 @@ module _ {slots held next : List ℕ} (W : Weavable slots held next) (v : ℕ) w
   pub overlaid-slots : length held ≤ v → overlaid slots (woven held next) (2 * v) ≡ woven held next
   overlaid-slots l = let e = woven-fit W in overlaid-end slots (woven held next) (2 * v) e (omega arith)
 
--- the heading
-pub headed : (ws : List ℕ) (r s keys stashed : ℕ) → header-length ≤ length ws
-    → set (set (set (set ws 0 r) 1 s) 2 keys) 3 stashed ≡ r ∷ s ∷ keys ∷ stashed ∷ drop header-length ws
-headed [] r s keys stashed l = absurd (omega arith)
-headed (a ∷ []) r s keys stashed l = absurd (omega arith)
-headed (a ∷ b ∷ []) r s keys stashed l = absurd (omega arith)
-headed (a ∷ b ∷ c ∷ []) r s keys stashed l = absurd (omega arith)
-headed (a ∷ b ∷ c ∷ d ∷ ws) r s keys stashed l = refl
-
 -- all words from m on, and what comes after them
 module _ (m : ℕ) (xs : List ℕ) where
   rest-all : midOf m (length xs - m) xs ≡ drop m xs

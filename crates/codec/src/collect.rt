@@ -1,5 +1,6 @@
-// The keys that stand in given words, ascending, at the front of scratch: the words that are not 0 are gathered, sorted, and doubles are dropped.
-// The words need only the shape of a dictionary: whether they are canonical is found out later, from these keys.
+// The keys that stand in given words, ascending, at the front of scratch: the words that are not 0 are gathered,
+// sorted, and doubles are dropped. The words need only the shape of a dictionary: whether they are canonical is found
+// out later, from these keys.
 ghost use mathlib.Core.Path.{_≡_};
 ghost use mathlib.Core.List.{_++_};
 ghost use Prim.Native.Nat.{_+_, _*_, _≤_, _<_};
@@ -15,8 +16,8 @@ use ordered::drop_doubles;
 use sorting::sort;
 use words::wide;
 
-// Of `count` words from `from` on, each `step` after the one before, those that are not 0 come behind the first `n` words of scratch. The answer is how
-// many words these are then.
+// Of `count` words from `from` on, each `step` after the one before, those that are not 0 come behind the first `n`
+// words of scratch. The answer is how many words these are then.
 fn gather(
     words: &[u32],
     from: usize,
@@ -44,14 +45,16 @@ fn gather(
     end
 }
 
-// The key words of the slots, then the stash, without the zeros, come to the front of scratch. The answer is how many they are.
+// The key words of the slots, then the stash, without the zeros, come to the front of scratch. The answer is how many
+// they are.
 fn gather_keys(words: &[u32], scratch: &mut [u32]) -> usize
     requires { ⌜ Shaped (now words) × (2 * slots-of (now words) + places-of (now words) ≤ length (now scratch)) ⌝ }
     ensures front { λ n. ⌜ take n (now (scratch .exit)) ≡ nonzero (key-words (now (words .entry))) ⌝ }
     ensures counted { λ n. ⌜ n ≡ length (nonzero (key-words (now (words .entry)))) ⌝ }
 {
-    let r = words[0];
-    let s = words[1];
+    let header = access::read_header(words);
+    let r = header.slots;
+    let s = header.places;
     let n = gather(
         words,
         HEADER_LENGTH,
@@ -72,8 +75,8 @@ fn make_set(keys: &mut [u32]) -> usize
     drop_doubles(&mut *keys)
 }
 
-// The keys that stand in the words come to the front of scratch, ascending, each once. The answer is how many they are. What was in scratch has no
-// effect.
+// The keys that stand in the words come to the front of scratch, ascending, each once. The answer is how many they are.
+// What was in scratch has no effect.
 pub fn collect_keys(words: &[u32], scratch: &mut [u32]) -> usize
     requires { ⌜ Shaped (now words) × (2 * slots-of (now words) + places-of (now words) ≤ length (now scratch)) ⌝ }
     ensures front { λ n. ⌜ take n (now (scratch .exit)) ≡ keys-in (now (words .entry)) ⌝ }

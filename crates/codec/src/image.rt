@@ -1,15 +1,15 @@
-// An image in its parts (specs/Assembled.antt: what the slots hold, their next numbers, the stash): whether given words are it, and the writing of it into
-// words. The parts are lent as they are, so that nothing here knows where they lie.
+// An image in its parts (specs/Assembled.antt: what the slots hold, their next numbers, the stash): whether given words
+// are it, and the writing of it into words. The parts are lent as they are, so that nothing here knows where they lie.
 ghost use mathlib.Core.Path.{_≡_};
 ghost use Prim.Native.Nat.{_*_, _≤_, _<_};
-ghost use mathlib.Core.List.{_∷_};
-ghost use lib.ListN.{length, drop};
-ghost use Rattle.layout.specs.Layout.{header-length, slots-of, places-of};
+ghost use lib.ListN.{length};
+ghost use Rattle.layout.specs.Layout.{slots-of, places-of};
 ghost use Rattle.basics.specs.Lists.{same};
 ghost use Rattle.codec.specs.Assembled.{woven, assembled};
 ghost use Rattle.codec.specs.Weave.{Comparable, Writable, Weavable, slot-same};
 use access::HEADER_LENGTH;
 use access::SLOT_WIDTH;
+use layout::Header;
 use words::wide;
 
 // Whether the key and the next word of a slot are those of the parts.
@@ -50,7 +50,8 @@ fn same_words(words: &[u32], others: &[u32]) -> bool
     true
 }
 
-// Whether the words, which have the shape of a dictionary, are the image with these counts and parts. What words 0 and 1 say is r and s already.
+// Whether the words, which have the shape of a dictionary, are the image with these counts and parts. What words 0 and
+// 1 say is r and s already.
 pub fn matches(
     words: &[u32],
     keys: usize,
@@ -63,28 +64,18 @@ pub fn matches(
     ensures { λ b. ⌜ b ≡ same (now (words .entry)) (assembled (slots-of (now (words .entry))) (places-of (now (words .entry))) keys stashed
         (now (held .entry)) (now (next .entry)) (now (stash .entry))) ⌝ }
 {
-    if wide(words[2]) != keys {
+    let header = access::read_header(words);
+    if wide(header.keys) != keys {
         return false;
     }
-    if words[3] != stashed {
+    if header.stashed != stashed {
         return false;
     }
-    let rest = access::stash_start(words[0]);
+    let rest = access::stash_start(header.slots);
     if !same_slots(&words[HEADER_LENGTH..rest], held, next) {
         return false;
     }
     same_words(&words[rest..], stash)
-}
-
-// Writes the first four words.
-fn write_heading(words: &mut [u32], r: u32, s: u32, keys: u32, stashed: u32)
-    requires { ⌜ header-length ≤ length (now words) ⌝ }
-    ensures { λ _. ⌜ now (words .exit) ≡ r ∷ s ∷ keys ∷ stashed ∷ drop header-length (now (words .entry)) ⌝ }
-{
-    words[0] = r;
-    words[1] = s;
-    words[2] = keys;
-    words[3] = stashed;
 }
 
 // Writes key and next of all slots.
@@ -127,7 +118,13 @@ pub fn write_image(
     ensures { λ _. ⌜ now (words .exit) ≡ assembled r s keys stashed (now (held .entry)) (now (next .entry)) (now (stash .entry)) ⌝ }
 {
     let rest = access::stash_start(r);
-    write_heading(words, r, s, keys as u32, stashed);
+    let header = Header {
+        slots: r,
+        places: s,
+        keys: keys as u32,
+        stashed: stashed,
+    };
+    access::write_header(words, header);
     write_slots(&mut words[HEADER_LENGTH..rest], held, next);
     copy(&mut words[rest..], stash);
 }

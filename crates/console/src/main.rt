@@ -1,5 +1,5 @@
-// The console: book.bin and the lines of standard input in, rows on standard output. The grammar is that of `lines`, the rows are those of `rows`, the
-// calls those of `dictionary` and `layout`; here is only the reading and writing.
+// The console: book.bin and the lines of standard input in, rows on standard output. The grammar is that of `lines`,
+// the rows are those of `rows`, the calls those of `dictionary` and `layout`; here is only the reading and writing.
 mod session;
 
 ghost use Prim.Native.Nat.{_≤_};
@@ -30,7 +30,8 @@ enum Byte {
     End,
 }
 
-// Reads book.bin, and says whether it could be read and has as many bytes as a book: one byte more would be a longer file.
+// Reads book.bin, and says whether it could be read and has as many bytes as a book: one byte more would be a longer
+// file.
 fn read_book(bytes: &mut [u8; BOOK_BYTES]) -> bool {
     let file = os::open_read(b"book.bin");
     if file < 0 {
@@ -58,7 +59,8 @@ fn read_byte() -> Byte {
     Byte::Read(byte[0])
 }
 
-// Line 1. It is read byte by byte, so that nothing behind it is taken, and no further than to see that it is too long for a known form.
+// Line 1. It is read byte by byte, so that nothing behind it is taken, and no further than to see that it is too long
+// for a known form.
 fn first_line() -> Line {
     let mut line = lines::empty_line();
     let mut i = 0;

@@ -1,5 +1,5 @@
-// The lines after the first: each is answered by a row when its newline, or the end of the input, is read. Byte by byte this is a `Run` of
-// lines/specs/Reading.antt, whose law says that these are the lines of the input, and all of them.
+// The lines after the first: each is answered by a row when its newline, or the end of the input, is read. Byte by byte
+// this is a `Run` of lines/specs/Reading.antt, whose law says that these are the lines of the input, and all of them.
 ghost use Prim.Native.Nat.{_≤_};
 ghost use Rattle.printing.specs.Short.{room};
 use counters::Counters;
@@ -204,7 +204,8 @@ fn turn(
     }
 }
 
-// The input to its end. Nothing says that an input ends, so the turns are counted down from a number that no run uses up.
+// The input to its end. Nothing says that an input ends, so the turns are counted down from a number that no run uses
+// up.
 fn take_input(
     tabulation: &[u16],
     words: &mut [u32],

@@ -1,5 +1,5 @@
-// The counters (document 01's "meter"), by value: a call of init, insert or remove moves one of the two counts on, and nothing depends on them. The calls that
-// hold them by reference are in `pinorange`.
+// The counters (document 01's "meter"), by value: a call of init, insert or remove moves one of the two counts on, and
+// nothing depends on them. The calls that hold them by reference are in `pinorange`.
 ghost use mathlib.Core.Path.{_≡_};
 ghost use Rattle.counters.specs.Counters.{one-more, counted};
 

@@ -1,6 +1,6 @@
-// Insert, remove and check: their whole outcome but the counters. All three start alike: the words are read as a set, that
-// set is built anew in scratch, and the words must be its image. Then the set changes, is built again, and is written. There
-// are no incremental cases.
+// Insert, remove and check: their whole outcome but the counters. All three start alike: the words are read as a set,
+// that set is built anew in scratch, and the words must be its image. Then the set changes, is built again, and is
+// written. There are no incremental cases.
 ghost use mathlib.Core.Path.{_≡_};
 ghost use Rattle.dictionary.specs.Core.{Settable, set-answer, set-words};
 ghost use Rattle.outcome.specs.Outcome.{change-outcome, check-outcome};
@@ -27,7 +27,8 @@ fn insert_key(tabulation: &[u16], words: &mut [u32], scratch: &mut [u32], n: usi
     if ordered::has(&scratch[..n], key) {
         return KEY_PRESENT;
     }
-    if wide(2 * words[0] + words[1]) <= n {
+    let header = access::read_header(&*words);
+    if wide(2 * header.slots + header.places) <= n {
         return STASH_FULL;
     }
     ordered::insert(&mut *scratch, n, key);

@@ -1,6 +1,7 @@
-// The oriented forest in `held`, a word for each of the 2r slots: the key that stands there, 0 for none. Each key leads from where it stands
-// to its other slot, towards the root of its tree, which is bare (specs/Oriented.antt). The tree of a slot is re-rooted there, and a component
-// is finished: afterwards each of its slots holds its occupant in the canonical image.
+// The oriented forest in `held`, a word for each of the 2r slots: the key that stands there, 0 for none. Each key leads
+// from where it stands to its other slot, towards the root of its tree, which is bare (specs/Oriented.antt). The tree
+// of a slot is re-rooted there, and a component is finished: afterwards each of its slots holds its occupant in the
+// canonical image.
 ghost use mathlib.Core.Path.{_≡_};
 ghost use Prim.Native.Nat.{_*_, _≤_, _<_};
 ghost use lib.ListN.{length};
@@ -18,8 +19,8 @@ fn other_slot(tabulation: &[u16], r: u32, slot: u32, key: u32) -> u32
     tabulation::first_slot(tabulation, r, key)
 }
 
-// Makes `slot` the root of its tree, and leaves the key `carry` there: every key on the way to the old root moves to its other slot.
-// No way is longer than there are slots, which bounds the loop.
+// Makes `slot` the root of its tree, and leaves the key `carry` there: every key on the way to the old root moves to
+// its other slot. No way is longer than there are slots, which bounds the loop.
 pub fn reroot(held: &mut [u32], tabulation: &[u16], r: u32, slot: u32, carry: u32)
     requires { ⌜ (length (now held) ≡ 2 * r) × (length (now tabulation) ≡ tabulation-length) × (0 < r) × (r ≤ max-slots) × (slot < 2 * r) ⌝ }
     ensures { λ _. ⌜ now (held .exit) ≡ rerooted (record { tabulation = now (tabulation .entry); slots = r }) (now (held .entry)) carry slot ⌝ }
@@ -70,7 +71,8 @@ pub fn finish_tree(held: &mut [u32], tabulation: &[u16], r: u32, key: u32)
     reroot(&mut *held, tabulation, r, first, key);
 }
 
-// The key in the slot `low` goes out of the tree, `key` comes in at its slot in table 1, and the tree is re-rooted at the other's slot in table 0.
+// The key in the slot `low` goes out of the tree, `key` comes in at its slot in table 1, and the tree is re-rooted at
+// the other's slot in table 0.
 fn exchange(held: &mut [u32], tabulation: &[u16], r: u32, key: u32, low: u32)
     requires { ⌜ (length (now held) ≡ 2 * r) × (length (now tabulation) ≡ tabulation-length) × (0 < r) × (r ≤ max-slots) × (low < 2 * r) ⌝ }
     ensures { λ _. ⌜ now (held .exit) ≡ exchanged (record { tabulation = now (tabulation .entry); slots = r }) (now (held .entry)) key low ⌝ }
@@ -83,7 +85,8 @@ fn exchange(held: &mut [u32], tabulation: &[u16], r: u32, key: u32, low: u32)
     reroot(&mut *held, tabulation, r, first, smallest);
 }
 
-// Finishes a component with a cycle, whose one key outside the forest is `key`: that comes in for the smallest key on the cycle.
+// Finishes a component with a cycle, whose one key outside the forest is `key`: that comes in for the smallest key on
+// the cycle.
 pub fn finish_cycle(held: &mut [u32], tabulation: &[u16], r: u32, key: u32)
     requires { ⌜ (length (now held) ≡ 2 * r) × (length (now tabulation) ≡ tabulation-length) × (0 < r) × (r ≤ max-slots) ⌝ }
     ensures { λ _. ⌜ now (held .exit) ≡ finished-cycle (record { tabulation = now (tabulation .entry); slots = r }) (now (held .entry)) key ⌝ }

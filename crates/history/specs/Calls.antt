@@ -23,11 +23,18 @@ abbrev pub lent-of : List ℕ → Lent → List ℕ
 lent-of t own = t
 lent-of t (wrong tabulation n) = tabulation
 
--- A call of another kind on the words: its real outcome, a number and the words, for all words. "Every refusal leaves list and book unchanged."
+-- an answer: document 01's number, and values (a lookup's 1 or 0, the words of a view, what a call of another kind
+-- gives, otherwise none)
+pub record Answer : Type 0 where
+  pub number : ℕ
+  pub values : List ℕ
+
+-- A call of another kind on the words: its real outcome, an answer and the words, for all words. "Every refusal leaves
+-- list and book unchanged."
 pub record Other : Type 0 where
-  pub answer : List ℕ → ℕ
+  pub answer : List ℕ → Answer
   pub words : List ℕ → List ℕ
-  pub leaves : (ws : List ℕ) → (answer ws ≡ done → ⊥) → words ws ≡ ws
+  pub leaves : (ws : List ℕ) → (answer ws .number ≡ done → ⊥) → words ws ≡ ws
 
 -- A call with its arguments, the words aside. "Sheets have any length and content, the meter any counts."
 pub data Call : Type 0 where
@@ -36,11 +43,6 @@ pub data Call : Type 0 where
   check : (tabulation : Lent) (scratch : List ℕ) → Call
   view : Call
   other : Other → Call
-
--- an answer: document 01's number, and values (a lookup's 1 or 0, the words of a view, otherwise none)
-pub record Answer : Type 0 where
-  pub number : ℕ
-  pub values : List ℕ
 
 -- what a call answers and leaves
 pub record Step : Type 0 where
@@ -58,7 +60,7 @@ step t ws (check l scratch) =
     let o = check-outcome (lent-of t l) ws scratch in
     record { answer = record { number = o .answer; values = [] }; words = o .words }
 step t ws view = record { answer = record { number = view-refusal ws; values = view-of ws }; words = ws }
-step t ws (other x) = record { answer = record { number = x .answer ws; values = [] }; words = x .words ws }
+step t ws (other x) = record { answer = x .answer ws; words = x .words ws }
 
 -- "Each call gets all the words that the last one left": the answer of each call, and the words after it
 unfoldable pub run : List ℕ → List ℕ → List Call → List Step
@@ -70,15 +72,22 @@ unfoldable pub words-after : List ℕ → List ℕ → List Call → List ℕ
 words-after t ws [] = ws
 words-after t ws (c ∷ cs) = words-after t (step t ws c .words) cs
 
--- "any other call on it may stand there if it is refused"
+-- Where a call of another kind may stand: on words that it leaves as they are.
+pub data OtherStands (ws : List ℕ) (x : Other) : Type 0 where
+  -- "any other call on it may stand there if it is refused", for then it leaves them (`leaves`);
+  refused : (x .answer ws .number ≡ done → ⊥) → OtherStands ws x
+  -- and so may one that does not change them, above all an accepted one that only reads
+  unchanged : x .words ws ≡ ws → OtherStands ws x
+
+-- "any run .. of adds, withdrawals, look-ups, checks and views": of these five kinds nothing is asked.
 abbrev pub MayStand : List ℕ → Call → Type 0
 MayStand ws (change kind l scratch counters key) = Unit {0}
 MayStand ws (lookup l key) = Unit {0}
 MayStand ws (check l scratch) = Unit {0}
 MayStand ws view = Unit {0}
-MayStand ws (other x) = x .answer ws ≡ done → ⊥
+MayStand ws (other x) = OtherStands ws x
 
--- whether it is refused is asked where it stands
+-- whether a call may stand is asked on the words that it gets
 pub data Allowed (t : List ℕ) : List ℕ → List Call → Type 0 where
   none : {ws : List ℕ} → Allowed t ws []
   more : {ws : List ℕ} {c : Call} {cs : List Call} → MayStand ws c → Allowed t (step t ws c .words) cs → Allowed t ws (c ∷ cs)
@@ -97,7 +106,7 @@ abbrev pub words-left : Params → List ℕ → List Call → List ℕ
 words-left P ws cs = words-after (P .tabulation) ws cs
 
 -- What "any later like call" means. "Like arguments are equal ones, what the work sheet and the meter hold aside." A call
--- of another kind is like one with the same outcome.
+-- of another kind is like one with the same outcome: number, values and words.
 pub data Like (t : List ℕ) : Call → Call → Type 0 where
   change : (kind : Change) {l l′ : Lent} {scratch scratch′ : List ℕ} (counters counters′ : Counters) (key : ℕ)
       → lent-of t l ≡ lent-of t l′ → length scratch ≡ length scratch′

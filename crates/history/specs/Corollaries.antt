@@ -1,5 +1,5 @@
--- What else follows from the theorem about whole sequences: the answers alone; which runs are sequences; a lookup tells the set; a removal undoes an
--- insert. Assumes nothing.
+-- What else follows from the theorem about whole sequences: the answers alone; which runs are sequences; a lookup tells
+-- the set; a refused call of another kind leaves words and set; a removal undoes an insert. Assumes nothing.
 use Prim.Native.Nat.{ℕ, _≤_}
 use mathlib.Core.Path.{_≡_, refl, sym, _∙_, ap}
 use mathlib.Core.Bool.{cond}
@@ -16,9 +16,11 @@ use Rattle.outcome.specs.declared.Change.the-variants.{Insert, Remove}
 use Rattle.counters.specs.declared.Counters.{Counters}
 use Rattle.outcome.specs.Laws.{change-tabulation}
 use Rattle.outcome.specs.Held.{held-undone}
-use Rattle.history.specs.Calls.{Lent, own, wrong, Other, Call, Step, step, run, words-left, Allowed, none, more, Sequence}
-use Rattle.history.specs.Model.{request, requests, Reply, lookup-tests, model, set-left}
-use Rattle.history.specs.History.{pictured, history, lookup-number, lookup-value}
+use Rattle.history.specs.Calls.{Lent, own, wrong, Other, Call, Answer, Step, step, run, words-left}
+use Rattle.history.specs.Calls.{MayStand, Allowed, none, more, Sequence}
+use Rattle.history.specs.Model.{Request, request, requests, Reply, lookup-tests, reply, model, set-left}
+use Rattle.history.specs.Reads.{lookup-number, lookup-value}
+use Rattle.history.specs.History.{pictured, history}
 
 -- the answers alone
 pub same-answers : {P : Params} {ws : List ℕ} {cs : List Call} → Sequence P ws cs
@@ -26,24 +28,34 @@ pub same-answers : {P : Params} {ws : List ℕ} {cs : List Call} → Sequence P 
 same-answers {P} {ws} {cs} q =
     ap (map (λ (o : Step). o .answer)) (history q .trace) ∙ map-map (λ (o : Step). o .answer) (pictured P) (model P [] (requests (P .tabulation) ws cs))
 
+-- What the next two laws need of a call of one of the five kinds: nothing is asked of the words where it stands, and
+-- nothing that it answered is fed to the model. One line for each kind of call.
+record Known (c : Call) : Type 0 where
+  stands : (ws : List ℕ) → MayStand ws c
+  fed : (a a′ : Answer) → request c a ≡ request c a′
+
+known : (c : Call) → ((x : Other) → Call.other x ≡ c → ⊥) → Known c
+known (Call.change kind l scratch counters key) n = record { stands = λ ws. tt; fed = λ a a′. refl }
+known (Call.lookup l key) n = record { stands = λ ws. tt; fed = λ a a′. refl }
+known (Call.check l scratch) n = record { stands = λ ws. tt; fed = λ a a′. refl }
+known Call.view n = record { stands = λ ws. tt; fed = λ a a′. refl }
+known (Call.other x) n = absurd (n x refl)
+
 -- Any run of the five kinds of calls is a sequence, refused ones included: only calls of another kind are asked about.
 pub any-run : (t ws : List ℕ) (cs : List Call) → ((x : Other) → In (Call.other x) cs → ⊥) → Allowed t ws cs
 any-run t ws [] n = none
-any-run t ws (Call.change kind l scratch counters key ∷ cs) n = more tt (any-run t _ cs (λ x i. n x (there i)))
-any-run t ws (Call.lookup l key ∷ cs) n = more tt (any-run t _ cs (λ x i. n x (there i)))
-any-run t ws (Call.check l scratch ∷ cs) n = more tt (any-run t _ cs (λ x i. n x (there i)))
-any-run t ws (Call.view ∷ cs) n = more tt (any-run t _ cs (λ x i. n x (there i)))
-any-run t ws (Call.other x ∷ cs) n = absurd (n x (here refl))
+any-run t ws (c ∷ cs) n =
+    more (known c (λ x e. n x (here e)) .stands ws) (any-run t (step t ws c .words) cs (λ x i. n x (there i)))
 
--- "of the list it knows only what lay was given": what the model is fed of the five kinds of calls does not depend on the words.
-pub fed-alike : (t ws : List ℕ) (cs : List Call) → ((x : Other) → In (Call.other x) cs → ⊥) → requests t ws cs ≡ map (λ c. request c done) cs
+-- "of the list it knows only what lay was given": what the model is fed of the five kinds of calls does not depend on
+-- the words, nor on what was answered (a may be any answer).
+pub fed-alike : (t ws : List ℕ) (cs : List Call) (a : Answer) → ((x : Other) → In (Call.other x) cs → ⊥)
+    → requests t ws cs ≡ map (λ c. request c a) cs
 unfolding requests
-fed-alike t ws [] n = refl
-fed-alike t ws (Call.change kind l scratch counters key ∷ cs) n = rw (fed-alike t _ cs (λ x i. n x (there i)))
-fed-alike t ws (Call.lookup l key ∷ cs) n = rw (fed-alike t _ cs (λ x i. n x (there i)))
-fed-alike t ws (Call.check l scratch ∷ cs) n = rw (fed-alike t _ cs (λ x i. n x (there i)))
-fed-alike t ws (Call.view ∷ cs) n = rw (fed-alike t _ cs (λ x i. n x (there i)))
-fed-alike t ws (Call.other x ∷ cs) n = absurd (n x (here refl))
+fed-alike t ws [] a n = refl
+fed-alike t ws (c ∷ cs) a n =
+    let o = step t ws c in
+    rw (known c (λ x e. n x (here e)) .fed (o .answer) a, fed-alike t (o .words) cs a (λ x i. n x (there i)))
 
 -- the next call of a sequence
 
@@ -82,6 +94,14 @@ module _ {P : Params} {ws : List ℕ} {cs : List Call} (q : Sequence P ws cs) wh
     λ v i. let z : _≡_ {A = ℕ} 0 1 = cc (rw (in-member i) at (lookup-says l key e)) in omega arith,
     λ n. lookup-says l key e ∙ (rw (no-member key S n)),
   )
+
+  -- Document 01's case of a call of another kind, a refused one: "the register is fed the refusal, answers it, and the
+  -- set stays." So do the words.
+  pub refused-next : (x : Other) → (x .answer W .number ≡ done → ⊥)
+      → (reply P S (Request.other (x .answer W)) ≡ record { answer = step t W (Call.other x) .answer; set = S })
+      × (step t W (Call.other x) .words ≡ W)
+  unfolding step reply
+  refused-next x n = (refl, x .leaves W n)
 
   -- A removal straight after the accepted insert of the same key, with the sequence's tabulation and a long enough scratch, is accepted and brings
   -- back every word.

@@ -12,7 +12,8 @@ use Rattle.basics.specs.Sets.{without, below}
 use Rattle.cuckoo.specs.Placement.{Placement}
 use Rattle.ordered.specs.Keys.{with-key, above}
 use Rattle.refusals.specs.Refusal.{done, stash-full}
-use Rattle.tabulation.specs.Hash.{slots-in-range, blank}
+use Rattle.tabulation.specs.Hash.{slots-in-range, blank, hash}
+use Rattle.tabulation.specs.Answer.{hashes-refusal, hashes-values}
 use Rattle.tabulation.specs.Slots.{slot-0, slot-1}
 use Rattle.layout.specs.Layout.{Params, family, sizes-in-range, shaped, stash-of, fits, image}
 use Rattle.layout.specs.Answers.{view-refusal, view-of, fresh-refusal, fresh-words}
@@ -22,12 +23,12 @@ use Rattle.layout.specs.Board.{board-tabulation, board-length, board, Shown, Fu
 use Rattle.outcome.specs.declared.Change.the-variants.{Insert, Remove}
 use Rattle.counters.specs.declared.Counters.{Counters}
 use Rattle.history.specs.Calls.{own, wrong, Call, Answer, Step, step, run, words-after, words-left}
-use Rattle.history.specs.Calls.{Allowed, none, more, Sequence}
+use Rattle.history.specs.Calls.{refused, unchanged, Allowed, none, more, Sequence}
 use Rattle.history.specs.Model.{Request, requests, Reply, reply, model, set-after, set-left}
 use Rattle.history.specs.History.{history}
-use Rattle.history.specs.NoTrace.{ComesToFull, step-after, NoTrace, alike-self, no-trace}
+use Rattle.history.specs.NoTrace.{ComesToFull, step-after, NoTrace, part, alike-self, no-trace}
 use Rattle.history.specs.Corollaries.{same-answers}
-use Rattle.history.specs.Others.{init}
+use Rattle.history.specs.Others.{init, reads, hashes}
 
 -- the calls
 
@@ -51,6 +52,10 @@ remove key = Call.change Remove own scratch counters key
 abbrev says : ℕ → List ℕ → Answer
 says n values = record { number = n; values = values }
 
+-- a call of another kind that only reads the words: how many keys they say that they hold, word 2
+abbrev pub count : Call
+count = Call.other (reads (λ ws. says 0 (getD ws 2 0 ∷ [])))
+
 -- each call with its answer
 abbrev pub script : List (Call × Answer)
 script =
@@ -60,6 +65,8 @@ script =
     ∷ (insert 129, says 0 [])
     -- "K6 K5 plus 193: refused 8"
     ∷ (insert 193, says 8 [])
+    -- a call of another kind that is accepted and leaves the words
+    ∷ (count, says 0 (3 ∷ []))
     -- a tabulation of a wrong length, a scratch of 35 words, a blank key, a key that is in the set
     ∷ (Call.change Insert (wrong [] (λ e. omega arith)) scratch counters 17, says 1 [])
     ∷ (Call.change Insert own (replicate 35 9) counters 17, says 3 [])
@@ -67,6 +74,8 @@ script =
     ∷ (insert 65, says 6 [])
     -- "any other call on it may stand there if it is refused": init with r = 0
     ∷ (Call.other (init 0 1), says 2 [])
+    -- another one that is accepted: the hashes of 65, "0.1" and "1.0"
+    ∷ (Call.other (hashes (family P) 65), says 0 (1 ∷ 0 ∷ []))
     ∷ (Call.lookup own 65, says 0 (1 ∷ []))
     ∷ (Call.lookup own 193, says 0 (0 ∷ []))
     ∷ (remove 7, says 7 [])
@@ -100,12 +109,14 @@ init-refused ws e = omega arith
 init-more : {ws : List ℕ} {cs : List Call}
     → Allowed board-tabulation (step board-tabulation ws (Call.other (init 0 1)) .words) cs
     → Allowed board-tabulation ws (Call.other (init 0 1) ∷ cs)
-init-more {ws} rest = more (init-refused ws) rest
+init-more {ws} rest = more (refused (init-refused ws)) rest
 
+-- The two calls that leave the words may stand anywhere.
 may-stand : Allowed board-tabulation fresh calls
 may-stand =
-    let rest = more tt (more tt (more tt (more tt (more tt none)))) in
-    more tt (more tt (more tt (more tt (more tt (more tt (more tt (more tt (init-more rest))))))))
+    let rest = more (unchanged refl) (more tt (more tt (more tt (more tt (more tt none))))) in
+    let middle = more (unchanged refl) (more tt (more tt (more tt (more tt (init-more rest))))) in
+    more tt (more tt (more tt (more tt middle)))
 
 -- It is a sequence: the list had 21 words, all 7, before it was laid.
 pub sequence : Sequence P fresh calls
@@ -163,28 +174,53 @@ unfolding reply with-key below above blank
 goes-first g =
     next (rw (board-length, fits-one)) (next (rw (board-length, fits-two)) (next (rw (board-length, K5 .fit)) g))
 
--- and all of them. Of the second init the register is fed the refusal.
+-- the fourth, after which the words are those of K5 still, so that they say 3 keys,
+abbrev first-four : List Call
+first-four = insert 1 ∷ insert 65 ∷ insert 129 ∷ insert 193 ∷ []
+
+goes-fourth : {qs : List Request} {ms : List Reply} {T : List ℕ} → Goes keys qs ms T
+    → Goes keys (Request.change Insert own 36 193 ∷ qs) (to 8 [] keys ∷ ms) T
+unfolding reply with-key below above blank
+goes-fourth g = next (rw (board-length, K6 .unfit)) g
+
+four-words : words-left P fresh first-four ≡ words
+unfolding requests
+four-words =
+    let set = goes-first (goes-fourth (stop keys)) .set in
+    history (part first-four (drop 4 calls) sequence) .final .is .is ∙ (ap (image P) set ∙ K5 .words-are)
+
+count-says : getD (words-left P fresh first-four) 2 0 ≡ 3
+count-says = rw four-words
+
+hashes-say : (hashes-refusal (family P) 65 ≡ 0) × (hashes-values (family P) 65 ≡ 1 ∷ 0 ∷ [])
+unfolding hashes-refusal hashes-values slots-in-range hash blank board-tabulation
+hashes-say = (refl, refl)
+
+-- and all of them. Of the second init the register is fed the refusal, of the two calls that leave the words what they
+-- answered.
 goes : Goes []
     (requests board-tabulation fresh calls)
     (to 0 [] (1 ∷ [])
     ∷ to 0 [] (1 ∷ 65 ∷ [])
     ∷ map (λ (row : Call × Answer). record { answer = row .1; set = keys }) (drop 2 script))
     keys
-unfolding requests step fresh-refusal sizes-in-range slots-in-range reply with-key below above blank
+unfolding requests words-after step fresh-refusal sizes-in-range slots-in-range reply with-key below above blank
 goes =
     goes-first
-    (next (rw (board-length, K6 .unfit))
+    (goes-fourth
+    (next (rw count-says)
     (next refl
     (next (rw board-length)
     (next (rw board-length)
     (next (rw board-length)
     (next refl
+    (next (rw (hashes-say .0, hashes-say .1))
     (next (rw board-length)
     (next (rw board-length)
     (next (rw board-length)
     (next (rw board-length)
     (next (rw stash-K5)
-    (stop keys))))))))))))
+    (stop keys))))))))))))))
 
 -- what the calls answer, through the theorem
 

@@ -14,27 +14,27 @@ use Rattle.outcome.specs.declared.Change.{Change}
 use Rattle.outcome.specs.declared.Change.the-variants.{Insert, Remove}
 use Rattle.history.specs.Calls.{Lent, lent-of, Call, Answer, step}
 
--- What the model is fed: "each call's kind and arguments, what the sheet and the meter hold aside"; so of the scratch its length. For a call of
--- another kind "the register is fed the refusal".
+-- What the model is fed: "each call's kind and arguments, what the sheet and the meter hold aside"; so of the scratch
+-- its length. For a call of another kind "the register is fed the refusal", and its answer where it is not refused.
 pub data Request : Type 0 where
   change : (kind : Change) (tabulation : Lent) (scratch-size key : ℕ) → Request
   lookup : (tabulation : Lent) (key : ℕ) → Request
   check : (tabulation : Lent) (scratch-size : ℕ) → Request
   view : Request
-  refused : (number : ℕ) → Request
+  other : (met : Answer) → Request
 
--- a call that answered n, as it is fed
-abbrev pub request : Call → ℕ → Request
-request (Call.change kind l scratch counters key) n = Request.change kind l (length scratch) key
-request (Call.lookup l key) n = Request.lookup l key
-request (Call.check l scratch) n = Request.check l (length scratch)
-request Call.view n = Request.view
-request (Call.other x) n = refused n
+-- a call that met the answer a, as it is fed: only of a call of another kind does it hold a
+abbrev pub request : Call → Answer → Request
+request (Call.change kind l scratch counters key) a = Request.change kind l (length scratch) key
+request (Call.lookup l key) a = Request.lookup l key
+request (Call.check l scratch) a = Request.check l (length scratch)
+request Call.view a = Request.view
+request (Call.other x) a = Request.other a
 
--- a sequence as it is fed: the refusals of calls of another kind are those that they met
+-- a sequence as it is fed: the answers of calls of another kind are those that they met
 unfoldable pub requests : List ℕ → List ℕ → List Call → List Request
 requests t ws [] = []
-requests t ws (c ∷ cs) = let o = step t ws c in request c (o .answer .number) ∷ requests t (o .words) cs
+requests t ws (c ∷ cs) = let o = step t ws c in request c (o .answer) ∷ requests t (o .words) cs
 
 -- what the model answers, and its set afterwards
 pub record Reply : Type 0 where
@@ -84,8 +84,10 @@ module _ (P : Params) where
       record { answer = record { number = first-refusal (check-tests l n); values = [] }; set = S }
   -- "A view gives the words of the filled drawer places in the set's canonical image."
   reply S Request.view = record { answer = record { number = done; values = stash-of P S }; set = S }
-  -- "For a call of another kind nothing is tried: the register is fed the refusal, answers it, and the set stays."
-  reply S (refused n) = record { answer = record { number = n; values = [] }; set = S }
+  -- "For a call of another kind nothing is tried: the register is fed the refusal, answers it, and the set stays." One
+  -- that is accepted and leaves the words is treated alike: the register is fed its answer. What is fed is the answer
+  -- that was met, so nothing is claimed of that answer here: only that the set stays.
+  reply S (Request.other met) = record { answer = met; set = S }
 
   -- the answer to each request, and the set after it
   unfoldable pub model : List ℕ → List Request → List Reply

@@ -21,13 +21,16 @@ use Rattle.layout.specs.Layout.{Params, family, scratch-length, fits, image}
 use Rattle.layout.specs.Canonical.{image-one}
 use Rattle.outcome.specs.declared.Change.the-variants.{Insert}
 use Rattle.counters.specs.declared.Counters.{Counters}
-use Rattle.outcome.specs.Laws.{change-any-scratch, check-any-scratch}
 use Rattle.outcome.specs.Held.{Holds, held-some, held-full}
-use Rattle.history.specs.Calls.{Lent, own, wrong, lent-of, Call, Step, step, run, words-after, words-left}
+use Rattle.history.specs.Calls.{Lent, own, wrong, Call, Step, step, run, words-after, words-left}
 use Rattle.history.specs.Calls.{Allowed, none, more, Sequence, Like, Alike, end, then}
 use Rattle.history.specs.Model.{request, requests, wrong-length, too-short, change-tests, reply, model}
 use Rattle.history.specs.Model.{set-after, set-left}
-use Rattle.history.specs.History.{Follows, wrong-lent, change-number, history}
+use Rattle.history.specs.Agrees.{wrong-lent}
+use Rattle.history.specs.Changes.{change-number, change-like}
+use Rattle.history.specs.Reads.{lookup-like, check-like}
+use Rattle.history.specs.Others.{other-like}
+use Rattle.history.specs.History.{Follows, history}
 
 -- "A call that comes to the full-drawer rule": an insert to which none of the register's refusals before 8 applies, S
 -- being the register's set. They are 1, 3, 5 and 6; "2 and 4 never do". By the law `comes-answers` these are exactly the
@@ -62,7 +65,7 @@ pub record NoTrace (P : Params) (ws : List ℕ) (cs : List Call) : Type 0 where
       → (step-after P ws cs₁ (Call.change Insert l scratch counters key) .answer .number ≡ stash-full)
       ↔ (Placement (slot-0 (family P)) (slot-1 (family P)) (P .places) (with-key key (set-left P ws cs₁)) → ⊥)
 
--- parts of a sequence
+-- The laws. First, parts of a sequence:
 
 -- a part of a sequence from its beginning is a sequence,
 allowed-part : (t : List ℕ) {ws : List ℕ} (cs ds : List Call) → Allowed t ws (cs ++ ds) → Allowed t ws cs
@@ -95,7 +98,7 @@ unfolding model requests set-after words-after
 model-at P S ws [] ds = refl
 model-at P S ws (c ∷ cs) ds =
     let o = step (P .tabulation) ws c in
-    rw (model-at P (reply P S (request c (o .answer .number)) .set) (o .words) cs ds)
+    rw (model-at P (reply P S (request c (o .answer)) .set) (o .words) cs ds)
 
 -- two sequences
 
@@ -116,16 +119,14 @@ module _ {P : Params} {ws ws′ : List ℕ} {cs cs′ : List Call} (q : Sequence
 
 -- later calls
 
--- Like calls answer and leave the same on the same words,
+-- Like calls answer and leave the same on the same words, one line for each kind of call, with its lemma;
 like-step : (t ws : List ℕ) {c c′ : Call} → Like t c c′ → step t ws c ≡ step t ws c′
-unfolding step
 like-step t ws (Like.change kind {l} {l′} {scratch} {scratch′} counters counters′ key e f) =
-    rw (e, change-any-scratch (lent-of t l′) ws scratch scratch′ f kind key)
-like-step t ws (Like.lookup key e) = rw e
-like-step t ws (Like.check {l} {l′} {scratch} {scratch′} e f) =
-    rw (e, check-any-scratch (lent-of t l′) ws scratch scratch′ f)
+    change-like t ws kind l l′ scratch scratch′ counters counters′ key e f
+like-step t ws (Like.lookup {l} {l′} key e) = lookup-like t ws l l′ e key
+like-step t ws (Like.check {l} {l′} {scratch} {scratch′} e f) = check-like t ws l l′ e scratch scratch′ f
 like-step t ws Like.view = refl
-like-step t ws (Like.other x x′ f g) = rw (f ws, g ws)
+like-step t ws (Like.other x x′ f g) = other-like t ws x x′ (f ws) (g ws)
 
 -- and so do sequences of them.
 alike-run : (t ws : List ℕ) {cs cs′ : List Call} → Alike t cs cs′ → run t ws cs ≡ run t ws cs′
@@ -133,7 +134,7 @@ unfolding run
 alike-run t ws end = refl
 alike-run t ws (then {c} {c′} {cs} {cs′} l a) = rw (like-step t ws l, alike-run t (step t ws c′ .words) a)
 
--- Every call is like itself, and every sequence of calls.
+-- Every call is like itself, one line for each kind again, and so is every sequence of calls.
 like-self : (t : List ℕ) (c : Call) → Like t c c
 like-self t (Call.change kind l scratch counters key) = Like.change kind counters counters key refl refl
 like-self t (Call.lookup l key) = Like.lookup key refl

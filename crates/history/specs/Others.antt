@@ -1,12 +1,39 @@
--- A call of another kind that may stand in a sequence where it is refused: init, with any r and s. Assumes nothing.
+-- Calls of another kind in a sequence: where one may stand it agrees with the model, and like ones answer and leave the
+-- same. Then two that exist today: init, which may stand where it is refused, and the hashes of a key, which may stand
+-- anywhere, as any call that only reads the words. Assumes nothing.
 use Prim.Native.Nat.{ℕ}
-use mathlib.Core.Path.{_≡_}
-use mathlib.Core.List.{List}
+use mathlib.Core.Path.{_≡_, refl}
+use mathlib.Core.List.{List, []}
 use borrow.Author.Tests.{ne-eqb}
 use lib.ListN.{length}
 use Rattle.refusals.specs.Refusal.{done}
+use Rattle.tabulation.specs.Hash.{Family}
+use Rattle.tabulation.specs.Answer.{hashes-refusal, hashes-values}
+use Rattle.layout.specs.Layout.{Params}
 use Rattle.layout.specs.Answers.{fresh-refusal, fresh-words}
-use Rattle.history.specs.Calls.{Other}
+use Rattle.outcome.specs.Held.{Holds}
+use Rattle.history.specs.Calls.{Answer, Other, Call, step, OtherStands, refused, unchanged}
+use Rattle.history.specs.Model.{Request, reply}
+use Rattle.history.specs.Agrees.{Agrees}
+
+-- Where it may stand, it leaves the words: refused, by its own law, and otherwise because just that is asked.
+pub stands-leaves : {ws : List ℕ} {x : Other} → OtherStands ws x → x .words ws ≡ ws
+stands-leaves {ws} {x} (refused n) = x .leaves ws n
+stands-leaves (unchanged e) = e
+
+pub other-agrees : {P : Params} {S ws : List ℕ} → Holds P S ws → (x : Other) → OtherStands ws x
+    → Agrees P
+    (step (P .tabulation) ws (Call.other x))
+    (reply P S (Request.other (step (P .tabulation) ws (Call.other x) .answer)))
+unfolding step reply
+other-agrees h x stand = record { answer = refl; holds = rw (stands-leaves stand) h }
+
+pub other-like : (t ws : List ℕ) (x x′ : Other) → x .answer ws ≡ x′ .answer ws → x .words ws ≡ x′ .words ws
+    → step t ws (Call.other x) ≡ step t ws (Call.other x′)
+unfolding step
+other-like t ws x x′ f g = rw (f, g)
+
+-- init, with any r and s
 
 pub init-leaves : (ws : List ℕ) (r s : ℕ) → (fresh-refusal (length ws) r s ≡ done → ⊥) → fresh-words ws r s ≡ ws
 unfolding fresh-words
@@ -14,7 +41,20 @@ init-leaves ws r s n = rw (ne-eqb (fresh-refusal (length ws) r s) done n)
 
 abbrev pub init : ℕ → ℕ → Other
 init r s = record {
-  answer = λ ws. fresh-refusal (length ws) r s;
+  answer = λ ws. record { number = fresh-refusal (length ws) r s; values = [] };
   words = λ ws. fresh-words ws r s;
   leaves = λ ws n. init-leaves ws r s n;
 }
+
+-- calls that only read the words
+
+abbrev pub reads : (List ℕ → Answer) → Other
+reads answer = record { answer = answer; words = λ ws. ws; leaves = λ ws n. refl }
+
+-- Such a call may stand on any words, accepted or refused, whatever it answers.
+pub reads-stands : (answer : List ℕ → Answer) (ws : List ℕ) → OtherStands ws (reads answer)
+reads-stands answer ws = unchanged refl
+
+-- The hashes of a key, for any tabulation and r: the call is not even lent the words.
+abbrev pub hashes : Family → ℕ → Other
+hashes F key = reads (λ ws. record { number = hashes-refusal F key; values = hashes-values F key })

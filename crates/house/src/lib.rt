@@ -1,5 +1,6 @@
-// The house tabulation (document 01's "house spread book"): a constant table that ships with the library and can be lent to every call
-// that takes a tabulation. What it promises is one test, computed over the whole table; specs/Rule.antt says what the test means.
+// The house tabulation (document 01's "house spread book"): a constant table that ships with the library and can be
+// lent to every call that takes a tabulation. What it promises is one test, computed over the whole table;
+// specs/Rule.antt says what the test means.
 ghost use mathlib.Core.Path.{_≡_};
 ghost use mathlib.Core.Bool.{true};
 ghost use Rattle.house.specs.Rule.{house-test};

@@ -4,17 +4,27 @@ use Prim.Native.Nat.{ℕ, zero, suc, _+_, _*_, _-_, _/_, _%_, _<_, _≤_}
 use mathlib.Core.Path.{_≡_, refl, sym, _∙_, ap}
 use mathlib.Core.Bool.{true}
 use mathlib.Core.Logic.{inl, inr}
-use mathlib.Core.List.{List, _++_}
+use mathlib.Core.List.{List, [], _∷_, _++_}
 use native.Mathlib.Omega.{arith}
 use borrow.Author.Tests.{leb-true, le-leb}
-use lib.ListN.{length, getD, drop, length-append, length-replicate, List·getD-append}
+use lib.ListN.{length, getD, set, drop, length-append, length-replicate, List·getD-append}
 use lib.Seq.{getD-drop, drop-drop, drop-at, ext-getD}
 use Rattle.cuckoo.specs.Graph.{stash, slot-key, slot-next}
 use Rattle.basics.specs.Tests.{eq?, le?}
 use Rattle.tabulation.specs.Slots.{slot-0, slot-1}
-use Rattle.layout.specs.Layout.{Params, family, header-length, slot-width, key-at, stash-at, words-length, slots-of, places-of, fits-by, image-by, slot-words-by}
+use Rattle.layout.specs.Layout.{Params, family, header-words, header-length, slot-width, key-at, stash-at, words-length, slots-of, places-of, fits-by, image-by, slot-words-by}
 use Rattle.layout.specs.Layout.{stash-count, params-of, sizes-in-range, shaped, stash-of, fits, slot-words, stash-words, image}
+use Rattle.layout.specs.declared.Header.{Header}
 use Rattle.layout.specs.Shape.{sized, shape-true}
+
+-- the heading as the code writes it, word by word
+pub headed : (ws : List ℕ) (h : Header) → header-length ≤ length ws
+    → set (set (set (set ws 0 (h .slots)) 1 (h .places)) 2 (h .keys)) 3 (h .stashed) ≡ header-words h ++ drop header-length ws
+headed [] h l = absurd (omega arith)
+headed (a ∷ []) h l = absurd (omega arith)
+headed (a ∷ b ∷ []) h l = absurd (omega arith)
+headed (a ∷ b ∷ c ∷ []) h l = absurd (omega arith)
+headed (a ∷ b ∷ c ∷ d ∷ ws) h l = refl
 
 -- the kinds of positions
 

@@ -46,6 +46,9 @@ slots-of ws = header-of ws .slots
 abbrev pub places-of : List ℕ → ℕ
 places-of ws = header-of ws .places
 
+abbrev pub key-count : List ℕ → ℕ
+key-count ws = header-of ws .keys
+
 abbrev pub stash-count : List ℕ → ℕ
 stash-count ws = header-of ws .stashed
 

@@ -1,5 +1,6 @@
-// The lines that the console reads: their grammar and numbers, and the line so far. Everything is bytes in lent slices or in a line by value; nothing
-// is read or allocated here. Every promise is equality with a definition of specs/, or `Holds`.
+// The lines that the console reads: their grammar and numbers, and the line so far. Everything is bytes in lent slices
+// or in a line by value; nothing is read or allocated here. Every promise is equality with a definition of specs/, or
+// `Holds`.
 ghost use Prim.Native.Nat.{ℕ, _+_, min};
 ghost use mathlib.Core.Path.{_≡_};
 ghost use mathlib.Core.List.{List, [], _∷_, _++_};
@@ -40,13 +41,15 @@ pub enum Command {
     Other,
 }
 
-// The bytes of the current line so far, up to the longest line of a known form, and how many there are, up to one more than that.
+// The bytes of the current line so far, up to the longest line of a known form, and how many there are, up to one more
+// than that.
 pub struct Line {
     pub bytes: [u8; LONGEST],
     pub count: usize,
 }
 
-// Where a byte first stands, or the length where it does not: the end of a field, with COMMA, and of a line, with NEWLINE.
+// Where a byte first stands, or the length where it does not: the end of a field, with COMMA, and of a line, with
+// NEWLINE.
 pub fn find(bytes: &[u8], byte: u8) -> usize
     ensures { λ i. ⌜ i ≡ place-of byte (now (bytes .entry)) ⌝ }
 {

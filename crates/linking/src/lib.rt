@@ -1,5 +1,5 @@
-// Steps 1 and 2 of the build: the ascending keys are linked into Kruskal's forest, in the held words and the sets, and each slot gets its label. Every
-// function takes the whole of scratch and lends one part of it.
+// Steps 1 and 2 of the build: the ascending keys are linked into Kruskal's forest, in the held words and the sets, and
+// each slot gets its label. Every function takes the whole of scratch and lends one part of it.
 ghost use mathlib.Core.Path.{_≡_};
 ghost use mathlib.Core.Bool.{cond};
 ghost use Prim.Native.Nat.{_+_, _*_, _≤_, _<_};

@@ -1,4 +1,5 @@
-// What scratch says of a key: whether it stands in one of its slots, the label of its component, and where the word for that label is.
+// What scratch says of a key: whether it stands in one of its slots, the label of its component, and where the word for
+// that label is.
 ghost use mathlib.Core.Path.{_≡_};
 ghost use Prim.Native.Nat.{_*_, _<_};
 ghost use Rattle.tabulation.specs.Slots.{slot-0};

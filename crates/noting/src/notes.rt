@@ -27,7 +27,8 @@ fn clear_notes(scratch: &mut [u32], r: u32, s: u32)
     fill(&mut scratch[middle..end], 0);
 }
 
-// One key, where the stash has `count` so far: held, it is passed over; the first of its label is noted, and another goes to the stash.
+// One key, where the stash has `count` so far: held, it is passed over; the first of its label is noted, and another
+// goes to the stash.
 fn note_key(
     scratch: &mut [u32],
     tabulation: &[u16],

@@ -22,6 +22,13 @@ pub record Harmless (answers ws scratch : List ℕ) (o : Outcome) : Type 0 where
   pub unchanged : (o .answer ≡ done → ⊥) → o .words ≡ ws
   pub cleared : o .scratch ≡ replicate (length scratch) 0
 
+-- Demand 2: "After an accepted add or withdrawal the list is, in every word, the canonical image of the new set. On such a list, with the same book, a look-up
+-- says yes exactly for the set's cards."
+pub record Renewed (tabulation ws : List ℕ) (S us : List ℕ) : Type 0 where
+  pub image : ImageOf (params-of tabulation ws) S us
+  pub looked : (c : ℕ) → (lookup-values tabulation us c ≡ 1 ∷ []) ↔ In c S
+
+-- The laws: every call is harmless, and an accepted change renews the words.
 pub change-harmless : (kind : Change) (tabulation ws scratch : List ℕ) (key : ℕ)
     → Harmless (change-answers kind) ws scratch (change-outcome kind tabulation ws scratch key)
 change-harmless kind tabulation ws scratch key = record {
@@ -46,12 +53,6 @@ init-harmless ws r s = record {
   unchanged = λ n. rw (ne-eqb (fresh-refusal (length ws) r s) done n);
   cleared = refl;
 }
-
--- Demand 2: "After an accepted add or withdrawal the list is, in every word, the canonical image of the new set. On such a list, with the same book, a look-up
--- says yes exactly for the set's cards."
-pub record Renewed (tabulation ws : List ℕ) (S us : List ℕ) : Type 0 where
-  pub image : ImageOf (params-of tabulation ws) S us
-  pub looked : (c : ℕ) → (lookup-values tabulation us c ≡ 1 ∷ []) ↔ In c S
 
 pub change-renewed : (kind : Change) (tabulation ws scratch : List ℕ) (key : ℕ) → change-outcome kind tabulation ws scratch key .answer ≡ done
     → Renewed tabulation ws (changed kind key (keys-in ws)) (change-outcome kind tabulation ws scratch key .words)

@@ -1,12 +1,13 @@
-// The components of the cuckoo graph as a disjoint-set structure over n slots, in n lent words: union by size, no path compression.
-// A word below n is the slot's parent; a word n + s marks the representative of a set of s slots. n is the length of the lent slice.
+// The components of the cuckoo graph as a disjoint-set structure over n slots, in n lent words: union by size, no path
+// compression. A word below n is the slot's parent; a word n + s marks the representative of a set of s slots. n is the
+// length of the lent slice.
 ghost use mathlib.Core.Path.{_≡_};
 ghost use Prim.Native.Nat.{_≤_, _<_};
 ghost use lib.ListN.{length};
 ghost use Rattle.partition.specs.Words.{max-points, singletons-of, Representative, rep-of, size-of, Mergeable, linked, united};
 
-// The most parents that a slot of at most 2,048 can have on its way to the representative: each doubles the size of the set, and
-// 2 to the 11th is 2,048.
+// The most parents that a slot of at most 2,048 can have on its way to the representative: each doubles the size of the
+// set, and 2 to the 11th is 2,048.
 const MAX_STEPS: u32 = 11;
 
 // Each slot alone in its set.
@@ -56,8 +57,8 @@ fn link(words: &mut [u32], child: u32, parent: u32)
     words[parent as usize] = grown;
 }
 
-// Makes one set of the sets of two different representatives: the smaller goes under the larger, and where they are as large, the
-// second under the first.
+// Makes one set of the sets of two different representatives: the smaller goes under the larger, and where they are as
+// large, the second under the first.
 pub fn unite(words: &mut [u32], first: u32, second: u32)
     requires { ⌜ (length (now words) ≤ max-points) × Mergeable (now words) first second ⌝ }
     ensures { λ _. ⌜ now (words .exit) ≡ united (now (words .entry)) first second ⌝ }

@@ -1,5 +1,6 @@
-// What other languages link: every call of the dictionary under a plain C name. A slice crosses as a pointer and a length; an enum or a part of a slice
-// cannot cross, so a call gives document 01's number and writes the rest to out-parameters. What these hold after a refusal is part of each promise.
+// What other languages link: every call of the dictionary under a plain C name. A slice crosses as a pointer and a
+// length; an enum or a part of a slice cannot cross, so a call gives document 01's number and writes the rest to
+// out-parameters. What these hold after a refusal is part of each promise.
 ghost use mathlib.Core.Path.{_≡_};
 ghost use lib.ListN.{length};
 ghost use Rattle.tabulation.specs.Answer.{hashes-refusal, written};
@@ -39,7 +40,8 @@ pub extern "C" fn pinorange_lookup(
     }
 }
 
-// The stash view, as the offset and the length of the filled stretch of the stash in the lent words. Refused, both are 0: an empty stretch.
+// The stash view, as the offset and the length of the filled stretch of the stash in the lent words. Refused, both are
+// 0: an empty stretch.
 #[no_mangle]
 pub extern "C" fn pinorange_stash(words: &[u32], offset: &mut u32, length: &mut u32) -> u32
     ensures numbered { λ n. ⌜ n ≡ view-refusal (now (words .entry)) ⌝ }
@@ -52,12 +54,14 @@ pub extern "C" fn pinorange_stash(words: &[u32], offset: &mut u32, length: &mut 
         *length = 0;
         return n;
     }
-    *offset = access::stash_start(words[0]) as u32;
-    *length = words[3];
+    let header = access::read_header(words);
+    *offset = access::stash_start(header.slots) as u32;
+    *length = header.stashed;
     0
 }
 
-// Lays fresh words, and moves the counters on. They are lent by reference and moved on in place; the covered call takes them by value and gives them back.
+// Lays fresh words, and moves the counters on. They are lent by reference and moved on in place; the covered call takes
+// them by value and gives them back.
 #[no_mangle]
 pub extern "C" fn pinorange_init(words: &mut [u32], r: u32, s: u32, counters: &mut Counters) -> u32
     ensures answered { λ n. ⌜ n ≡ fresh-refusal (length (now (words .entry))) r s ⌝ }
@@ -110,7 +114,8 @@ pub extern "C" fn pinorange_remove(
     new.answer
 }
 
-// Whether the words are the canonical image of a set: 1 to 4, or 0. The words are only read; the scratch is zero over its full length afterwards.
+// Whether the words are the canonical image of a set: 1 to 4, or 0. The words are only read; the scratch is zero over
+// its full length afterwards.
 #[no_mangle]
 pub extern "C" fn pinorange_check(tabulation: &[u16], words: &[u32], scratch: &mut [u32]) -> u32
     ensures answered { λ n. ⌜ n ≡ check-outcome (now (tabulation .entry)) (now (words .entry)) (now (scratch .entry)) .answer ⌝ }

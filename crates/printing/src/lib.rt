@@ -1,5 +1,5 @@
-// The printed rows, gathered in a lent buffer that is written out when it has no room for another row. The position in the buffer goes in and comes
-// out, and stays within it.
+// The printed rows, gathered in a lent buffer that is written out when it has no room for another row. The position in
+// the buffer goes in and comes out, and stays within it.
 ghost use Prim.Native.Nat.{_+_, _≤_};
 ghost use lib.ListN.{length};
 ghost use Rattle.rows.specs.Row.{row-room};

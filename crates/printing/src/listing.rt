@@ -4,7 +4,6 @@ ghost use lib.ListN.{length};
 ghost use Rattle.layout.specs.Shape.{Shaped};
 ghost use Rattle.printing.specs.Short.{room};
 use crate::ROOM;
-use access::HEADER_LENGTH;
 use access::SLOT_WIDTH;
 use words::wide;
 
@@ -24,12 +23,12 @@ fn list_table(slots: &[u32], table: u32, out: &mut [u8; ROOM], start: usize) -> 
     requires { ⌜ (length (now slots) ≤ 2048) × (start ≤ room) ⌝ }
     ensures { λ end. ⌜ end ≤ room ⌝ }
 {
+    let count = slots.len() / SLOT_WIDTH;
     let mut at = start;
     let mut slot: u32 = 0;
-    while SLOT_WIDTH * wide(slot) + 1 < slots.len() {
-        let key = slots[SLOT_WIDTH * wide(slot)];
-        let next = slots[SLOT_WIDTH * wide(slot) + 1];
-        at = list_slot(&mut *out, at, table, slot, key, next);
+    while wide(slot) < count {
+        let held = access::slot_in(slots, wide(slot));
+        at = list_slot(&mut *out, at, table, slot, held.key, held.next);
         slot += 1;
     }
     at
@@ -54,11 +53,8 @@ fn list_words(words: &[u32], out: &mut [u8; ROOM], start: usize) -> usize
     requires { ⌜ Shaped (now words) × (start ≤ room) ⌝ }
     ensures { λ end. ⌜ end ≤ room ⌝ }
 {
-    let r = words[0];
-    let middle = HEADER_LENGTH + SLOT_WIDTH * wide(r);
-    let end = access::stash_start(r);
-    let second = list_table(&words[HEADER_LENGTH..middle], 0, &mut *out, start);
-    let third = list_table(&words[middle..end], 1, &mut *out, second);
+    let second = list_table(access::table_0(words), 0, &mut *out, start);
+    let third = list_table(access::table_1(words), 1, &mut *out, second);
     list_stash(access::stash(words), &mut *out, third)
 }
 

@@ -206,3 +206,19 @@ module _ (tabulation ws : List ℕ) where
       go : (t : Bool) → n ∷ [] ≡ cond t (length (keys-in ws) ∷ []) [] → (t ≡ true) × (n ≡ length (keys-in ws))
       go true e = (refl, cc)
       go false e = absurd (let z : _≡_ {A = ℕ} 0 1 = cc in omega arith)
+
+-- The same with r and s as the code has them: read from the heading.
+module _ {r r′ s s′ : ℕ} (e : r ≡ r′) (f : s ≡ s′) where
+  pub buildable-as : {n : ℕ} {tabulation scratch : List ℕ} → Buildable r′ s′ n tabulation scratch → Buildable r s n tabulation scratch
+  buildable-as B = rw (e, f) B
+
+  pub built-as : {tabulation S before after : List ℕ} {count : StashCount}
+      → Built (record { tabulation = tabulation; slots = r }) s S before after count
+      → Built (record { tabulation = tabulation; slots = r′ }) s′ S before after count
+  built-as B = rw (← e, ← f) B
+
+  pub comparable-as : {ws scratch : List ℕ} → Comparable r′ s′ ws scratch → Comparable r s ws scratch
+  comparable-as C = rw (e, f) C
+
+  pub assembled-as : (keys stashed : ℕ) (scratch : List ℕ) → assembled-in r s keys stashed scratch ≡ assembled-in r′ s′ keys stashed scratch
+  assembled-as keys stashed scratch = rw (e, f)

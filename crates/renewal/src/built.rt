@@ -1,4 +1,5 @@
-// The image that the build leaves in scratch, in its parts: lent to `codec`, which compares words with them or writes them.
+// The image that the build leaves in scratch, in its parts: lent to `codec`, which compares words with them or writes
+// them.
 ghost use mathlib.Core.Path.{_≡_};
 ghost use Prim.Native.Nat.{_*_, _≤_};
 ghost use lib.ListN.{length};

@@ -1,5 +1,5 @@
-// What every call on a whole dictionary is made of: the refusals that need no set; the words read as a set, or 4; a set written as words, or 8; and the clearing
-// of scratch. A call is these four and what it does to the set in between.
+// What every call on a whole dictionary is made of: the refusals that need no set; the words read as a set, or 4; a set
+// written as words, or 8; and the clearing of scratch. A call is these four and what it does to the set in between.
 ghost use mathlib.Core.Path.{_≡_};
 ghost use lib.ListN.{length, take, replicate};
 ghost use Rattle.layout.specs.Layout.{slots-of, places-of, params-of, keys-in};
@@ -36,7 +36,8 @@ pub fn early(tabulation: &[u16], words: &[u32], room: usize) -> u32
     if !access::is_shaped(words) {
         return WRONG_SHAPE;
     }
-    if room < access::scratch_for(words[0], words[1]) {
+    let header = access::read_header(words);
+    if room < access::scratch_for(header.slots, header.places) {
         return SHORT_SCRATCH;
     }
     0
@@ -49,8 +50,9 @@ pub fn read_set(tabulation: &[u16], words: &[u32], scratch: &mut [u32]) -> Readi
     ensures valued { λ l. ⌜ values l ≡ reading-values (now (tabulation .entry)) (now (words .entry)) ⌝ }
     ensures front { λ l. ⌜ take (length (keys-in (now (words .entry)))) (now (scratch .exit)) ≡ keys-in (now (words .entry)) ⌝ }
 {
-    let r = words[0];
-    let s = words[1];
+    let header = access::read_header(words);
+    let r = header.slots;
+    let s = header.places;
     let n = collect_keys(words, &mut *scratch);
     let count = seating::build(&mut *scratch, tabulation, r, s, n);
     let StashCount::Keys(stashed) = count else {
@@ -68,8 +70,9 @@ pub fn renew(tabulation: &[u16], words: &mut [u32], scratch: &mut [u32], n: usiz
     ensures answered { λ a. ⌜ a ≡ new-answer (params-of (now (tabulation .entry)) (now (words .entry))) (take n (now (scratch .entry))) ⌝ }
     ensures written { λ a. ⌜ now (words .exit) ≡ new-words (params-of (now (tabulation .entry)) (now (words .entry))) (take n (now (scratch .entry))) (now (words .entry)) ⌝ }
 {
-    let r = words[0];
-    let s = words[1];
+    let header = access::read_header(&*words);
+    let r = header.slots;
+    let s = header.places;
     let count = seating::build(&mut *scratch, tabulation, r, s, n);
     let StashCount::Keys(stashed) = count else {
         return STASH_FULL;

@@ -1,5 +1,6 @@
-// The lines that the console prints, its rows: their bytes, written into a lent slice at a position; the answer is where the next row goes. Nothing is
-// printed or allocated here. Every promise is `Written` with a definition of specs/; what a number and a comma are is said once, in `lines`.
+// The lines that the console prints, its rows: their bytes, written into a lent slice at a position; the answer is
+// where the next row goes. Nothing is printed or allocated here. Every promise is `Written` with a definition of
+// specs/; what a number and a comma are is said once, in `lines`.
 ghost use Prim.Native.Nat.{_+_, _≤_, _<_};
 ghost use mathlib.Core.Path.{_≡_};
 ghost use mathlib.Core.List.{[], _∷_};

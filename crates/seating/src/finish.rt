@@ -11,7 +11,8 @@ use parts::next_start;
 use parts::sets_start;
 use words::wide;
 
-// The component of label l: a tree if its note is held, and otherwise the note closes its cycle. No note: it has no keys.
+// The component of label l: a tree if its note is held, and otherwise the note closes its cycle. No note: it has no
+// keys.
 fn finish_label(scratch: &mut [u32], tabulation: &[u16], r: u32, s: u32, l: usize)
     requires { ⌜ Room (now tabulation) r s (now scratch) × (l < 2 * r) ⌝ }
     ensures { λ _. ⌜ parts r s (now (scratch .exit)) ≡ label-finished (tables (now (tabulation .entry)) r) (parts r s (now (scratch .entry))) l ⌝ }

@@ -1,5 +1,5 @@
-// Steps 4 and 5 of the build, and the build as a whole: from ascending keys to the canonical image, in scratch; slots, next numbers and stash exactly as `cuckoo`
-// defines them. What callers read is build/specs/Outcome.antt.
+// Steps 4 and 5 of the build, and the build as a whole: from ascending keys to the canonical image, in scratch; slots,
+// next numbers and stash exactly as `cuckoo` defines them. What callers read is build/specs/Outcome.antt.
 ghost use mathlib.Core.Path.{_≡_};
 ghost use Prim.Native.Nat.{_+_, _*_, _≤_};
 ghost use lib.ListN.{take};
@@ -38,7 +38,8 @@ fn seat(scratch: &mut [u32], tabulation: &[u16], r: u32, s: u32, n: usize)
     next::blank_slots(&mut *scratch, r, s);
 }
 
-// The build of the first n words of scratch, ascending keys: their image in scratch, or that the stash has no room. The words of the keys stay.
+// The build of the first n words of scratch, ascending keys: their image in scratch, or that the stash has no room. The
+// words of the keys stay.
 pub fn build(scratch: &mut [u32], tabulation: &[u16], r: u32, s: u32, n: usize) -> StashCount
     requires { ⌜ Buildable r s n (now tabulation) (now scratch) ⌝ }
     ensures { λ k. ⌜ Built (record { tabulation = now (tabulation .entry); slots = r }) s (take n (now (scratch .entry))) (now (scratch .entry)) (now (scratch .exit)) k ⌝ }

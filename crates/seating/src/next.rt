@@ -1,5 +1,6 @@
-// Step 5: next numbers, by two passes over the held keys, descending. The words of `sets` have the key last seen of each label. The labels stand
-// where the next numbers go: a label is read where its key stands, before it is overwritten. At the end a slot without a key gets 0.
+// Step 5: next numbers, by two passes over the held keys, descending. The words of `sets` have the key last seen of
+// each label. The labels stand where the next numbers go: a label is read where its key stands, before it is
+// overwritten. At the end a slot without a key gets 0.
 ghost use mathlib.Core.Path.{_≡_};
 ghost use Prim.Native.Nat.{_+_, _*_, _<_, _≤_};
 ghost use Rattle.build.specs.Scratch.{parts, glue};

@@ -1,5 +1,6 @@
-// The hashes of a key (document 01's "places of a card"): one function for both tables, and the public call that gives both hashes or a
-// refusal. Crates above use what it promises and the laws of specs/; the worked rows K1 to K12 alone compute with its text. The till maker links it alone.
+// The hashes of a key (document 01's "places of a card"): one function for both tables, and the public call that gives
+// both hashes or a refusal. Crates above use what it promises and the laws of specs/; the worked rows K1 to K12 alone
+// compute with its text. The till maker links it alone.
 ghost use mathlib.Core.Path.{_≡_};
 ghost use Prim.Native.Nat.{_+_, _*_, _≤_, _<_};
 ghost use lib.ListN.{length};
@@ -85,8 +86,8 @@ pub fn hashes(tabulation: &[u16], r: u32, key: u32) -> Hashed
     )
 }
 
-// `hashes` for C and Rust: the answer is document 01's number, 0 for done. Done, the two hashes are written to `first` and `second`;
-// refused, both stay as they were.
+// `hashes` for C and Rust: the answer is document 01's number, 0 for done. Done, the two hashes are written to `first`
+// and `second`; refused, both stay as they were.
 #[no_mangle]
 pub extern "C" fn pinorange_hashes(
     tabulation: &[u16],

@@ -6,7 +6,7 @@ use native.Mathlib.Omega.{arith}
 use lib.ListN.{take}
 use Rattle.basics.specs.Sets.{member}
 use Rattle.layout.specs.Layout.{slots-of, places-of}
-use Rattle.layout.specs.Shape.{shape}
+use Rattle.layout.specs.Shape.{Shaped, shape}
 use Rattle.outcome.specs.declared.Change.the-variants.{Insert}
 use Rattle.dictionary.specs.Core.{front-fits, front-length, front-asc, insert-present, insert-crowded, insert-renewed, changed-buildable, changed-renewed}
 use borrow.Author.Needs.{needs}
@@ -28,24 +28,6 @@ same-length c = search needs
 returns : tie.Need-returns
 returns c = insert-present (c .before .before .before .before .before .before .pre) (sym (c .before .has .ensures) ∙ c .if1 .taken)
 
-slice-read-wide : tie.Need-slice-read-wide
-slice-read-wide c = omega (arith, shape _ (c .before .before .before .before .before .before .before .pre .ready .shape))
-
-mul-wide : tie.Need-mul-wide
-mul-wide c = omega (arith, shape _ (c .before .before .before .before .before .before .before .pre .ready .shape))
-
-slice-read-wide-2 : tie.Need-slice-read-wide-2
-slice-read-wide-2 c = omega (arith, shape _ (c .before .before .before .before .before .before .before .before .pre .ready .shape))
-
-add-wide : tie.Need-add-wide
-add-wide c = omega (arith, shape _ (c .before .before .before .before .before .before .before .before .pre .ready .shape))
-
-wide-requires : tie.Need-wide-requires
-wide-requires c κs = search needs
-
-same-length-2 : tie.Need-same-length-2
-same-length-2 c = search needs
-
 -- the key is not there
 abbrev start : tie.Else1 → tie.Start
 start e = e .before .before .before .before .before .before
@@ -53,15 +35,54 @@ start e = e .before .before .before .before .before .before
 absent : (e : tie.Else1) → member (start e .args .key) (take (start e .args .n) (start e .args .scratch .now)) ≡ false
 absent e = sym (e .before .has .ensures) ∙ e .if1 .left
 
--- and there is room for one more
+-- and what the heading says is in its range
+abbrev unlisted : tie.After-read-header → tie.Else1
+unlisted h = h .before .before
+
+formed : (e : tie.Else1) → Shaped (start e .args .words .now)
+formed e = shape _ (start e .pre .ready .shape)
+
+read-header-requires : tie.Need-read-header-requires
+read-header-requires c κs = omega (arith, formed (c .before))
+
+mul-wide : tie.Need-mul-wide
+mul-wide c = omega (arith, c .before .read-header .ensures .0, formed (unlisted (c .before)))
+
+add-wide : tie.Need-add-wide
+add-wide c =
+    let h = c .before .before in
+    omega (arith, h .read-header .ensures .0, h .read-header .ensures .1 .0, formed (unlisted h))
+
+wide-requires : tie.Need-wide-requires
+wide-requires c κs = search needs
+
+same-length-2 : tie.Need-same-length-2
+same-length-2 c = search needs
+
+same-length-3 : tie.Need-same-length-3
+same-length-3 c = search needs
+
+-- there is room for one more
+abbrev read : tie.After-wide → tie.After-read-header
+read w = w .before .before .before
+
 abbrev tested : tie.Else2 → tie.Else1
-tested r = r .before .before .before .before
+tested r = unlisted (read (r .before))
 
 room : (r : tie.Else2) → start (tested r) .args .n + 1 ≤ 2 * slots-of (start (tested r) .args .words .now) + places-of (start (tested r) .args .words .now)
-room r = let w = r .before .wide .ensures in let l = r .if2 .left in omega arith
+room r =
+    let h = read (r .before) .read-header .ensures in
+    let w = r .before .wide .ensures in
+    let l = r .if2 .left in
+    omega (arith, h .0, h .1 .0)
 
 returns-2 : tie.Need-returns-2
-returns-2 c = let e = c .before .before .before .before in insert-crowded (start e .pre) (absent e) (rw (c .before .wide .ensures) at (c .if2 .taken))
+returns-2 c =
+    let h = read (c .before) .read-header .ensures in
+    let e = unlisted (read (c .before)) in
+    let w = c .before .wide .ensures in
+    let l = c .if2 .taken in
+    insert-crowded (start e .pre) (absent e) (omega (arith, h .0, h .1 .0))
 
 insert-requires : tie.Need-insert-requires
 insert-requires c κs =
@@ -76,11 +97,11 @@ renew-requires c κs =
     let i = c .before .before .before .before in
     changed-buildable (start (tested (i .before .before)) .pre) Insert _ _ (i .insert .kept .0) (room (i .before .before)) (i .insert .ensures .0)
 
-same-length-3 : tie.Need-same-length-3
-same-length-3 c = search needs
-
 same-length-4 : tie.Need-same-length-4
 same-length-4 c = search needs
+
+same-length-5 : tie.Need-same-length-5
+same-length-5 c = search needs
 
 returns-3 : tie.Need-returns-3
 returns-3 c =
@@ -98,16 +119,16 @@ insert-key-spec =
     has-requires
     same-length
     returns
-    slice-read-wide
+    read-header-requires
     mul-wide
-    slice-read-wide-2
     add-wide
     wide-requires
     same-length-2
+    same-length-3
     returns-2
     insert-requires
     add-renew
     renew-requires
-    same-length-3
     same-length-4
+    same-length-5
     returns-3)

@@ -1,7 +1,9 @@
 -- `renewal::early` meets its contract: the tests in their order.
-use mathlib.Core.Path.{sym, _∙_}
+use mathlib.Core.Path.{_≡_, sym, _∙_}
+use mathlib.Core.Bool.{true}
 use native.Mathlib.Omega.{arith}
 use borrow.Author.Tests.{eq-eqb, ne-eqb, lt-ltb, le-ltb, not-true, not-false}
+use Rattle.layout.specs.Layout.{shaped}
 use Rattle.layout.specs.Shape.{shape}
 use Rattle.renewal.specs.Reading.{early-refusal}
 use borrow.Author.Needs.{needs}
@@ -19,26 +21,31 @@ returns-2 : tie.Need-returns-2
 unfolding early-refusal
 returns-2 c = rw (eq-eqb _ _ (c .before .before .if1 .left), sym (c .before .is-shaped .ensures) ∙ not-true _ (c .if2 .taken))
 
-shared-slice-read-scratch-for : tie.Need-shared-slice-read-scratch-for
-shared-slice-read-scratch-for c = omega (arith, shape _ (sym (c .before .before .is-shaped .ensures) ∙ not-false _ (c .before .if2 .left)))
+-- the words have the shape of a dictionary
+formed : (e : tie.Else2) → shaped (e .before .before .before .before .before .args .words .now) ≡ true
+formed e = sym (e .before .is-shaped .ensures) ∙ not-false _ (e .if2 .left)
 
-shared-slice-read-scratch-for-2 : tie.Need-shared-slice-read-scratch-for-2
-shared-slice-read-scratch-for-2 c = omega (arith, shape _ (sym (c .before .before .before .is-shaped .ensures) ∙ not-false _ (c .before .before .if2 .left)))
+read-header-requires : tie.Need-read-header-requires
+read-header-requires c κs = omega (arith, shape _ (formed c))
 
 scratch-for-requires : tie.Need-scratch-for-requires
-scratch-for-requires c κs = shape _ (sym (c .before .before .before .is-shaped .ensures) ∙ not-false _ (c .before .before .if2 .left)) .sizes
+scratch-for-requires c κs = let h = c .read-header .ensures in rw (h .0, h .1 .0) (shape _ (formed (c .before)) .sizes)
 
 returns-3 : tie.Need-returns-3
 unfolding early-refusal
 returns-3 c =
-    let d = c .before .before .before .before in
-    rw (eq-eqb _ _ (d .before .before .if1 .left), sym (d .before .is-shaped .ensures) ∙ not-false _ (d .if2 .left), lt-ltb _ _ (rw (c .before .scratch-for .ensures) at (c .if3 .taken)))
+    let r = c .before .before in
+    let h = r .read-header .ensures in
+    let short = rw (c .before .scratch-for .ensures, h .0, h .1 .0) at (c .if3 .taken) in
+    rw (eq-eqb _ _ (r .before .before .before .if1 .left), formed (r .before), lt-ltb _ _ short)
 
 returns-4 : tie.Need-returns-4
 unfolding early-refusal
 returns-4 c =
-    let d = c .before .before .before .before in
-    rw (eq-eqb _ _ (d .before .before .if1 .left), sym (d .before .is-shaped .ensures) ∙ not-false _ (d .if2 .left), le-ltb _ _ (rw (c .before .scratch-for .ensures) at (c .if3 .left)))
+    let r = c .before .before in
+    let h = r .read-header .ensures in
+    let long = rw (c .before .scratch-for .ensures, h .0, h .1 .0) at (c .if3 .left) in
+    rw (eq-eqb _ _ (r .before .before .before .if1 .left), formed (r .before), le-ltb _ _ long)
 
 pub early-spec : {M : Type 1} → statement M
 early-spec =
@@ -47,8 +54,7 @@ early-spec =
     returns
     is-shaped-requires
     returns-2
-    shared-slice-read-scratch-for
-    shared-slice-read-scratch-for-2
+    read-header-requires
     scratch-for-requires
     returns-3
     returns-4)

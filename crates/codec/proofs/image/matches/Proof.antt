@@ -1,40 +1,41 @@
 -- `codec::image::matches` meets its contract: the image is compared word by word in the heading, then part by part.
+use mathlib.Core.Path.{sym, _∙_, ap}
 use borrow.Author.Tests.{not-true, not-false}
+use Rattle.layout.specs.Layout.{stash-at}
 use Rattle.codec.specs.Weave.{keys-differ, counts-differ, slots-differ, stash-decides}
 use borrow.Author.Needs.{needs}
 use Rattle.codec.proofs.image.matches.Statement.{statement}
 use Rattle.codec.proofs.image.matches.Tie as tie
 
 -- places of the code, each from a later one
-abbrev start : tie.After-wide → tie.Start
-start w = w .before .before .before .before .before .before
+abbrev start : tie.After-read-header → tie.Start
+start h = h .before .before .before .before .before
 
 abbrev keys-agree : tie.After-stash-start → tie.Else1
-keys-agree s = s .before .before .before .before
+keys-agree s = s .before .before .before
 
 abbrev counts-agree : tie.After-stash-start → tie.Else2
-counts-agree s = s .before .before
+counts-agree s = s .before
 
-shared-slice-read-wide : tie.Need-shared-slice-read-wide
-shared-slice-read-wide c = search needs
+read-header-requires : tie.Need-read-header-requires
+read-header-requires c κs = search needs
 
 wide-requires : tie.Need-wide-requires
 wide-requires c κs = search needs
 
 returns : tie.Need-returns
-returns c = let w = c .before in keys-differ (start w .pre) _ _ (w .wide .ensures) (c .if1 .taken)
-
-shared-slice-read-if2 : tie.Need-shared-slice-read-if2
-shared-slice-read-if2 c = search needs
+returns c =
+    let w = c .before in
+    let h = w .before in
+    keys-differ (start h .pre) _ _ (w .wide .ensures ∙ h .read-header .ensures .1 .1 .0) (c .if1 .taken)
 
 returns-2 : tie.Need-returns-2
 returns-2 c =
     let e = c .before .before in
     let w = e .before in
-    counts-differ (start w .pre) _ _ (w .wide .ensures) (e .if1 .left) (c .if2 .taken)
-
-shared-slice-read-stash-start : tie.Need-shared-slice-read-stash-start
-shared-slice-read-stash-start c = search needs
+    let h = w .before in
+    let r = h .read-header .ensures in
+    counts-differ (start h .pre) _ _ (w .wide .ensures ∙ r .1 .1 .0) (e .if1 .left) (λ q. c .if2 .taken (r .1 .1 .1 ∙ q))
 
 stash-start-requires : tie.Need-stash-start-requires
 stash-start-requires c κs = search needs
@@ -56,7 +57,10 @@ returns-3 c =
     let s = c .before .before .before in
     let e = keys-agree s in
     let w = e .before in
-    slots-differ (start w .pre) _ _ (w .wide .ensures) (e .if1 .left) (counts-agree s .if2 .left) (s .stash-start .ensures)
+    let h = w .before in
+    let r = h .read-header .ensures in
+    slots-differ (start h .pre) _ _ (w .wide .ensures ∙ r .1 .1 .0) (e .if1 .left) (sym (r .1 .1 .1) ∙ counts-agree s .if2 .left)
+    (s .stash-start .ensures ∙ ap stash-at (r .0))
     (c .before .same-slots .ensures) (not-true _ (c .if3 .taken))
 
 mul-same-words : tie.Need-mul-same-words
@@ -80,19 +84,20 @@ returns-4 c =
     let s = i .before .before .before in
     let e = keys-agree s in
     let w = e .before in
-    stash-decides (start w .pre) _ _ (w .wide .ensures) (e .if1 .left) (counts-agree s .if2 .left) (s .stash-start .ensures)
+    let h = w .before in
+    let r = h .read-header .ensures in
+    stash-decides (start h .pre) _ _ (w .wide .ensures ∙ r .1 .1 .0) (e .if1 .left) (sym (r .1 .1 .1) ∙ counts-agree s .if2 .left)
+    (s .stash-start .ensures ∙ ap stash-at (r .0))
     (i .before .same-slots .ensures) (not-false _ (i .if3 .left)) (c .same-words .ensures)
 
 pub matches-spec : {M : Type 1} → statement M
 matches-spec =
     tie.close
     (tie.spec
-    shared-slice-read-wide
+    read-header-requires
     wide-requires
     returns
-    shared-slice-read-if2
     returns-2
-    shared-slice-read-stash-start
     stash-start-requires
     sub-same-slots
     part-same-slots-start

@@ -7,11 +7,11 @@ use Rattle.codec.proofs.image.write_image.Tie as tie
 stash-start-requires : tie.Need-stash-start-requires
 stash-start-requires c κs = search needs
 
-cast-write-heading : tie.Need-cast-write-heading
-cast-write-heading c = search needs
+cast-t11 : tie.Need-cast-t11
+cast-t11 c = search needs
 
-write-heading-requires : tie.Need-write-heading-requires
-write-heading-requires c κs = search needs
+write-header-requires : tie.Need-write-header-requires
+write-header-requires c κs = search needs
 
 sub-write-slots : tie.Need-sub-write-slots
 sub-write-slots c = search needs
@@ -50,7 +50,7 @@ returns c =
     let headed = slots .before .before .before .before in
     let sized = headed .before .before in
     let start = sized .before .before .before .before .before in
-    rw (slots .write-slots .ensures, copied .copy .ensures, headed .write-heading .ensures, sized .stash-start .ensures)
+    rw (slots .write-slots .ensures, copied .copy .ensures, headed .write-header .ensures, sized .stash-start .ensures)
     (all-put (start .pre .0) (start .args .keys) (start .args .stashed))
 
 pub write-image-spec : {M : Type 1} → statement M
@@ -58,8 +58,8 @@ write-image-spec =
     tie.close
     (tie.spec
     stash-start-requires
-    cast-write-heading
-    write-heading-requires
+    cast-t11
+    write-header-requires
     sub-write-slots
     part-write-slots-start
     part-write-slots-end

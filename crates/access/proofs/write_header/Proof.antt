@@ -1,10 +1,10 @@
--- `codec::image::write_heading` meets its contract.
+-- `access::write_header` meets its contract: word by word.
 use native.Mathlib.Omega.{arith}
 use lib.ListN.{length-set}
-use Rattle.codec.specs.Weave.{headed}
+use Rattle.layout.specs.Image.{headed}
 use borrow.Author.Needs.{needs}
-use Rattle.codec.proofs.image.write_heading.Statement.{statement}
-use Rattle.codec.proofs.image.write_heading.Tie as tie
+use Rattle.access.proofs.write_header.Statement.{statement}
+use Rattle.access.proofs.write_header.Tie as tie
 
 slice-write-words : tie.Need-slice-write-words
 slice-write-words c = search needs
@@ -22,10 +22,10 @@ same-length : tie.Need-same-length
 same-length c = search needs
 
 returns : tie.Need-returns
-returns c = headed (c .args .words .now) (c .args .r) (c .args .s) (c .args .keys) (c .args .stashed) (c .pre)
+returns c = headed (c .args .words .now) (c .args .header) (c .pre)
 
-pub write-heading-spec : {M : Type 1} → statement M
-write-heading-spec =
+pub write-header-spec : {M : Type 1} → statement M
+write-header-spec =
     tie.close
     (tie.spec
     slice-write-words
