@@ -7,9 +7,12 @@ ghost use lib.Dec.{eqb};
 ghost use lib.ListN.{length, getD, take, drop};
 ghost use Rattle.basics.specs.Sets.{member};
 ghost use Rattle.tabulation.specs.Hash.{tabulation-length, max-slots};
-ghost use Rattle.layout.specs.Layout.{header-words, header-length, slot-width, slots-of, places-of, key-count, stash-count, sizes-in-range, shaped, words-length, scratch-length, key-at, stash-at};
+ghost use Rattle.layout.specs.Layout.{header-words, header-length, slot-width, slots-of, places-of, key-count};
+ghost use Rattle.layout.specs.Layout.{stash-count, sizes-in-range, shaped, words-length, scratch-length, key-at};
+ghost use Rattle.layout.specs.Layout.{stash-at};
 ghost use Rattle.layout.specs.Shape.{Sized, Shaped};
-ghost use Rattle.layout.specs.Answers.{number, values, lookup-refusal, lookup-values, stands, view-refusal, view-of, fresh-refusal, fresh-words};
+ghost use Rattle.layout.specs.Answers.{number, values, lookup-refusal, lookup-values, stands, view-refusal, view-of};
+ghost use Rattle.layout.specs.Answers.{fresh-refusal, fresh-words};
 use layout::Found;
 use layout::Header;
 use layout::Slot;
@@ -79,7 +82,8 @@ pub fn slot_in(slots: &[u32], v: usize) -> Slot
 // The slots of table 0, and those of table 1: parts of the lent words.
 pub fn table_0(words: &[u32]) -> &[u32]
     requires { ⌜ Shaped (now words) ⌝ }
-    ensures part { λ t. ⌜ now t ≡ take (slot-width * slots-of (now (words .entry))) (drop header-length (now (words .entry))) ⌝ }
+    ensures part { λ t. ⌜ now t ≡ take (slot-width * slots-of (now (words .entry)))
+        (drop header-length (now (words .entry))) ⌝ }
     ensures sized { λ t. ⌜ length (now t) ≡ slot-width * slots-of (now (words .entry)) ⌝ }
 {
     let end = HEADER_LENGTH + SLOT_WIDTH * wide(words[0]);

@@ -27,7 +27,8 @@ fn gather(
     n: usize,
 ) -> usize
     requires { ⌜ (0 < step) × (from + step * count ≤ length (now words)) × (n + count ≤ length (now scratch)) ⌝ }
-    ensures front { λ m. ⌜ take m (now (scratch .exit)) ≡ take n (now (scratch .entry)) ++ nonzero (picked (now (words .entry)) from step count) ⌝ }
+    ensures front { λ m. ⌜ take m (now (scratch .exit)) ≡ take n (now (scratch .entry))
+        ++ nonzero (picked (now (words .entry)) from step count) ⌝ }
     ensures counted { λ m. ⌜ m ≡ n + length (nonzero (picked (now (words .entry)) from step count)) ⌝ }
 {
     let mut end = n;

@@ -61,7 +61,8 @@ pub fn matches(
     stash: &[u32],
 ) -> bool
     requires { ⌜ Comparable (now words) (now held) (now next) (now stash) ⌝ }
-    ensures { λ b. ⌜ b ≡ same (now (words .entry)) (assembled (slots-of (now (words .entry))) (places-of (now (words .entry))) keys stashed
+    ensures { λ b. ⌜ b ≡ same (now (words .entry))
+        (assembled (slots-of (now (words .entry))) (places-of (now (words .entry))) keys stashed
         (now (held .entry)) (now (next .entry)) (now (stash .entry))) ⌝ }
 {
     let header = access::read_header(words);
@@ -115,7 +116,8 @@ pub fn write_image(
     stash: &[u32],
 )
     requires { ⌜ Writable r s (now words) (now held) (now next) (now stash) × (keys ≤ 4294967295) ⌝ }
-    ensures { λ _. ⌜ now (words .exit) ≡ assembled r s keys stashed (now (held .entry)) (now (next .entry)) (now (stash .entry)) ⌝ }
+    ensures { λ _. ⌜ now (words .exit) ≡ assembled r s keys stashed (now (held .entry)) (now (next .entry))
+        (now (stash .entry)) ⌝ }
 {
     let rest = access::stash_start(r);
     let header = Header {

@@ -19,10 +19,14 @@ pub fn update(
     key: u32,
     counters: Counters,
 ) -> Counted
-    ensures answered { λ c. ⌜ c .answer ≡ change-outcome kind (now (tabulation .entry)) (now (words .entry)) (now (scratch .entry)) key .answer ⌝ }
-    ensures changed { λ c. ⌜ now (words .exit) ≡ change-outcome kind (now (tabulation .entry)) (now (words .entry)) (now (scratch .entry)) key .words ⌝ }
-    ensures cleared { λ c. ⌜ now (scratch .exit) ≡ change-outcome kind (now (tabulation .entry)) (now (words .entry)) (now (scratch .entry)) key .scratch ⌝ }
-    ensures moved { λ c. ⌜ c .counters ≡ counted counters (change-outcome kind (now (tabulation .entry)) (now (words .entry)) (now (scratch .entry)) key .answer) ⌝ }
+    ensures answered { λ c. ⌜ c .answer ≡ change-outcome kind (now (tabulation .entry)) (now (words .entry))
+        (now (scratch .entry)) key .answer ⌝ }
+    ensures changed { λ c. ⌜ now (words .exit) ≡ change-outcome kind (now (tabulation .entry)) (now (words .entry))
+        (now (scratch .entry)) key .words ⌝ }
+    ensures cleared { λ c. ⌜ now (scratch .exit) ≡ change-outcome kind (now (tabulation .entry)) (now (words .entry))
+        (now (scratch .entry)) key .scratch ⌝ }
+    ensures moved { λ c. ⌜ c .counters ≡ counted counters
+        (change-outcome kind (now (tabulation .entry)) (now (words .entry)) (now (scratch .entry)) key .answer) ⌝ }
 {
     let answer = dictionary::update(kind, tabulation, words, scratch, key);
     with_counts(answer, counters)

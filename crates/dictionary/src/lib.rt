@@ -56,8 +56,10 @@ fn change_words(
     scratch: &mut [u32],
     key: u32,
 ) -> u32
-    ensures answered { λ a. ⌜ a ≡ change-outcome kind (now (tabulation .entry)) (now (words .entry)) (now (scratch .entry)) key .answer ⌝ }
-    ensures written { λ a. ⌜ now (words .exit) ≡ change-outcome kind (now (tabulation .entry)) (now (words .entry)) (now (scratch .entry)) key .words ⌝ }
+    ensures answered { λ a. ⌜ a ≡ change-outcome kind (now (tabulation .entry)) (now (words .entry))
+        (now (scratch .entry)) key .answer ⌝ }
+    ensures written { λ a. ⌜ now (words .exit) ≡ change-outcome kind (now (tabulation .entry)) (now (words .entry))
+        (now (scratch .entry)) key .words ⌝ }
 {
     let refusal = early(tabulation, &*words, scratch.len());
     if refusal != 0 {
@@ -84,9 +86,12 @@ pub fn update(
     scratch: &mut [u32],
     key: u32,
 ) -> u32
-    ensures answered { λ n. ⌜ n ≡ change-outcome kind (now (tabulation .entry)) (now (words .entry)) (now (scratch .entry)) key .answer ⌝ }
-    ensures changed { λ n. ⌜ now (words .exit) ≡ change-outcome kind (now (tabulation .entry)) (now (words .entry)) (now (scratch .entry)) key .words ⌝ }
-    ensures cleared { λ n. ⌜ now (scratch .exit) ≡ change-outcome kind (now (tabulation .entry)) (now (words .entry)) (now (scratch .entry)) key .scratch ⌝ }
+    ensures answered { λ n. ⌜ n ≡ change-outcome kind (now (tabulation .entry)) (now (words .entry))
+        (now (scratch .entry)) key .answer ⌝ }
+    ensures changed { λ n. ⌜ now (words .exit) ≡ change-outcome kind (now (tabulation .entry)) (now (words .entry))
+        (now (scratch .entry)) key .words ⌝ }
+    ensures cleared { λ n. ⌜ now (scratch .exit) ≡ change-outcome kind (now (tabulation .entry)) (now (words .entry))
+        (now (scratch .entry)) key .scratch ⌝ }
 {
     let answer = change_words(kind, tabulation, &mut *words, &mut *scratch, key);
     clear(&mut *scratch);
@@ -110,8 +115,10 @@ fn check_words(tabulation: &[u16], words: &[u32], scratch: &mut [u32]) -> u32
 
 // Check: its whole outcome. The words are only read.
 pub fn check(tabulation: &[u16], words: &[u32], scratch: &mut [u32]) -> u32
-    ensures answered { λ n. ⌜ n ≡ check-outcome (now (tabulation .entry)) (now (words .entry)) (now (scratch .entry)) .answer ⌝ }
-    ensures cleared { λ n. ⌜ now (scratch .exit) ≡ check-outcome (now (tabulation .entry)) (now (words .entry)) (now (scratch .entry)) .scratch ⌝ }
+    ensures answered { λ n. ⌜ n ≡ check-outcome (now (tabulation .entry)) (now (words .entry)) (now (scratch .entry))
+        .answer ⌝ }
+    ensures cleared { λ n. ⌜ now (scratch .exit) ≡ check-outcome (now (tabulation .entry)) (now (words .entry))
+        (now (scratch .entry)) .scratch ⌝ }
 {
     let answer = check_words(tabulation, words, &mut *scratch);
     clear(&mut *scratch);

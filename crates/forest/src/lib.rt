@@ -22,8 +22,10 @@ fn other_slot(tabulation: &[u16], r: u32, slot: u32, key: u32) -> u32
 // Makes `slot` the root of its tree, and leaves the key `carry` there: every key on the way to the old root moves to
 // its other slot. No way is longer than there are slots, which bounds the loop.
 pub fn reroot(held: &mut [u32], tabulation: &[u16], r: u32, slot: u32, carry: u32)
-    requires { ⌜ (length (now held) ≡ 2 * r) × (length (now tabulation) ≡ tabulation-length) × (0 < r) × (r ≤ max-slots) × (slot < 2 * r) ⌝ }
-    ensures { λ _. ⌜ now (held .exit) ≡ rerooted (record { tabulation = now (tabulation .entry); slots = r }) (now (held .entry)) carry slot ⌝ }
+    requires { ⌜ (length (now held) ≡ 2 * r) × (length (now tabulation) ≡ tabulation-length) × (0 < r)
+        × (r ≤ max-slots) × (slot < 2 * r) ⌝ }
+    ensures { λ _. ⌜ now (held .exit) ≡ rerooted (record { tabulation = now (tabulation .entry); slots = r })
+        (now (held .entry)) carry slot ⌝ }
 {
     let mut at = slot;
     let mut moving = carry;
@@ -42,8 +44,10 @@ pub fn reroot(held: &mut [u32], tabulation: &[u16], r: u32, slot: u32, carry: u3
 
 // The slot of the smallest key on the way from `slot` to the root of its tree.
 fn lowest_slot(held: &[u32], tabulation: &[u16], r: u32, slot: u32) -> u32
-    requires { ⌜ (length (now held) ≡ 2 * r) × (length (now tabulation) ≡ tabulation-length) × (0 < r) × (r ≤ max-slots) × (slot < 2 * r) ⌝ }
-    ensures { λ s. ⌜ (s ≡ lowest (record { tabulation = now (tabulation .entry); slots = r }) (now (held .entry)) slot) × (s < 2 * r) ⌝ }
+    requires { ⌜ (length (now held) ≡ 2 * r) × (length (now tabulation) ≡ tabulation-length) × (0 < r)
+        × (r ≤ max-slots) × (slot < 2 * r) ⌝ }
+    ensures { λ s. ⌜ (s ≡ lowest (record { tabulation = now (tabulation .entry); slots = r }) (now (held .entry)) slot)
+        × (s < 2 * r) ⌝ }
 {
     let mut at = slot;
     let mut low = slot;
@@ -64,8 +68,10 @@ fn lowest_slot(held: &[u32], tabulation: &[u16], r: u32, slot: u32) -> u32
 
 // Finishes a component without a cycle, whose smallest key is `key`.
 pub fn finish_tree(held: &mut [u32], tabulation: &[u16], r: u32, key: u32)
-    requires { ⌜ (length (now held) ≡ 2 * r) × (length (now tabulation) ≡ tabulation-length) × (0 < r) × (r ≤ max-slots) ⌝ }
-    ensures { λ _. ⌜ now (held .exit) ≡ finished-tree (record { tabulation = now (tabulation .entry); slots = r }) (now (held .entry)) key ⌝ }
+    requires { ⌜ (length (now held) ≡ 2 * r) × (length (now tabulation) ≡ tabulation-length) × (0 < r)
+        × (r ≤ max-slots) ⌝ }
+    ensures { λ _. ⌜ now (held .exit) ≡ finished-tree (record { tabulation = now (tabulation .entry); slots = r })
+        (now (held .entry)) key ⌝ }
 {
     let first = tabulation::first_slot(tabulation, r, key);
     reroot(&mut *held, tabulation, r, first, key);
@@ -74,8 +80,10 @@ pub fn finish_tree(held: &mut [u32], tabulation: &[u16], r: u32, key: u32)
 // The key in the slot `low` goes out of the tree, `key` comes in at its slot in table 1, and the tree is re-rooted at
 // the other's slot in table 0.
 fn exchange(held: &mut [u32], tabulation: &[u16], r: u32, key: u32, low: u32)
-    requires { ⌜ (length (now held) ≡ 2 * r) × (length (now tabulation) ≡ tabulation-length) × (0 < r) × (r ≤ max-slots) × (low < 2 * r) ⌝ }
-    ensures { λ _. ⌜ now (held .exit) ≡ exchanged (record { tabulation = now (tabulation .entry); slots = r }) (now (held .entry)) key low ⌝ }
+    requires { ⌜ (length (now held) ≡ 2 * r) × (length (now tabulation) ≡ tabulation-length) × (0 < r)
+        × (r ≤ max-slots) × (low < 2 * r) ⌝ }
+    ensures { λ _. ⌜ now (held .exit) ≡ exchanged (record { tabulation = now (tabulation .entry); slots = r })
+        (now (held .entry)) key low ⌝ }
 {
     let smallest = held[low as usize];
     held[low as usize] = 0;
@@ -88,8 +96,10 @@ fn exchange(held: &mut [u32], tabulation: &[u16], r: u32, key: u32, low: u32)
 // Finishes a component with a cycle, whose one key outside the forest is `key`: that comes in for the smallest key on
 // the cycle.
 pub fn finish_cycle(held: &mut [u32], tabulation: &[u16], r: u32, key: u32)
-    requires { ⌜ (length (now held) ≡ 2 * r) × (length (now tabulation) ≡ tabulation-length) × (0 < r) × (r ≤ max-slots) ⌝ }
-    ensures { λ _. ⌜ now (held .exit) ≡ finished-cycle (record { tabulation = now (tabulation .entry); slots = r }) (now (held .entry)) key ⌝ }
+    requires { ⌜ (length (now held) ≡ 2 * r) × (length (now tabulation) ≡ tabulation-length) × (0 < r)
+        × (r ≤ max-slots) ⌝ }
+    ensures { λ _. ⌜ now (held .exit) ≡ finished-cycle (record { tabulation = now (tabulation .entry); slots = r })
+        (now (held .entry)) key ⌝ }
 {
     let first = tabulation::first_slot(tabulation, r, key);
     reroot(&mut *held, tabulation, r, first, 0);
@@ -100,7 +110,8 @@ pub fn finish_cycle(held: &mut [u32], tabulation: &[u16], r: u32, key: u32)
 
 // Whether a key stands in one of its two slots.
 pub fn holds(held: &[u32], tabulation: &[u16], r: u32, key: u32) -> bool
-    requires { ⌜ (length (now held) ≡ 2 * r) × (length (now tabulation) ≡ tabulation-length) × (0 < r) × (r ≤ max-slots) ⌝ }
+    requires { ⌜ (length (now held) ≡ 2 * r) × (length (now tabulation) ≡ tabulation-length) × (0 < r)
+        × (r ≤ max-slots) ⌝ }
     ensures { λ b. ⌜ b ≡ holding (record { tabulation = now (tabulation .entry); slots = r }) (now (held .entry)) key ⌝ }
 {
     let first = tabulation::first_slot(tabulation, r, key);

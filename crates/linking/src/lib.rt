@@ -9,7 +9,8 @@ ghost use Rattle.partition.specs.Words.{Representative, Mergeable, rep-of, size
 ghost use Rattle.build.specs.Scratch.{parts, glue, with-held, with-sets};
 ghost use Rattle.build.specs.Access.{tables, Enough, Room};
 ghost use Rattle.build.specs.Link.{unlinked};
-ghost use Rattle.build.specs.LinkCode.{Found, linking-in, relinked, first-keys, key-words, keys-words, linked-words, label-words, Linkable, Solid};
+ghost use Rattle.build.specs.LinkCode.{Found, linking-in, relinked, first-keys, key-words, keys-words, linked-words};
+ghost use Rattle.build.specs.LinkCode.{label-words, Linkable, Solid};
 use parts::held_start;
 use parts::next_start;
 use parts::sets_start;
@@ -39,7 +40,8 @@ fn set_size(scratch: &[u32], r: u32, s: u32, rep: u32) -> u32
 // Two sets become one.
 fn unite_sets(scratch: &mut [u32], r: u32, s: u32, first: u32, second: u32)
     requires { ⌜ Enough r s (now scratch) × Mergeable (parts r s (now scratch) .sets) first second ⌝ }
-    ensures { λ _. ⌜ now (scratch .exit) ≡ glue (with-sets (parts r s (now (scratch .entry))) (united (parts r s (now (scratch .entry)) .sets) first second)) ⌝ }
+    ensures { λ _. ⌜ now (scratch .exit) ≡ glue (with-sets (parts r s (now (scratch .entry)))
+        (united (parts r s (now (scratch .entry)) .sets) first second)) ⌝ }
 {
     let start = sets_start(r, s);
     let end = stash_start(r, s);
@@ -86,7 +88,8 @@ fn ends_of(scratch: &[u32], tabulation: &[u16], r: u32, s: u32, key: u32) -> End
 fn smaller_end(scratch: &[u32], r: u32, s: u32, ends: Ends) -> u32
     requires { ⌜ Enough r s (now scratch) × Representative (parts r s (now scratch) .sets) (ends .one)
         × Representative (parts r s (now scratch) .sets) (ends .two) ⌝ }
-    ensures { λ w. ⌜ w ≡ cond (ltb (size-of (parts r s (now (scratch .entry)) .sets) (ends .one)) (size-of (parts r s (now (scratch .entry)) .sets) (ends .two)))
+    ensures { λ w. ⌜ w ≡ cond (ltb (size-of (parts r s (now (scratch .entry)) .sets) (ends .one))
+        (size-of (parts r s (now (scratch .entry)) .sets) (ends .two)))
         (ends .first) (ends .second) ⌝ }
 {
     if set_size(scratch, r, s, ends.one) < set_size(scratch, r, s, ends.two) {
@@ -97,8 +100,10 @@ fn smaller_end(scratch: &[u32], r: u32, s: u32, ends: Ends) -> u32
 
 // One key: passed over where its ends are in one set already; otherwise it links two trees, and two sets become one.
 fn link_key(scratch: &mut [u32], tabulation: &[u16], r: u32, s: u32, key: u32)
-    requires { ⌜ Room (now tabulation) r s (now scratch) × Linkable (tables (now tabulation) r) (linking-in r s (now scratch)) ⌝ }
-    ensures { λ _. ⌜ now (scratch .exit) ≡ key-words (tables (now (tabulation .entry)) r) s key (now (scratch .entry)) ⌝ }
+    requires { ⌜ Room (now tabulation) r s (now scratch)
+        × Linkable (tables (now tabulation) r) (linking-in r s (now scratch)) ⌝ }
+    ensures { λ _. ⌜ now (scratch .exit) ≡ key-words (tables (now (tabulation .entry)) r) s key (now (scratch .entry))
+        ⌝ }
 {
     let ends = ends_of(&*scratch, tabulation, r, s, key);
     if ends.one == ends.two {
@@ -125,7 +130,8 @@ fn unlink(scratch: &mut [u32], r: u32, s: u32)
 // The first n keys, ascending.
 fn link_each(scratch: &mut [u32], tabulation: &[u16], r: u32, s: u32, n: usize)
     requires { ⌜ Room (now tabulation) r s (now scratch) × (n ≤ 2 * r + s)
-        × Linkable (tables (now tabulation) r) (linking-in r s (now scratch)) × Solid (first-keys r s n (now scratch)) ⌝ }
+        × Linkable (tables (now tabulation) r) (linking-in r s (now scratch))
+        × Solid (first-keys r s n (now scratch)) ⌝ }
     ensures { λ _. ⌜ now (scratch .exit) ≡ keys-words (tables (now (tabulation .entry)) r) s n (now (scratch .entry)) ⌝ }
 {
     let mut i = 0;
@@ -139,7 +145,8 @@ fn link_each(scratch: &mut [u32], tabulation: &[u16], r: u32, s: u32, n: usize)
 // Step 1, whatever stood in the held words and the sets.
 pub fn link_keys(scratch: &mut [u32], tabulation: &[u16], r: u32, s: u32, n: usize)
     requires { ⌜ Room (now tabulation) r s (now scratch) × (n ≤ 2 * r + s) × Solid (first-keys r s n (now scratch)) ⌝ }
-    ensures { λ _. ⌜ now (scratch .exit) ≡ linked-words (tables (now (tabulation .entry)) r) s n (now (scratch .entry)) ⌝ }
+    ensures { λ _. ⌜ now (scratch .exit) ≡ linked-words (tables (now (tabulation .entry)) r) s n (now (scratch .entry))
+        ⌝ }
 {
     unlink(&mut *scratch, r, s);
     link_each(&mut *scratch, tabulation, r, s, n);

@@ -24,7 +24,8 @@ pub fn is_held(scratch: &[u32], tabulation: &[u16], r: u32, s: u32, key: u32) ->
 // The label is that of the key's slot in table 0.
 fn label(scratch: &[u32], tabulation: &[u16], r: u32, s: u32, key: u32) -> usize
     requires { ⌜ Room (now tabulation) r s (now scratch) × Fit (2 * r) (parts r s (now scratch) .next) ⌝ }
-    ensures { λ l. ⌜ (l ≡ label-of (slot-0 (tables (now (tabulation .entry)) r)) (parts r s (now (scratch .entry)) .next) key) × (l < 2 * r) ⌝ }
+    ensures { λ l. ⌜ (l ≡ label-of (slot-0 (tables (now (tabulation .entry)) r))
+        (parts r s (now (scratch .entry)) .next) key) × (l < 2 * r) ⌝ }
 {
     let at = next_start(r, s) + wide(tabulation::first_slot(tabulation, r, key));
     wide(scratch[at])
@@ -33,7 +34,8 @@ fn label(scratch: &[u32], tabulation: &[u16], r: u32, s: u32, key: u32) -> usize
 // Where the word for the key's label stands, among those of `sets`.
 pub fn note_at(scratch: &[u32], tabulation: &[u16], r: u32, s: u32, key: u32) -> usize
     requires { ⌜ Room (now tabulation) r s (now scratch) × Fit (2 * r) (parts r s (now scratch) .next) ⌝ }
-    ensures { λ i. ⌜ NoteAt r s (label-of (slot-0 (tables (now (tabulation .entry)) r)) (parts r s (now (scratch .entry)) .next) key) i ⌝ }
+    ensures { λ i. ⌜ NoteAt r s (label-of (slot-0 (tables (now (tabulation .entry)) r))
+        (parts r s (now (scratch .entry)) .next) key) i ⌝ }
 {
     sets_start(r, s) + label(scratch, tabulation, r, s, key)
 }

@@ -18,7 +18,8 @@ use words::wide;
 // No note, and no key in the stash.
 fn clear_notes(scratch: &mut [u32], r: u32, s: u32)
     requires { ⌜ Enough r s (now scratch) ⌝ }
-    ensures { λ _. ⌜ parts r s (now (scratch .exit)) ≡ with-noting (parts r s (now (scratch .entry))) (nothing-noted (2 * r) (replicate s 0)) ⌝ }
+    ensures { λ _. ⌜ parts r s (now (scratch .exit))
+        ≡ with-noting (parts r s (now (scratch .entry))) (nothing-noted (2 * r) (replicate s 0)) ⌝ }
 {
     let start = sets_start(r, s);
     let middle = stash_start(r, s);
@@ -38,8 +39,10 @@ fn note_key(
     key: u32,
 ) -> StashCount
     requires { ⌜ Room (now tabulation) r s (now scratch) × Fit (2 * r) (parts r s (now scratch) .next) ⌝ }
-    ensures noted { λ _. ⌜ parts r s (now (scratch .exit)) ≡ key-noted (tables (now (tabulation .entry)) r) (parts r s (now (scratch .entry))) count key ⌝ }
-    ensures counted { λ k. ⌜ k ≡ answer (noting-after (tables (now (tabulation .entry)) r) (parts r s (now (scratch .entry))) count key) ⌝ }
+    ensures noted { λ _. ⌜ parts r s (now (scratch .exit))
+        ≡ key-noted (tables (now (tabulation .entry)) r) (parts r s (now (scratch .entry))) count key ⌝ }
+    ensures counted { λ k. ⌜ k ≡ answer (noting-after (tables (now (tabulation .entry)) r)
+        (parts r s (now (scratch .entry))) count key) ⌝ }
 {
     if is_held(&*scratch, tabulation, r, s, key) {
         return StashCount::Keys(count);
@@ -59,9 +62,12 @@ fn note_key(
 
 // Ascending over the n keys, those that are not held.
 pub fn note_keys(scratch: &mut [u32], tabulation: &[u16], r: u32, s: u32, n: usize) -> StashCount
-    requires { ⌜ Room (now tabulation) r s (now scratch) × Fit (2 * r) (parts r s (now scratch) .next) × (n ≤ 2 * r + s) ⌝ }
-    ensures noted { λ _. ⌜ now (scratch .exit) ≡ glue (noted-parts (tables (now (tabulation .entry)) r) (parts r s (now (scratch .entry))) s n) ⌝ }
-    ensures counted { λ k. ⌜ k ≡ answer (noting-of (tables (now (tabulation .entry)) r) (parts r s (now (scratch .entry))) s n) ⌝ }
+    requires { ⌜ Room (now tabulation) r s (now scratch) × Fit (2 * r) (parts r s (now scratch) .next)
+        × (n ≤ 2 * r + s) ⌝ }
+    ensures noted { λ _. ⌜ now (scratch .exit) ≡ glue
+        (noted-parts (tables (now (tabulation .entry)) r) (parts r s (now (scratch .entry))) s n) ⌝ }
+    ensures counted { λ k. ⌜ k ≡ answer (noting-of (tables (now (tabulation .entry)) r)
+        (parts r s (now (scratch .entry))) s n) ⌝ }
 {
     clear_notes(&mut *scratch, r, s);
     let mut count: u32 = 0;
@@ -81,7 +87,8 @@ pub fn note_keys(scratch: &mut [u32], tabulation: &[u16], r: u32, s: u32, n: usi
 // One held key: the first of a label without a note is noted, a tree's smallest key.
 fn note_held_key(scratch: &mut [u32], tabulation: &[u16], r: u32, s: u32, key: u32)
     requires { ⌜ Room (now tabulation) r s (now scratch) × Fit (2 * r) (parts r s (now scratch) .next) ⌝ }
-    ensures { λ _. ⌜ parts r s (now (scratch .exit)) ≡ held-key-noted (tables (now (tabulation .entry)) r) (parts r s (now (scratch .entry))) key ⌝ }
+    ensures { λ _. ⌜ parts r s (now (scratch .exit))
+        ≡ held-key-noted (tables (now (tabulation .entry)) r) (parts r s (now (scratch .entry))) key ⌝ }
 {
     if !is_held(&*scratch, tabulation, r, s, key) {
         return;
@@ -94,8 +101,10 @@ fn note_held_key(scratch: &mut [u32], tabulation: &[u16], r: u32, s: u32, key: u
 
 // Ascending over the n keys, those that are held.
 pub fn note_held_keys(scratch: &mut [u32], tabulation: &[u16], r: u32, s: u32, n: usize)
-    requires { ⌜ Room (now tabulation) r s (now scratch) × Fit (2 * r) (parts r s (now scratch) .next) × (n ≤ 2 * r + s) ⌝ }
-    ensures { λ _. ⌜ now (scratch .exit) ≡ glue (noted-held-parts (tables (now (tabulation .entry)) r) (parts r s (now (scratch .entry))) n) ⌝ }
+    requires { ⌜ Room (now tabulation) r s (now scratch) × Fit (2 * r) (parts r s (now scratch) .next)
+        × (n ≤ 2 * r + s) ⌝ }
+    ensures { λ _. ⌜ now (scratch .exit) ≡ glue (noted-held-parts (tables (now (tabulation .entry)) r)
+        (parts r s (now (scratch .entry))) n) ⌝ }
 {
     let mut i = 0;
     while i < n {

@@ -4,7 +4,8 @@
 ghost use mathlib.Core.Path.{_≡_};
 ghost use Prim.Native.Nat.{_≤_, _<_};
 ghost use lib.ListN.{length};
-ghost use Rattle.partition.specs.Words.{max-points, singletons-of, Representative, rep-of, size-of, Mergeable, linked, united};
+ghost use Rattle.partition.specs.Words.{max-points, singletons-of, Representative, rep-of, size-of, Mergeable};
+ghost use Rattle.partition.specs.Words.{linked, united};
 
 // The most parents that a slot of at most 2,048 can have on its way to the representative: each doubles the size of the
 // set, and 2 to the 11th is 2,048.

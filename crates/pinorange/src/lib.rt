@@ -24,7 +24,8 @@ pub extern "C" fn pinorange_lookup(
     present: &mut u32,
 ) -> u32
     ensures numbered { λ n. ⌜ n ≡ lookup-refusal (now (tabulation .entry)) (now (words .entry)) key ⌝ }
-    ensures valued { λ n. ⌜ now (present .exit) ≡ present-out (now (tabulation .entry)) (now (words .entry)) key (now (present .entry)) ⌝ }
+    ensures valued { λ n. ⌜ now (present .exit) ≡ present-out (now (tabulation .entry)) (now (words .entry)) key
+        (now (present .entry)) ⌝ }
 {
     let found = access::lookup(tabulation, words, key);
     match found {
@@ -66,7 +67,8 @@ pub extern "C" fn pinorange_stash(words: &[u32], offset: &mut u32, length: &mut 
 pub extern "C" fn pinorange_init(words: &mut [u32], r: u32, s: u32, counters: &mut Counters) -> u32
     ensures answered { λ n. ⌜ n ≡ fresh-refusal (length (now (words .entry))) r s ⌝ }
     ensures laid { λ n. ⌜ now (words .exit) ≡ fresh-words (now (words .entry)) r s ⌝ }
-    ensures moved { λ n. ⌜ now (counters .exit) ≡ counted (now (counters .entry)) (fresh-refusal (length (now (words .entry))) r s) ⌝ }
+    ensures moved { λ n. ⌜ now (counters .exit) ≡ counted (now (counters .entry))
+        (fresh-refusal (length (now (words .entry))) r s) ⌝ }
 {
     let old = *counters;
     let new = counted::init(words, r, s, old);
@@ -83,10 +85,15 @@ pub extern "C" fn pinorange_insert(
     counters: &mut Counters,
     key: u32,
 ) -> u32
-    ensures answered { λ n. ⌜ n ≡ change-outcome Change.Insert (now (tabulation .entry)) (now (words .entry)) (now (scratch .entry)) key .answer ⌝ }
-    ensures changed { λ n. ⌜ now (words .exit) ≡ change-outcome Change.Insert (now (tabulation .entry)) (now (words .entry)) (now (scratch .entry)) key .words ⌝ }
-    ensures cleared { λ n. ⌜ now (scratch .exit) ≡ change-outcome Change.Insert (now (tabulation .entry)) (now (words .entry)) (now (scratch .entry)) key .scratch ⌝ }
-    ensures moved { λ n. ⌜ now (counters .exit) ≡ counted (now (counters .entry)) (change-outcome Change.Insert (now (tabulation .entry)) (now (words .entry)) (now (scratch .entry)) key .answer) ⌝ }
+    ensures answered { λ n. ⌜ n ≡ change-outcome Change.Insert (now (tabulation .entry)) (now (words .entry))
+        (now (scratch .entry)) key .answer ⌝ }
+    ensures changed { λ n. ⌜ now (words .exit) ≡ change-outcome Change.Insert (now (tabulation .entry))
+        (now (words .entry)) (now (scratch .entry)) key .words ⌝ }
+    ensures cleared { λ n. ⌜ now (scratch .exit) ≡ change-outcome Change.Insert (now (tabulation .entry))
+        (now (words .entry)) (now (scratch .entry)) key .scratch ⌝ }
+    ensures moved { λ n. ⌜ now (counters .exit) ≡ counted (now (counters .entry))
+        (change-outcome Change.Insert (now (tabulation .entry)) (now (words .entry)) (now (scratch .entry)) key
+        .answer) ⌝ }
 {
     let old = *counters;
     let new = counted::update(Change::Insert, tabulation, words, scratch, key, old);
@@ -103,10 +110,15 @@ pub extern "C" fn pinorange_remove(
     counters: &mut Counters,
     key: u32,
 ) -> u32
-    ensures answered { λ n. ⌜ n ≡ change-outcome Change.Remove (now (tabulation .entry)) (now (words .entry)) (now (scratch .entry)) key .answer ⌝ }
-    ensures changed { λ n. ⌜ now (words .exit) ≡ change-outcome Change.Remove (now (tabulation .entry)) (now (words .entry)) (now (scratch .entry)) key .words ⌝ }
-    ensures cleared { λ n. ⌜ now (scratch .exit) ≡ change-outcome Change.Remove (now (tabulation .entry)) (now (words .entry)) (now (scratch .entry)) key .scratch ⌝ }
-    ensures moved { λ n. ⌜ now (counters .exit) ≡ counted (now (counters .entry)) (change-outcome Change.Remove (now (tabulation .entry)) (now (words .entry)) (now (scratch .entry)) key .answer) ⌝ }
+    ensures answered { λ n. ⌜ n ≡ change-outcome Change.Remove (now (tabulation .entry)) (now (words .entry))
+        (now (scratch .entry)) key .answer ⌝ }
+    ensures changed { λ n. ⌜ now (words .exit) ≡ change-outcome Change.Remove (now (tabulation .entry))
+        (now (words .entry)) (now (scratch .entry)) key .words ⌝ }
+    ensures cleared { λ n. ⌜ now (scratch .exit) ≡ change-outcome Change.Remove (now (tabulation .entry))
+        (now (words .entry)) (now (scratch .entry)) key .scratch ⌝ }
+    ensures moved { λ n. ⌜ now (counters .exit) ≡ counted (now (counters .entry))
+        (change-outcome Change.Remove (now (tabulation .entry)) (now (words .entry)) (now (scratch .entry)) key
+        .answer) ⌝ }
 {
     let old = *counters;
     let new = counted::update(Change::Remove, tabulation, words, scratch, key, old);
@@ -118,8 +130,10 @@ pub extern "C" fn pinorange_remove(
 // its full length afterwards.
 #[no_mangle]
 pub extern "C" fn pinorange_check(tabulation: &[u16], words: &[u32], scratch: &mut [u32]) -> u32
-    ensures answered { λ n. ⌜ n ≡ check-outcome (now (tabulation .entry)) (now (words .entry)) (now (scratch .entry)) .answer ⌝ }
-    ensures cleared { λ n. ⌜ now (scratch .exit) ≡ check-outcome (now (tabulation .entry)) (now (words .entry)) (now (scratch .entry)) .scratch ⌝ }
+    ensures answered { λ n. ⌜ n ≡ check-outcome (now (tabulation .entry)) (now (words .entry)) (now (scratch .entry))
+        .answer ⌝ }
+    ensures cleared { λ n. ⌜ now (scratch .exit) ≡ check-outcome (now (tabulation .entry)) (now (words .entry))
+        (now (scratch .entry)) .scratch ⌝ }
 {
     dictionary::check(tabulation, words, scratch)
 }
@@ -152,8 +166,10 @@ pub extern "C" fn pinorange_hashes(
     second: &mut u32,
 ) -> u32
     ensures numbered { λ n. ⌜ n ≡ hashes-refusal (record { tabulation = now (tabulation .entry); slots = r }) key ⌝ }
-    ensures first_hash { λ n. ⌜ now (first .exit) ≡ written (record { tabulation = now (tabulation .entry); slots = r }) key 0 (now (first .entry)) ⌝ }
-    ensures second_hash { λ n. ⌜ now (second .exit) ≡ written (record { tabulation = now (tabulation .entry); slots = r }) key 1 (now (second .entry)) ⌝ }
+    ensures first_hash { λ n. ⌜ now (first .exit) ≡ written
+        (record { tabulation = now (tabulation .entry); slots = r }) key 0 (now (first .entry)) ⌝ }
+    ensures second_hash { λ n. ⌜ now (second .exit)
+        ≡ written (record { tabulation = now (tabulation .entry); slots = r }) key 1 (now (second .entry)) ⌝ }
 {
     tabulation::pinorange_hashes(tabulation, r, key, first, second)
 }

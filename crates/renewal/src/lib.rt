@@ -6,7 +6,8 @@ ghost use Rattle.layout.specs.Layout.{slots-of, places-of, params-of, keys-in};
 ghost use Rattle.layout.specs.Shape.{Shaped};
 ghost use Rattle.build.specs.Outcome.{Buildable};
 ghost use Rattle.outcome.specs.Laws.{Ready};
-ghost use Rattle.renewal.specs.Reading.{early-refusal, number, values, reading-refusal, reading-values, new-answer, new-words};
+ghost use Rattle.renewal.specs.Reading.{early-refusal, number, values, reading-refusal, reading-values};
+ghost use Rattle.renewal.specs.Reading.{new-answer, new-words};
 use build::StashCount;
 use built::matches_built;
 use built::write_built;
@@ -48,7 +49,8 @@ pub fn read_set(tabulation: &[u16], words: &[u32], scratch: &mut [u32]) -> Readi
     requires { ⌜ Ready (now tabulation) (now words) (now scratch) ⌝ }
     ensures numbered { λ l. ⌜ number l ≡ reading-refusal (now (tabulation .entry)) (now (words .entry)) ⌝ }
     ensures valued { λ l. ⌜ values l ≡ reading-values (now (tabulation .entry)) (now (words .entry)) ⌝ }
-    ensures front { λ l. ⌜ take (length (keys-in (now (words .entry)))) (now (scratch .exit)) ≡ keys-in (now (words .entry)) ⌝ }
+    ensures front { λ l. ⌜ take (length (keys-in (now (words .entry)))) (now (scratch .exit))
+        ≡ keys-in (now (words .entry)) ⌝ }
 {
     let header = access::read_header(words);
     let r = header.slots;
@@ -66,9 +68,12 @@ pub fn read_set(tabulation: &[u16], words: &[u32], scratch: &mut [u32]) -> Readi
 
 // The first n words of scratch are a new set: 8, or its image is written.
 pub fn renew(tabulation: &[u16], words: &mut [u32], scratch: &mut [u32], n: usize) -> u32
-    requires { ⌜ Buildable (slots-of (now words)) (places-of (now words)) n (now tabulation) (now scratch) × Shaped (now words) ⌝ }
-    ensures answered { λ a. ⌜ a ≡ new-answer (params-of (now (tabulation .entry)) (now (words .entry))) (take n (now (scratch .entry))) ⌝ }
-    ensures written { λ a. ⌜ now (words .exit) ≡ new-words (params-of (now (tabulation .entry)) (now (words .entry))) (take n (now (scratch .entry))) (now (words .entry)) ⌝ }
+    requires { ⌜ Buildable (slots-of (now words)) (places-of (now words)) n (now tabulation) (now scratch)
+        × Shaped (now words) ⌝ }
+    ensures answered { λ a. ⌜ a ≡ new-answer (params-of (now (tabulation .entry)) (now (words .entry)))
+        (take n (now (scratch .entry))) ⌝ }
+    ensures written { λ a. ⌜ now (words .exit) ≡ new-words (params-of (now (tabulation .entry)) (now (words .entry)))
+        (take n (now (scratch .entry))) (now (words .entry)) ⌝ }
 {
     let header = access::read_header(&*words);
     let r = header.slots;

@@ -126,7 +126,8 @@ pub fn put_remove(out: &mut [u8], at: usize, key: u32, answer: u32) -> usize
 // L,key,R and the number of the refusal
 fn put_refused(out: &mut [u8], at: usize, key: u32, refusal: u32) -> usize
     requires { ⌜ at + row-room ≤ length (now out) ⌝ }
-    ensures { λ next. ⌜ Written (lookup-row key (Looked.Refused refusal)) (now (out .entry)) at (now (out .exit)) next ⌝ }
+    ensures { λ next. ⌜ Written (lookup-row key (Looked.Refused refusal)) (now (out .entry)) at (now (out .exit)) next
+        ⌝ }
 {
     let second = put_byte(&mut *out, at, b'L');
     let third = put_field(&mut *out, second, key);

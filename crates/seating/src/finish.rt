@@ -15,7 +15,8 @@ use words::wide;
 // keys.
 fn finish_label(scratch: &mut [u32], tabulation: &[u16], r: u32, s: u32, l: usize)
     requires { ⌜ Room (now tabulation) r s (now scratch) × (l < 2 * r) ⌝ }
-    ensures { λ _. ⌜ parts r s (now (scratch .exit)) ≡ label-finished (tables (now (tabulation .entry)) r) (parts r s (now (scratch .entry))) l ⌝ }
+    ensures { λ _. ⌜ parts r s (now (scratch .exit))
+        ≡ label-finished (tables (now (tabulation .entry)) r) (parts r s (now (scratch .entry))) l ⌝ }
 {
     let at = sets_start(r, s) + l;
     let key = scratch[at];
@@ -34,7 +35,8 @@ fn finish_label(scratch: &mut [u32], tabulation: &[u16], r: u32, s: u32, l: usiz
 // Ascending over the labels.
 pub fn finish_labels(scratch: &mut [u32], tabulation: &[u16], r: u32, s: u32)
     requires { ⌜ Room (now tabulation) r s (now scratch) ⌝ }
-    ensures { λ _. ⌜ now (scratch .exit) ≡ glue (finished-parts (tables (now (tabulation .entry)) r) (parts r s (now (scratch .entry)))) ⌝ }
+    ensures { λ _. ⌜ now (scratch .exit) ≡ glue (finished-parts (tables (now (tabulation .entry)) r)
+        (parts r s (now (scratch .entry)))) ⌝ }
 {
     let m = wide(2 * r);
     let mut l = 0;

@@ -18,8 +18,11 @@ mod next;
 // Steps 1 to 3, as far as the stash: the keys linked, the slots labelled, the stash told.
 fn prepare(scratch: &mut [u32], tabulation: &[u16], r: u32, s: u32, n: usize) -> StashCount
     requires { ⌜ Buildable r s n (now tabulation) (now scratch) ⌝ }
-    ensures prepared { λ _. ⌜ now (scratch .exit) ≡ glue (noted-from (record { tabulation = now (tabulation .entry); slots = r }) s n (parts r s (now (scratch .entry)))) ⌝ }
-    ensures counted { λ k. ⌜ k ≡ answer (whole-noting (record { tabulation = now (tabulation .entry); slots = r }) s n (parts r s (now (scratch .entry)))) ⌝ }
+    ensures prepared { λ _. ⌜ now (scratch .exit) ≡ glue
+        (noted-from (record { tabulation = now (tabulation .entry); slots = r }) s n
+        (parts r s (now (scratch .entry)))) ⌝ }
+    ensures counted { λ k. ⌜ k ≡ answer (whole-noting (record { tabulation = now (tabulation .entry); slots = r }) s n
+        (parts r s (now (scratch .entry)))) ⌝ }
 {
     linking::link_keys(&mut *scratch, tabulation, r, s, n);
     linking::label_slots(&mut *scratch, r, s);
@@ -28,8 +31,10 @@ fn prepare(scratch: &mut [u32], tabulation: &[u16], r: u32, s: u32, n: usize) ->
 
 // Steps 3 to 5: the trees' notes, every component brought to its seats, the next numbers.
 fn seat(scratch: &mut [u32], tabulation: &[u16], r: u32, s: u32, n: usize)
-    requires { ⌜ Room (now tabulation) r s (now scratch) × (n ≤ 2 * r + s) × Chainable (record { tabulation = now tabulation; slots = r }) n (parts r s (now scratch)) ⌝ }
-    ensures { λ _. ⌜ now (scratch .exit) ≡ glue (seated-from (record { tabulation = now (tabulation .entry); slots = r }) n (parts r s (now (scratch .entry)))) ⌝ }
+    requires { ⌜ Room (now tabulation) r s (now scratch) × (n ≤ 2 * r + s)
+        × Chainable (record { tabulation = now tabulation; slots = r }) n (parts r s (now scratch)) ⌝ }
+    ensures { λ _. ⌜ now (scratch .exit) ≡ glue (seated-from
+        (record { tabulation = now (tabulation .entry); slots = r }) n (parts r s (now (scratch .entry)))) ⌝ }
 {
     notes::note_held_keys(&mut *scratch, tabulation, r, s, n);
     finish::finish_labels(&mut *scratch, tabulation, r, s);
@@ -42,7 +47,8 @@ fn seat(scratch: &mut [u32], tabulation: &[u16], r: u32, s: u32, n: usize)
 // words of the keys stay.
 pub fn build(scratch: &mut [u32], tabulation: &[u16], r: u32, s: u32, n: usize) -> StashCount
     requires { ⌜ Buildable r s n (now tabulation) (now scratch) ⌝ }
-    ensures { λ k. ⌜ Built (record { tabulation = now (tabulation .entry); slots = r }) s (take n (now (scratch .entry))) (now (scratch .entry)) (now (scratch .exit)) k ⌝ }
+    ensures { λ k. ⌜ Built (record { tabulation = now (tabulation .entry); slots = r }) s
+        (take n (now (scratch .entry))) (now (scratch .entry)) (now (scratch .exit)) k ⌝ }
 {
     let count = prepare(&mut *scratch, tabulation, r, s, n);
     let StashCount::Keys(k) = count else {

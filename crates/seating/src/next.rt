@@ -6,7 +6,8 @@ ghost use Prim.Native.Nat.{_+_, _*_, _<_, _≤_};
 ghost use Rattle.build.specs.Scratch.{parts, glue};
 ghost use Rattle.build.specs.Access.{tables, Enough, Room, Fit};
 ghost use Rattle.build.specs.Passes.{last-seen-parts, chained-parts, blanked-parts};
-ghost use Rattle.build.specs.NextCode.{seat-in, label-at, Readable, Chainable, key-seen, slot-put, key-put, key-chained};
+ghost use Rattle.build.specs.NextCode.{seat-in, label-at, Readable, Chainable, key-seen, slot-put, key-put};
+ghost use Rattle.build.specs.NextCode.{key-chained};
 use noting::key::is_held;
 use noting::key::note_at;
 use parts::held_start;
@@ -17,7 +18,8 @@ use words::wide;
 // One key of the first pass: held, it is now the last seen of its label.
 fn see_key(scratch: &mut [u32], tabulation: &[u16], r: u32, s: u32, key: u32)
     requires { ⌜ Room (now tabulation) r s (now scratch) × Fit (2 * r) (parts r s (now scratch) .next) ⌝ }
-    ensures { λ _. ⌜ parts r s (now (scratch .exit)) ≡ key-seen (tables (now (tabulation .entry)) r) (parts r s (now (scratch .entry))) key ⌝ }
+    ensures { λ _. ⌜ parts r s (now (scratch .exit))
+        ≡ key-seen (tables (now (tabulation .entry)) r) (parts r s (now (scratch .entry))) key ⌝ }
 {
     if !is_held(&*scratch, tabulation, r, s, key) {
         return;
@@ -28,8 +30,10 @@ fn see_key(scratch: &mut [u32], tabulation: &[u16], r: u32, s: u32, key: u32)
 
 // First pass, descending over the n keys: leaves the smallest of each component.
 pub fn last_seen_keys(scratch: &mut [u32], tabulation: &[u16], r: u32, s: u32, n: usize)
-    requires { ⌜ Room (now tabulation) r s (now scratch) × Fit (2 * r) (parts r s (now scratch) .next) × (n ≤ 2 * r + s) ⌝ }
-    ensures { λ _. ⌜ now (scratch .exit) ≡ glue (last-seen-parts (tables (now (tabulation .entry)) r) (parts r s (now (scratch .entry))) n) ⌝ }
+    requires { ⌜ Room (now tabulation) r s (now scratch) × Fit (2 * r) (parts r s (now scratch) .next)
+        × (n ≤ 2 * r + s) ⌝ }
+    ensures { λ _. ⌜ now (scratch .exit) ≡ glue (last-seen-parts (tables (now (tabulation .entry)) r)
+        (parts r s (now (scratch .entry))) n) ⌝ }
 {
     let mut i = n;
     while 0 < i {
@@ -42,7 +46,8 @@ pub fn last_seen_keys(scratch: &mut [u32], tabulation: &[u16], r: u32, s: u32, n
 // A slot where a held key stands.
 fn seat_of(scratch: &[u32], tabulation: &[u16], r: u32, s: u32, key: u32) -> usize
     requires { ⌜ Room (now tabulation) r s (now scratch) ⌝ }
-    ensures { λ v. ⌜ (v ≡ seat-in (tables (now (tabulation .entry)) r) (parts r s (now (scratch .entry))) key) × (v < 2 * r) ⌝ }
+    ensures { λ v. ⌜ (v ≡ seat-in (tables (now (tabulation .entry)) r) (parts r s (now (scratch .entry))) key)
+        × (v < 2 * r) ⌝ }
 {
     let first = wide(tabulation::first_slot(tabulation, r, key));
     let at = held_start(r, s) + first;
@@ -54,8 +59,10 @@ fn seat_of(scratch: &[u32], tabulation: &[u16], r: u32, s: u32, key: u32) -> usi
 
 // The label of a held key that has no next number yet, read where the key stands.
 fn label_at_seat(scratch: &[u32], tabulation: &[u16], r: u32, s: u32, key: u32) -> usize
-    requires { ⌜ Room (now tabulation) r s (now scratch) × (label-at (tables (now tabulation) r) (parts r s (now scratch)) key < 2 * r) ⌝ }
-    ensures { λ l. ⌜ (l ≡ label-at (tables (now (tabulation .entry)) r) (parts r s (now (scratch .entry))) key) × (l < 2 * r) ⌝ }
+    requires { ⌜ Room (now tabulation) r s (now scratch)
+        × (label-at (tables (now tabulation) r) (parts r s (now scratch)) key < 2 * r) ⌝ }
+    ensures { λ l. ⌜ (l ≡ label-at (tables (now (tabulation .entry)) r) (parts r s (now (scratch .entry))) key)
+        × (l < 2 * r) ⌝ }
 {
     let at = next_start(r, s) + seat_of(scratch, tabulation, r, s, key);
     wide(scratch[at])
@@ -76,7 +83,8 @@ fn put_next(scratch: &mut [u32], r: u32, s: u32, key: u32, slot: usize, next: u3
 // The next number of each slot where the key stands.
 fn put_nexts(scratch: &mut [u32], tabulation: &[u16], r: u32, s: u32, key: u32, next: u32)
     requires { ⌜ Room (now tabulation) r s (now scratch) ⌝ }
-    ensures { λ _. ⌜ parts r s (now (scratch .exit)) ≡ key-put (tables (now (tabulation .entry)) r) (parts r s (now (scratch .entry))) key next ⌝ }
+    ensures { λ _. ⌜ parts r s (now (scratch .exit))
+        ≡ key-put (tables (now (tabulation .entry)) r) (parts r s (now (scratch .entry))) key next ⌝ }
 {
     let first = wide(tabulation::first_slot(tabulation, r, key));
     put_next(&mut *scratch, r, s, key, first, next);
@@ -86,8 +94,10 @@ fn put_nexts(scratch: &mut [u32], tabulation: &[u16], r: u32, s: u32, key: u32, 
 
 // One key of the second pass: held, its next is the key last seen of its label, and it is now the last seen.
 fn chain_key(scratch: &mut [u32], tabulation: &[u16], r: u32, s: u32, key: u32)
-    requires { ⌜ Room (now tabulation) r s (now scratch) × Readable (tables (now tabulation) r) (parts r s (now scratch)) key ⌝ }
-    ensures { λ _. ⌜ parts r s (now (scratch .exit)) ≡ key-chained (tables (now (tabulation .entry)) r) (parts r s (now (scratch .entry))) key ⌝ }
+    requires { ⌜ Room (now tabulation) r s (now scratch)
+        × Readable (tables (now tabulation) r) (parts r s (now scratch)) key ⌝ }
+    ensures { λ _. ⌜ parts r s (now (scratch .exit))
+        ≡ key-chained (tables (now (tabulation .entry)) r) (parts r s (now (scratch .entry))) key ⌝ }
 {
     if !is_held(&*scratch, tabulation, r, s, key) {
         return;
@@ -100,8 +110,10 @@ fn chain_key(scratch: &mut [u32], tabulation: &[u16], r: u32, s: u32, key: u32)
 
 // Second pass, descending over the n keys.
 pub fn chain_keys(scratch: &mut [u32], tabulation: &[u16], r: u32, s: u32, n: usize)
-    requires { ⌜ Room (now tabulation) r s (now scratch) × (n ≤ 2 * r + s) × Chainable (tables (now tabulation) r) n (parts r s (now scratch)) ⌝ }
-    ensures { λ _. ⌜ now (scratch .exit) ≡ glue (chained-parts (tables (now (tabulation .entry)) r) (parts r s (now (scratch .entry))) n) ⌝ }
+    requires { ⌜ Room (now tabulation) r s (now scratch) × (n ≤ 2 * r + s)
+        × Chainable (tables (now tabulation) r) n (parts r s (now scratch)) ⌝ }
+    ensures { λ _. ⌜ now (scratch .exit) ≡ glue (chained-parts (tables (now (tabulation .entry)) r)
+        (parts r s (now (scratch .entry))) n) ⌝ }
 {
     let mut i = n;
     while 0 < i {

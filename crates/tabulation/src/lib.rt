@@ -68,7 +68,8 @@ pub fn hash_in(tabulation: &[u16], table: usize, r: u32, key: u32) -> u32
 
 // Both hashes of a key, or 1, 2 or 5: for every tabulation, r and key.
 pub fn hashes(tabulation: &[u16], r: u32, key: u32) -> Hashed
-    ensures numbered { λ h. ⌜ number h ≡ hashes-refusal (record { tabulation = now (tabulation .entry); slots = r }) key ⌝ }
+    ensures numbered { λ h. ⌜ number h ≡ hashes-refusal (record { tabulation = now (tabulation .entry); slots = r })
+        key ⌝ }
     ensures valued { λ h. ⌜ values h ≡ hashes-values (record { tabulation = now (tabulation .entry); slots = r }) key ⌝ }
 {
     if tabulation.len() != TABULATION_LENGTH {
@@ -97,8 +98,10 @@ pub extern "C" fn pinorange_hashes(
     second: &mut u32,
 ) -> u32
     ensures numbered { λ n. ⌜ n ≡ hashes-refusal (record { tabulation = now (tabulation .entry); slots = r }) key ⌝ }
-    ensures first_hash { λ n. ⌜ now (first .exit) ≡ written (record { tabulation = now (tabulation .entry); slots = r }) key 0 (now (first .entry)) ⌝ }
-    ensures second_hash { λ n. ⌜ now (second .exit) ≡ written (record { tabulation = now (tabulation .entry); slots = r }) key 1 (now (second .entry)) ⌝ }
+    ensures first_hash { λ n. ⌜ now (first .exit) ≡ written
+        (record { tabulation = now (tabulation .entry); slots = r }) key 0 (now (first .entry)) ⌝ }
+    ensures second_hash { λ n. ⌜ now (second .exit)
+        ≡ written (record { tabulation = now (tabulation .entry); slots = r }) key 1 (now (second .entry)) ⌝ }
 {
     let h = hashes(tabulation, r, key);
     match h {
