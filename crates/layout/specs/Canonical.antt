@@ -14,7 +14,7 @@ use Rattle.layout.specs.Shape.{shape}
 use Rattle.layout.specs.Image.{image-shaped, image-params}
 use Rattle.layout.specs.Standing.{keys-in-valid, keys-in-image}
 
--- The words are a canonical image: the keys that stand in them fit, and the words are the image of the set of these keys (`same`, of cuckoo/specs/Lists, is
+-- The words are a canonical image: the keys that stand in them fit, and the words are the image of the set of these keys (`same`, of basics/specs/Lists, is
 -- equality of lists).
 unfoldable pub canonical : List ℕ → List ℕ → Bool
 canonical tabulation ws = fits (params-of tabulation ws) (keys-in ws) && same ws (image (params-of tabulation ws) (keys-in ws))

@@ -1,14 +1,14 @@
 -- Lookup and the stash view on the image of a set: a lookup says yes exactly for the keys of the set, and the view is the set's stash. Neither is
 -- ever refused there but for a blank key. Assumes nothing.
 use Prim.Native.Nat.{ℕ, _+_, _-_, _<_}
-use mathlib.Core.Path.{_≡_, refl, sym, _∙_}
+use mathlib.Core.Path.{_≡_, refl, sym, _∙_, ap}
 use mathlib.Core.Bool.{Bool, true, false, cond, _||_, or-true, false≢true}
 use mathlib.Core.Logic.{_⊎_, inl, inr}
 use mathlib.Core.List.{List, [], _∷_, List·Memᴰ as In, Memᴰ·append-left}
 use native.Mathlib.Omega.{arith}
 use borrow.Author.Tests.{eqb-true, eq-eqb, le-ltb}
 use lib.Dec.{eqb}
-use lib.ListN.{length, getD, replicate}
+use lib.ListN.{length, getD, take, drop, replicate}
 use lib.Seq.{take-at}
 use Rattle.basics.specs.Tests.{test, or-cases, bool-ext}
 use Rattle.basics.specs.Sets.{member, member-in, in-member}
@@ -16,7 +16,7 @@ use Rattle.cuckoo.specs.Graph.{slot-key}
 use Rattle.refusals.specs.Refusal.{done, blank-key}
 use Rattle.tabulation.specs.Hash.{tabulation-length, blank}
 use Rattle.tabulation.specs.Slots.{slot-0, slot-1, slot-0-lt, slot-1-lt}
-use Rattle.layout.specs.Layout.{Params, family, ValidSet, key-at, slots-of, params-of, sizes-in-range, stash-of, fits, image, stash-part, image-by}
+use Rattle.layout.specs.Layout.{Params, family, ValidSet, key-at, slots-of, params-of, sizes-in-range, stash-of, fits, image, stash-part, image-by, stash-at, stash-count}
 use Rattle.layout.specs.Answers.{lookup-refusal, stands, lookup-values, view-refusal, view-of}
 use Rattle.layout.specs.Shape.{sized}
 use Rattle.layout.specs.Image.{fits-le, image-slots, image-places, image-stashed, image-key, image-stash, image-shaped}
@@ -111,5 +111,9 @@ module _ (P : Params) (S : List ℕ) (e : fits P S ≡ true) where
     pub image-view : view-of (image P S) ≡ stash-of P S
     unfolding view-of
     image-view =
-        rw (image-view-refusal, image-slots P S, image-stashed P S, image-stash P S)
-        (take-at (stash-of P S) (replicate (P .places - length (stash-of P S)) 0) (length (stash-of P S)) refl)
+        let ws = image P S in
+        let e : view-of ws ≡ take (stash-count ws) (drop (stash-at (slots-of ws)) ws) =
+        ap (λ (t : Bool). cond t (take (stash-count ws) (drop (stash-at (slots-of ws)) ws)) []) (eq-eqb (view-refusal ws) done image-view-refusal) in
+        e
+        ∙ (rw (image-slots P S, image-stashed P S, image-stash P S)
+        (take-at (stash-of P S) (replicate (P .places - length (stash-of P S)) 0) (length (stash-of P S)) refl))
