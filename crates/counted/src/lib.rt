@@ -19,14 +19,9 @@ pub fn update(
     key: u32,
     counters: Counters,
 ) -> Counted
-    ensures answered { λ c. ⌜ c .answer ≡ change-outcome kind (now (tabulation .entry)) (now (words .entry))
-        (now (scratch .entry)) key .answer ⌝ }
-    ensures changed { λ c. ⌜ now (words .exit) ≡ change-outcome kind (now (tabulation .entry)) (now (words .entry))
-        (now (scratch .entry)) key .words ⌝ }
-    ensures cleared { λ c. ⌜ now (scratch .exit) ≡ change-outcome kind (now (tabulation .entry)) (now (words .entry))
-        (now (scratch .entry)) key .scratch ⌝ }
-    ensures moved { λ c. ⌜ c .counters ≡ counted counters
-        (change-outcome kind (now (tabulation .entry)) (now (words .entry)) (now (scratch .entry)) key .answer) ⌝ }
+    ensures changed { λ c. ⌜ record { answer = c .answer; words = now (words .exit); scratch = now (scratch .exit) }
+        ≡ change-outcome kind (now (tabulation .entry)) (now (words .entry)) (now (scratch .entry)) key ⌝ }
+    ensures moved { λ c. ⌜ c .counters ≡ counted counters (c .answer) ⌝ }
 {
     let answer = dictionary::update(kind, tabulation, words, scratch, key);
     with_counts(answer, counters)
@@ -36,7 +31,7 @@ pub fn update(
 pub fn init(words: &mut [u32], r: u32, s: u32, counters: Counters) -> Counted
     ensures answered { λ c. ⌜ c .answer ≡ fresh-refusal (length (now (words .entry))) r s ⌝ }
     ensures laid { λ c. ⌜ now (words .exit) ≡ fresh-words (now (words .entry)) r s ⌝ }
-    ensures moved { λ c. ⌜ c .counters ≡ counted counters (fresh-refusal (length (now (words .entry))) r s) ⌝ }
+    ensures moved { λ c. ⌜ c .counters ≡ counted counters (c .answer) ⌝ }
 {
     let answer = access::fresh(words, r, s);
     with_counts(answer, counters)

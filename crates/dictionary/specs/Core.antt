@@ -47,6 +47,10 @@ abbrev pub set-words : Change → List ℕ → List ℕ → ℕ → List ℕ
 set-words kind tabulation ws key =
     cond (eqb (set-answer kind tabulation ws key) done) (image (params-of tabulation ws) (changed kind key (keys-in ws))) ws
 
+-- an answer and words are those that a change of the set leads to
+abbrev pub Decided : Change → List ℕ → List ℕ → ℕ → (ℕ → List ℕ → Type 0)
+Decided kind tabulation ws key n us = (n ≡ set-answer kind tabulation ws key) × (us ≡ set-words kind tabulation ws key)
+
 -- The set changes. `mid` is scratch with the new set at its front, m keys.
 module _ {tabulation ws scratch : List ℕ} {n key : ℕ} (Z : Settable tabulation ws scratch n key) where
   abbrev sizes : Shaped ws
@@ -67,20 +71,19 @@ module _ {tabulation ws scratch : List ℕ} {n key : ℕ} (Z : Settable tabulati
   pub front-asc : Asc (take n scratch)
   front-asc = rw (Z .front) (valid .asc)
 
-  pub insert-present : member key (take n scratch) ≡ true
-      → (key-present ≡ set-answer Insert tabulation ws key) × (ws ≡ set-words Insert tabulation ws key)
+  pub insert-present : member key (take n scratch) ≡ true → Decided Insert tabulation ws key key-present ws
   insert-present m = let t = rw (Z .front) at m in (rw t, rw t)
 
   pub insert-crowded : member key (take n scratch) ≡ false → 2 * slots-of ws + places-of ws ≤ n
-      → (stash-full ≡ set-answer Insert tabulation ws key) × (ws ≡ set-words Insert tabulation ws key)
+      → Decided Insert tabulation ws key stash-full ws
   insert-crowded m l =
       let t = rw (Z .front) at m in
       let f = one-too-many (params-of tabulation ws) key (sizes .sizes .some) valid (Z .solid) t (omega (arith, Z .count)) in
       (rw (t, f), rw (t, f))
 
   pub insert-renewed : member key (take n scratch) ≡ false
-      → (new-answer (params-of tabulation ws) (with-key key (keys-in ws)) ≡ set-answer Insert tabulation ws key)
-      × (new-words (params-of tabulation ws) (with-key key (keys-in ws)) ws ≡ set-words Insert tabulation ws key)
+      → Decided Insert tabulation ws key (new-answer (params-of tabulation ws) (with-key key (keys-in ws)))
+      (new-words (params-of tabulation ws) (with-key key (keys-in ws)) ws)
   insert-renewed m = let t = rw (Z .front) at m in rw t (go (fits (params-of tabulation ws) (with-key key (keys-in ws))))
     where
       go : (f : Bool) → (cond f done stash-full ≡ cond (not f) stash-full done)
@@ -89,8 +92,7 @@ module _ {tabulation ws scratch : List ℕ} {n key : ℕ} (Z : Settable tabulati
       go true = (refl, refl)
       go false = (refl, refl)
 
-  pub remove-absent : member key (take n scratch) ≡ false
-      → (key-absent ≡ set-answer Remove tabulation ws key) × (ws ≡ set-words Remove tabulation ws key)
+  pub remove-absent : member key (take n scratch) ≡ false → Decided Remove tabulation ws key key-absent ws
   remove-absent m = let t = rw (Z .front) at m in (rw t, rw t)
 
   -- a set with a key has one
@@ -98,8 +100,8 @@ module _ {tabulation ws scratch : List ℕ} {n key : ℕ} (Z : Settable tabulati
   remove-some m = elim (eq? n 0) [ inl e ↦ absurd (false≢true (rw e at m)) | inr e ↦ omega arith ]
 
   pub remove-renewed : member key (take n scratch) ≡ true
-      → (new-answer (params-of tabulation ws) (without key (keys-in ws)) ≡ set-answer Remove tabulation ws key)
-      × (new-words (params-of tabulation ws) (without key (keys-in ws)) ws ≡ set-words Remove tabulation ws key)
+      → Decided Remove tabulation ws key (new-answer (params-of tabulation ws) (without key (keys-in ws)))
+      (new-words (params-of tabulation ws) (without key (keys-in ws)) ws)
   remove-renewed m =
       let t = rw (Z .front) at m in
       let f = without-fits (params-of tabulation ws) valid key (canonical-true tabulation ws (Z .image) .fit) in
@@ -118,10 +120,10 @@ module _ {tabulation ws scratch : List ℕ} {n key : ℕ} (Z : Settable tabulati
     )
 
     pub changed-renewed : {a : ℕ} {us : List ℕ}
-        → (new-answer (params-of tabulation ws) (changed kind key (keys-in ws)) ≡ set-answer kind tabulation ws key)
-        × (new-words (params-of tabulation ws) (changed kind key (keys-in ws)) ws ≡ set-words kind tabulation ws key)
+        → Decided kind tabulation ws key (new-answer (params-of tabulation ws) (changed kind key (keys-in ws)))
+        (new-words (params-of tabulation ws) (changed kind key (keys-in ws)) ws)
         → (a ≡ new-answer (params-of tabulation ws) (take m mid)) × (us ≡ new-words (params-of tabulation ws) (take m mid) ws)
-        → (a ≡ set-answer kind tabulation ws key) × (us ≡ set-words kind tabulation ws key)
+        → Decided kind tabulation ws key a us
     changed-renewed renewed e = ((rw changed-front at (e .0)) ∙ renewed .0, (rw changed-front at (e .1)) ∙ renewed .1)
 
 -- From the steps to the outcomes.
@@ -183,7 +185,7 @@ settable {tabulation} {ws} ready same-room e told solid test =
 -- insert and remove
 module _ (tabulation ws scratch : List ℕ) (kind : Change) (key : ℕ) where
   -- an answer and words are those of the outcome
-  abbrev Left : ℕ → List ℕ → Type 0
+  abbrev pub Left : ℕ → List ℕ → Type 0
   Left n us = (n ≡ change-outcome kind tabulation ws scratch key .answer) × (us ≡ change-outcome kind tabulation ws scratch key .words)
 
   -- a refusal leaves the words
@@ -207,7 +209,7 @@ module _ (tabulation ws scratch : List ℕ) (kind : Change) (key : ℕ) where
 
   -- what the set decides
   pub left-set : {mid : List ℕ} {n a : ℕ} {us : List ℕ} → Ready tabulation ws scratch → Settable tabulation ws mid n key
-      → (a ≡ set-answer kind tabulation ws key) × (us ≡ set-words kind tabulation ws key) → Left a us
+      → Decided kind tabulation ws key a us → Left a us
   unfolding change-outcome
   left-set ready Z e =
       let r : set-answer kind tabulation ws key ≡ change-refusal kind tabulation ws scratch key =

@@ -2,7 +2,7 @@
 // that set is built anew in scratch, and the words must be its image. Then the set changes, is built again, and is
 // written. There are no incremental cases.
 ghost use mathlib.Core.Path.{_≡_};
-ghost use Rattle.dictionary.specs.Core.{Settable, set-answer, set-words};
+ghost use Rattle.dictionary.specs.Core.{Settable, Decided, Left};
 ghost use Rattle.outcome.specs.Outcome.{change-outcome, check-outcome};
 ghost use Rattle.outcome.specs.declared.Change.the-variants.{Insert, Remove};
 use outcome::Change;
@@ -21,8 +21,7 @@ use words::wide;
 // The keys at the front of scratch are the set of the words, and the key is not blank: the set with the key.
 fn insert_key(tabulation: &[u16], words: &mut [u32], scratch: &mut [u32], n: usize, key: u32) -> u32
     requires { ⌜ Settable (now tabulation) (now words) (now scratch) n key ⌝ }
-    ensures answered { λ a. ⌜ a ≡ set-answer Insert (now (tabulation .entry)) (now (words .entry)) key ⌝ }
-    ensures written { λ a. ⌜ now (words .exit) ≡ set-words Insert (now (tabulation .entry)) (now (words .entry)) key ⌝ }
+    ensures { λ a. ⌜ Decided Insert (now (tabulation .entry)) (now (words .entry)) key a (now (words .exit)) ⌝ }
 {
     if ordered::has(&scratch[..n], key) {
         return KEY_PRESENT;
@@ -38,8 +37,7 @@ fn insert_key(tabulation: &[u16], words: &mut [u32], scratch: &mut [u32], n: usi
 // The keys at the front of scratch are the set of the words, and the key is not blank: the set without the key.
 fn remove_key(tabulation: &[u16], words: &mut [u32], scratch: &mut [u32], n: usize, key: u32) -> u32
     requires { ⌜ Settable (now tabulation) (now words) (now scratch) n key ⌝ }
-    ensures answered { λ a. ⌜ a ≡ set-answer Remove (now (tabulation .entry)) (now (words .entry)) key ⌝ }
-    ensures written { λ a. ⌜ now (words .exit) ≡ set-words Remove (now (tabulation .entry)) (now (words .entry)) key ⌝ }
+    ensures { λ a. ⌜ Decided Remove (now (tabulation .entry)) (now (words .entry)) key a (now (words .exit)) ⌝ }
 {
     if !ordered::has(&scratch[..n], key) {
         return KEY_ABSENT;
@@ -56,10 +54,8 @@ fn change_words(
     scratch: &mut [u32],
     key: u32,
 ) -> u32
-    ensures answered { λ a. ⌜ a ≡ change-outcome kind (now (tabulation .entry)) (now (words .entry))
-        (now (scratch .entry)) key .answer ⌝ }
-    ensures written { λ a. ⌜ now (words .exit) ≡ change-outcome kind (now (tabulation .entry)) (now (words .entry))
-        (now (scratch .entry)) key .words ⌝ }
+    ensures { λ a. ⌜ Left (now (tabulation .entry)) (now (words .entry)) (now (scratch .entry)) kind key a
+        (now (words .exit)) ⌝ }
 {
     let refusal = early(tabulation, &*words, scratch.len());
     if refusal != 0 {
@@ -86,12 +82,8 @@ pub fn update(
     scratch: &mut [u32],
     key: u32,
 ) -> u32
-    ensures answered { λ n. ⌜ n ≡ change-outcome kind (now (tabulation .entry)) (now (words .entry))
-        (now (scratch .entry)) key .answer ⌝ }
-    ensures changed { λ n. ⌜ now (words .exit) ≡ change-outcome kind (now (tabulation .entry)) (now (words .entry))
-        (now (scratch .entry)) key .words ⌝ }
-    ensures cleared { λ n. ⌜ now (scratch .exit) ≡ change-outcome kind (now (tabulation .entry)) (now (words .entry))
-        (now (scratch .entry)) key .scratch ⌝ }
+    ensures { λ n. ⌜ record { answer = n; words = now (words .exit); scratch = now (scratch .exit) }
+        ≡ change-outcome kind (now (tabulation .entry)) (now (words .entry)) (now (scratch .entry)) key ⌝ }
 {
     let answer = change_words(kind, tabulation, &mut *words, &mut *scratch, key);
     clear(&mut *scratch);
@@ -115,10 +107,8 @@ fn check_words(tabulation: &[u16], words: &[u32], scratch: &mut [u32]) -> u32
 
 // Check: its whole outcome. The words are only read.
 pub fn check(tabulation: &[u16], words: &[u32], scratch: &mut [u32]) -> u32
-    ensures answered { λ n. ⌜ n ≡ check-outcome (now (tabulation .entry)) (now (words .entry)) (now (scratch .entry))
-        .answer ⌝ }
-    ensures cleared { λ n. ⌜ now (scratch .exit) ≡ check-outcome (now (tabulation .entry)) (now (words .entry))
-        (now (scratch .entry)) .scratch ⌝ }
+    ensures { λ n. ⌜ record { answer = n; words = now (words .entry); scratch = now (scratch .exit) }
+        ≡ check-outcome (now (tabulation .entry)) (now (words .entry)) (now (scratch .entry)) ⌝ }
 {
     let answer = check_words(tabulation, words, &mut *scratch);
     clear(&mut *scratch);

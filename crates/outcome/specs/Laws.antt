@@ -16,7 +16,7 @@ use Rattle.layout.specs.Layout.{Params, params-of, slots-of, places-of, scratch
 use Rattle.layout.specs.Canonical.{canonical, ImageOf, canonical-iff, not-canonical-iff}
 use Rattle.outcome.specs.declared.Change.{Change}
 use Rattle.outcome.specs.declared.Change.the-variants.{Insert, Remove}
-use Rattle.outcome.specs.Outcome.{changed, set-refusals, first-refusals, change-refusal, change-outcome, check-outcome}
+use Rattle.outcome.specs.Outcome.{Outcome, changed, set-refusals, first-refusals, change-refusal, change-outcome, check-outcome}
 
 -- the numbers
 
@@ -45,6 +45,11 @@ unfolding check-outcome
 check-answer-in tabulation ws scratch = first-refusal-in (first-refusals tabulation ws scratch)
 
 -- words and scratch
+
+-- An outcome is its answer, its words and its scratch.
+pub outcome-of : {o : Outcome} {n : ℕ} {us sheet : List ℕ} → n ≡ o .answer → us ≡ o .words → sheet ≡ o .scratch
+    → record { answer = n; words = us; scratch = sheet } ≡ o
+outcome-of e f g = rw (e, f, g) refl
 
 module _ (tabulation ws scratch : List ℕ) where
   module _ (kind : Change) (key : ℕ) where

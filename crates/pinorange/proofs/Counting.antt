@@ -4,7 +4,7 @@
 --     opens-counters, closes-counters      the borrow is opened, and closed at other counters (`opens` and `closes` of denote.Steps at the counters)
 --     counters-of, answer-fits, spelled    of the machine value of what a counted call gives back: its counters are counters, its answer is a 32-bit
 --                                          number, and the value is written out
---     says3, says4             a goal P ∗ ⌜φ⌝ ∗ ..: the three facts, or the four, are shown, and P is left
+--     says                     a goal P ∗ Q: Q, the facts of a promise, holds by itself (`shown`, `with-fact`), and P is left
 -- Assumes nothing.
 use Prim.Native.Nat.{ℕ, _<_, _^_}
 use mathlib.Core.Path.{_≡_, ap}
@@ -88,19 +88,16 @@ module _ (c : Counted) (w : Val) (is : Is R.the-row c (w ∷ [])) where
   pub spelled : w ≡ counted-val c
   spelled = ap only (LL.tells R.the-type R′.the-laws c (w ∷ []) is)
 
--- what holds by itself is had beside anything
+-- what holds by itself is had beside anything: a fact, a fact and more, and what is left of a goal without them
 module _ {M : Type 1} (𝓤 : URA M) where
-  with-fact : {Q : SProp 𝓤} (φ : Type 0) → φ → ent 𝓤 (emp 𝓤) Q → ent 𝓤 (emp 𝓤) (sep 𝓤 (fact 𝓤 φ) Q)
-  with-fact φ x e = via 𝓤 (sep 𝓤 (emp 𝓤) (emp 𝓤)) (emp∗ 𝓤 (emp 𝓤)) (mono∗ 𝓤 (factI 𝓤 φ (emp 𝓤) x) e)
+  pub shown : (φ : Type 0) → φ → ent 𝓤 (emp 𝓤) (fact 𝓤 φ)
+  shown φ x = factI 𝓤 φ (emp 𝓤) x
 
-  beside : (P Q : SProp 𝓤) → ent 𝓤 (emp 𝓤) Q → ent 𝓤 P (sep 𝓤 P Q)
-  beside P Q e = via 𝓤 (sep 𝓤 (emp 𝓤) P) (emp∗ 𝓤 P) (via 𝓤 (sep 𝓤 Q P) (monoL 𝓤 P e) (comm∗ 𝓤 Q P))
+  pub with-fact : {Q : SProp 𝓤} (φ : Type 0) → φ → ent 𝓤 (emp 𝓤) Q → ent 𝓤 (emp 𝓤) (sep 𝓤 (fact 𝓤 φ) Q)
+  with-fact φ x e = via 𝓤 (sep 𝓤 (emp 𝓤) (emp 𝓤)) (emp∗ 𝓤 (emp 𝓤)) (mono∗ 𝓤 (shown φ x) e)
 
-module _ {M : Type 1} {𝓤 : URA M} {H : Heap 𝓤} {A : Atoms 𝓤} {K : Type 0} {W : Given 𝓤 H A} {Γ : List (Item 𝓤)} {P : SProp 𝓤} {φ ψ χ : Type 0} where
-  pub says3 : K → φ → ψ → χ → Step K W Γ (prop P) Γ (prop (sep 𝓤 P (sep 𝓤 (fact 𝓤 φ) (sep 𝓤 (fact 𝓤 ψ) (fact 𝓤 χ)))))
-  says3 t x y z = step (λ s. record { prf = via 𝓤 P (s .prf) (beside 𝓤 P _ (with-fact 𝓤 φ x (with-fact 𝓤 ψ y (factI 𝓤 χ (emp 𝓤) z)))) })
-
-  pub says4 : K → {ω : Type 0} → φ → ψ → χ → ω
-      → Step K W Γ (prop P) Γ (prop (sep 𝓤 P (sep 𝓤 (fact 𝓤 φ) (sep 𝓤 (fact 𝓤 ψ) (sep 𝓤 (fact 𝓤 χ) (fact 𝓤 ω))))))
-  says4 t {ω} x y z u =
-      step (λ s. record { prf = via 𝓤 P (s .prf) (beside 𝓤 P _ (with-fact 𝓤 φ x (with-fact 𝓤 ψ y (with-fact 𝓤 χ z (factI 𝓤 ω (emp 𝓤) u))))) })
+module _ {M : Type 1} {𝓤 : URA M} {H : Heap 𝓤} {A : Atoms 𝓤} {K : Type 0} {W : Given 𝓤 H A} {Γ : List (Item 𝓤)} {P : SProp 𝓤} where
+  pub says : K → (Q : SProp 𝓤) → ent 𝓤 (emp 𝓤) Q → Step K W Γ (prop P) Γ (prop (sep 𝓤 P Q))
+  says t Q e = step (λ s. record {
+    prf = via 𝓤 P (s .prf) (via 𝓤 (sep 𝓤 (emp 𝓤) P) (emp∗ 𝓤 P) (via 𝓤 (sep 𝓤 Q P) (monoL 𝓤 P e) (comm∗ 𝓤 Q P)));
+  })

@@ -59,7 +59,7 @@ use Rattle.counters.proofs.Counted as R
 use Rattle.counters.proofs.Counted.Laws as R′
 use Rattle.counted.proofs.update as callee
 use Rattle.counted.proofs.update.Symbol.{name as #callee}
-use Rattle.pinorange.proofs.Counting.{slice-val, ref-val, counters-val, seen, lent, opens-counters, closes-counters, counters-of, answer-fits, spelled, says4}
+use Rattle.pinorange.proofs.Counting.{slice-val, ref-val, counters-val, seen, lent, opens-counters, closes-counters, counters-of, answer-fits, spelled, shown, with-fact, says}
 use Rattle.pinorange.proofs.pinorange_insert as self
 
 -- ---- the kind, as a number of MIR and as a machine value
@@ -119,10 +119,8 @@ promised 𝓤 kind κs a =
     record {
       ghost = Unit {0};
       requires = λ g. emp 𝓤;
-      ensures = λ g n e. sep 𝓤 (fact 𝓤 (n ≡ o .answer))
-          (sep 𝓤 (fact 𝓤 (now (e .1 .0) ≡ o .words))
-          (sep 𝓤 (fact 𝓤 (now (e .1 .1 .0) ≡ o .scratch))
-          (fact 𝓤 (now (e .1 .1 .1 .0) ≡ counted (now (a .1 .1 .1 .0)) (o .answer)))));
+      ensures = λ g n e. sep 𝓤 (fact 𝓤 (record { answer = n; words = now (e .1 .0); scratch = now (e .1 .1 .0) } ≡ o))
+          (fact 𝓤 (now (e .1 .1 .1 .0) ≡ counted (now (a .1 .1 .1 .0)) n));
     }
 
 abbrev stayed : Stays (self.ended .signature .params) (self.ended .kept)
@@ -156,15 +154,12 @@ module _ {M : Type 1} (𝓤 : URA M) (H : Heap 𝓤) (A : Atoms 𝓤) (W : Given
   abbrev Post : Val → SProp 𝓤
   Post = walkOf 𝓤 H A self.ended stayed (promised 𝓤 kind) .post (((κ₀, (κ₁, (κ₂, (κ₃, tt)))), (q₀, (q₁, (q₂, (q₃, tt)))), bounds, a, vals), tt)
 
-  -- what the call answers and leaves
-  abbrev answer : ℕ
-  answer = change-outcome kind (tab .now) (ws .now) (ss .now) key .answer
+  -- the counted call answered c and left the words us and the scratch vs
+  abbrev Changed : Counted → List ℕ → List ℕ → Type 0
+  Changed c us vs = record { answer = c .answer; words = us; scratch = vs } ≡ change-outcome kind (tab .now) (ws .now) (ss .now) key
 
-  abbrev changed : List ℕ
-  changed = change-outcome kind (tab .now) (ws .now) (ss .now) key .words
-
-  abbrev cleared : List ℕ
-  cleared = change-outcome kind (tab .now) (ws .now) (ss .now) key .scratch
+  abbrev Moved : Counted → Type 0
+  Moved c = c .counters ≡ counted (m .now) (c .answer)
 
   -- the tokens that the callee is handed, and gives back
   abbrev Tokens : Item 𝓤
@@ -174,12 +169,13 @@ module _ {M : Type 1} (𝓤 : URA M) (H : Heap 𝓤) (A : Atoms 𝓤) (W : Given
   abbrev Had : Counted → List ℕ → List ℕ → List (Item 𝓤)
   Had c us vs = ‵ (seen m (c .counters)) ∷ ‵ (lent m κ₃) ∷ ‵ (flft κ₃ q₃) ∷ Tokens ∷ ‵ (finally u32 (ws .name) us) ∷ ‵ (finally u32 (ss .name) vs) ∷ []
 
-  exits : (c : Counted) (us vs : List ℕ) → c .answer < 2 ^ 32 → c .answer ≡ answer → us ≡ changed → vs ≡ cleared → c .counters ≡ counted (m .now) answer
+  exits : (c : Counted) (us vs : List ℕ) → c .answer < 2 ^ 32 → Changed c us vs → Moved c
       → length us ≡ length (ws .now) → length vs ≡ length (ss .now) → ent 𝓤 (⋆ 𝓤 H A (Had c us vs)) (Post (vint w32 (c .answer)))
-  exits c us vs fits e₀ e₁ e₂ e₃ long-w long-s =
+  exits c us vs fits changed moved long-w long-s =
       qed W (Had c us vs) ∵
       suffices ! _ (ends-at 𝓤 H A self.ended stayed (promised 𝓤 kind) W (((κ₀, (κ₁, (κ₂, (κ₃, tt)))), (q₀, (q₁, (q₂, (q₃, tt)))), bounds, a, vals), tt)
-      (vint w32 (c .answer)) (c .answer) (tt, (us, (vs, (c .counters, (tt, tt))))) (tt, (long-w, (long-s, (tt, (tt, tt)))))) $ says4 ! e₀ e₁ e₂ e₃ $
+      (vint w32 (c .answer)) (c .answer) (tt, (us, (vs, (c .counters, (tt, tt))))) (tt, (long-w, (long-s, (tt, (tt, tt)))))) $
+      says ! _ (with-fact 𝓤 _ changed (shown 𝓤 _ moved)) $
       move ! (3 ∷ []) $ split ! $ move ! (1 ∷ []) $ split ! $ move ! (1 ∷ []) $ split ! $
       move ! (6 ∷ 1 ∷ []) $ join ! $ move ! (1 ∷ 0 ∷ []) $ join ! $ move ! (1 ∷ 0 ∷ []) $ join ! $ move ! (1 ∷ 0 ∷ []) $ join ! $ frame ! $
       feqI ! (List Val) (ref-val m ∷ []) (ref-val m ∷ []) refl $ fjoin3 ! $ nothing ! $ nothing ! $ fjoin ! $ move ! (1 ∷ 0 ∷ []) $ fjoin ! $
@@ -250,10 +246,8 @@ module _ {M : Type 1} (𝓤 : URA M) (H : Heap 𝓤) (A : Atoms 𝓤) (W : Given
         use1 W (later (some (λ (c : Counted). (Tokens ⊛ ‵ (R.the-row .own c (w ∷ [])))
         ⊛ raw (ensured 𝓤 H A callee.ended (callee.clauses 𝓤 H A at-mem run) (κ₀, (κ₁, (κ₂, tt))) passed tt c)))) (id⊢ 𝓤 _) $ await ! tt $ pick ! (λ c.
         split ! $ move ! (1 ∷ []) $ use1 W (some (λ (zs : Unit {0} × (Unit {0} × (List ℕ × (List ℕ × (Unit {0} × (Unit {0} × Unit {0})))))).
-        ‵ (lasts callee.ended (κ₀, (κ₁, (κ₂, tt))) passed zs) ⊛ raw (fact 𝓤 (c .answer ≡ answer)) ⊛ raw (fact 𝓤 (zs .1 .1 .0 ≡ changed))
-        ⊛ raw (fact 𝓤 (zs .1 .1 .1 .0 ≡ cleared)) ⊛ raw (fact 𝓤 (c .counters ≡ counted (m .now) answer)))) (id⊢ 𝓤 _) $ pick ! (λ zs.
-        split ! $ move ! (1 ∷ []) $ split ! $ heard ! (c .answer ≡ answer) (λ e₀. split ! $ heard ! (zs .1 .1 .0 ≡ changed) (λ e₁.
-        split ! $ heard ! (zs .1 .1 .1 .0 ≡ cleared) (λ e₂. heard ! (c .counters ≡ counted (m .now) answer) (λ e₃.
+        ‵ (lasts callee.ended (κ₀, (κ₁, (κ₂, tt))) passed zs) ⊛ raw (fact 𝓤 (Changed c (zs .1 .1 .0) (zs .1 .1 .1 .0))) ⊛ raw (fact 𝓤 (Moved c)))) (id⊢ 𝓤 _) $ pick ! (λ zs.
+        split ! $ move ! (1 ∷ []) $ split ! $ heard ! (Changed c (zs .1 .1 .0) (zs .1 .1 .1 .0)) (λ changed. heard ! (Moved c) (λ moved.
         fsplit ! $ drop ! $ fsplit ! $ drop ! $ fsplit ! $ fsplit ! $ move ! (1 ∷ []) $ feqL ! (λ long-w.
         move ! (1 ∷ []) $ fsplit ! $ fsplit ! $ move ! (1 ∷ []) $ feqL ! (λ long-s. move ! (1 ∷ []) $ drop ! $
         move ! (2 ∷ []) $ split ! $ move ! (1 ∷ []) $ peeks ! R.the-row (Is R.the-row) (shows 𝓤 H A R.the-row) c (w ∷ []) (λ is′.
@@ -272,7 +266,7 @@ module _ {M : Type 1} (𝓤 : URA M) (H : Heap 𝓤) (A : Atoms 𝓤) (W : Given
         move ! (23 ∷ 24 ∷ []) $ free1 ! $ move ! (21 ∷ 22 ∷ []) $ free1 ! $ move ! (19 ∷ 20 ∷ []) $ free1 ! $ move ! (17 ∷ 18 ∷ []) $ free1 ! $
         move ! (15 ∷ 16 ∷ []) $ free1 ! $ move ! (13 ∷ 14 ∷ []) $ free1 ! $ move ! (11 ∷ 12 ∷ []) $ free1 ! $ move ! (9 ∷ 10 ∷ []) $ free1 ! $
         move ! (7 ∷ 8 ∷ []) $ free1 ! $ free0 ! $
-        keep ! (0 ∷ 1 ∷ 2 ∷ 3 ∷ 5 ∷ 4 ∷ []) $ by ! (exits c (zs .1 .1 .0) (zs .1 .1 .1 .0) (answer-fits c w is′) e₀ e₁ e₂ e₃ long-w long-s)))))))))))))))))))))))))
+        keep ! (0 ∷ 1 ∷ 2 ∷ 3 ∷ 5 ∷ 4 ∷ []) $ by ! (exits c (zs .1 .1 .0) (zs .1 .1 .1 .0) (answer-fits c w is′) changed moved long-w long-s)))))))))))))))))))))))
 
 module _ {M : Type 1} (𝓤 : URA M) (H : Heap 𝓤) (A : Atoms 𝓤) (W : Given 𝓤 H A) (at-mem : Memory → SProp 𝓤) (run : Routine → Fun 𝓤) (kind : Change) where
   walks : (C : Calls 𝓤 H) (Λ : Loops 𝓤 H) → FmC 𝓤 H (W .laws) C → Triple 𝓤 (C #callee) (Callee 𝓤 H A at-mem run)

@@ -67,8 +67,7 @@ pub extern "C" fn pinorange_stash(words: &[u32], offset: &mut u32, length: &mut 
 pub extern "C" fn pinorange_init(words: &mut [u32], r: u32, s: u32, counters: &mut Counters) -> u32
     ensures answered { λ n. ⌜ n ≡ fresh-refusal (length (now (words .entry))) r s ⌝ }
     ensures laid { λ n. ⌜ now (words .exit) ≡ fresh-words (now (words .entry)) r s ⌝ }
-    ensures moved { λ n. ⌜ now (counters .exit) ≡ counted (now (counters .entry))
-        (fresh-refusal (length (now (words .entry))) r s) ⌝ }
+    ensures moved { λ n. ⌜ now (counters .exit) ≡ counted (now (counters .entry)) n ⌝ }
 {
     let old = *counters;
     let new = counted::init(words, r, s, old);
@@ -85,15 +84,9 @@ pub extern "C" fn pinorange_insert(
     counters: &mut Counters,
     key: u32,
 ) -> u32
-    ensures answered { λ n. ⌜ n ≡ change-outcome Change.Insert (now (tabulation .entry)) (now (words .entry))
-        (now (scratch .entry)) key .answer ⌝ }
-    ensures changed { λ n. ⌜ now (words .exit) ≡ change-outcome Change.Insert (now (tabulation .entry))
-        (now (words .entry)) (now (scratch .entry)) key .words ⌝ }
-    ensures cleared { λ n. ⌜ now (scratch .exit) ≡ change-outcome Change.Insert (now (tabulation .entry))
-        (now (words .entry)) (now (scratch .entry)) key .scratch ⌝ }
-    ensures moved { λ n. ⌜ now (counters .exit) ≡ counted (now (counters .entry))
-        (change-outcome Change.Insert (now (tabulation .entry)) (now (words .entry)) (now (scratch .entry)) key
-        .answer) ⌝ }
+    ensures changed { λ n. ⌜ record { answer = n; words = now (words .exit); scratch = now (scratch .exit) }
+        ≡ change-outcome Change.Insert (now (tabulation .entry)) (now (words .entry)) (now (scratch .entry)) key ⌝ }
+    ensures moved { λ n. ⌜ now (counters .exit) ≡ counted (now (counters .entry)) n ⌝ }
 {
     let old = *counters;
     let new = counted::update(Change::Insert, tabulation, words, scratch, key, old);
@@ -110,15 +103,9 @@ pub extern "C" fn pinorange_remove(
     counters: &mut Counters,
     key: u32,
 ) -> u32
-    ensures answered { λ n. ⌜ n ≡ change-outcome Change.Remove (now (tabulation .entry)) (now (words .entry))
-        (now (scratch .entry)) key .answer ⌝ }
-    ensures changed { λ n. ⌜ now (words .exit) ≡ change-outcome Change.Remove (now (tabulation .entry))
-        (now (words .entry)) (now (scratch .entry)) key .words ⌝ }
-    ensures cleared { λ n. ⌜ now (scratch .exit) ≡ change-outcome Change.Remove (now (tabulation .entry))
-        (now (words .entry)) (now (scratch .entry)) key .scratch ⌝ }
-    ensures moved { λ n. ⌜ now (counters .exit) ≡ counted (now (counters .entry))
-        (change-outcome Change.Remove (now (tabulation .entry)) (now (words .entry)) (now (scratch .entry)) key
-        .answer) ⌝ }
+    ensures changed { λ n. ⌜ record { answer = n; words = now (words .exit); scratch = now (scratch .exit) }
+        ≡ change-outcome Change.Remove (now (tabulation .entry)) (now (words .entry)) (now (scratch .entry)) key ⌝ }
+    ensures moved { λ n. ⌜ now (counters .exit) ≡ counted (now (counters .entry)) n ⌝ }
 {
     let old = *counters;
     let new = counted::update(Change::Remove, tabulation, words, scratch, key, old);
@@ -130,10 +117,8 @@ pub extern "C" fn pinorange_remove(
 // its full length afterwards.
 #[no_mangle]
 pub extern "C" fn pinorange_check(tabulation: &[u16], words: &[u32], scratch: &mut [u32]) -> u32
-    ensures answered { λ n. ⌜ n ≡ check-outcome (now (tabulation .entry)) (now (words .entry)) (now (scratch .entry))
-        .answer ⌝ }
-    ensures cleared { λ n. ⌜ now (scratch .exit) ≡ check-outcome (now (tabulation .entry)) (now (words .entry))
-        (now (scratch .entry)) .scratch ⌝ }
+    ensures { λ n. ⌜ record { answer = n; words = now (words .entry); scratch = now (scratch .exit) }
+        ≡ check-outcome (now (tabulation .entry)) (now (words .entry)) (now (scratch .entry)) ⌝ }
 {
     dictionary::check(tabulation, words, scratch)
 }

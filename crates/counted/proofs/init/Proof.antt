@@ -1,5 +1,5 @@
 -- `counted::init` meets its contract: `fresh` says the answer and the words, `with_counts` the counters.
-use mathlib.Core.Path.{_∙_, ap}
+use mathlib.Core.Path.{sym, _∙_, ap}
 use borrow.Author.Needs.{needs}
 use Rattle.counters.specs.Counters.{counted}
 use Rattle.counted.proofs.init.Statement.{statement}
@@ -18,7 +18,7 @@ returns : tie.Need-returns
 returns c =
     let e = c .before .before .before .fresh .ensures in
     let d = c .with-counts .ensures in
-    (d .0 ∙ e .0, (e .1, d .1 ∙ ap (counted _) (e .0)))
+    (d .0 ∙ e .0, (e .1, d .1 ∙ ap (counted _) (sym (d .0))))
 
 pub init-spec : {M : Type 1} → statement M
 init-spec = tie.close (tie.spec fresh-requires with-counts-requires same-length returns)

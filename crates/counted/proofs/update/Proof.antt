@@ -1,5 +1,5 @@
 -- `counted::update` meets its contract: `update` says the answer and what is left, `with_counts` the counters.
-use mathlib.Core.Path.{_∙_, ap}
+use mathlib.Core.Path.{sym, _∙_, ap}
 use borrow.Author.Needs.{needs}
 use Rattle.counters.specs.Counters.{counted}
 use Rattle.counted.proofs.update.Statement.{statement}
@@ -21,7 +21,7 @@ returns : tie.Need-returns
 returns c =
     let e = c .before .before .before .before .before .update .ensures in
     let d = c .with-counts .ensures in
-    (d .0 ∙ e .0, (e .1 .0, (e .1 .1, d .1 ∙ ap (counted _) (e .0))))
+    (rw (d .0) e, d .1 ∙ ap (counted _) (sym (d .0)))
 
 pub update-spec : {M : Type 1} → statement M
 update-spec = tie.close (tie.spec update-requires with-counts-requires same-length same-length-2 returns)

@@ -1,6 +1,6 @@
 -- `dictionary::check` meets its contract: what `check_words` answers, and cleared scratch.
 use mathlib.Core.Path.{sym, _∙_}
-use Rattle.outcome.specs.Laws.{check-scratch}
+use Rattle.outcome.specs.Laws.{outcome-of, check-words, check-scratch}
 use borrow.Author.Needs.{needs}
 use Rattle.dictionary.proofs.check.Statement.{statement}
 use Rattle.dictionary.proofs.check.Tie as tie
@@ -17,7 +17,8 @@ same-length c = search needs
 returns : tie.Need-returns
 returns c =
     let w = c .before .before .before .before .before .before in
-    (w .check-words .ensures, (rw (w .check-words .kept .1 .1 .0) at (c .before .before .clear .ensures)) ∙ sym (check-scratch _ _ _))
+    outcome-of (w .check-words .ensures) (sym (check-words _ _ _))
+    ((rw (w .check-words .kept .1 .1 .0) at (c .before .before .clear .ensures)) ∙ sym (check-scratch _ _ _))
 
 pub check-spec : {M : Type 1} → statement M
 check-spec = tie.close (tie.spec check-words-requires clear-requires same-length returns)

@@ -1,6 +1,6 @@
 -- `dictionary::update` meets its contract: what `change_words` answers and leaves, and cleared scratch.
 use mathlib.Core.Path.{sym, _∙_}
-use Rattle.outcome.specs.Laws.{change-scratch}
+use Rattle.outcome.specs.Laws.{outcome-of, change-scratch}
 use borrow.Author.Needs.{needs}
 use Rattle.dictionary.proofs.update.Statement.{statement}
 use Rattle.dictionary.proofs.update.Tie as tie
@@ -17,11 +17,18 @@ same-length c = search needs
 same-length-2 : tie.Need-same-length-2
 same-length-2 c = search needs
 
+-- the call of `change_words`, and where all began
+abbrev changed : tie.After-slice-known5 → tie.After-change-words
+changed c = c .before .before .before .before .before .before .before .before
+
+abbrev start : tie.After-slice-known5 → tie.Start
+start c = changed c .before .before .before .before .before .before
+
 returns : tie.Need-returns
 returns c =
-    let w = c .before .before .before .before .before .before .before .before in
-    let d = c .before .before .before .before .before .before .before .before .before .before .before .before .before .before in
-    (w .change-words .ensures .0, (w .change-words .ensures .1, (rw (w .change-words .kept .1 .1 .1 .0) at (c .before .before .clear .ensures)) ∙ sym (change-scratch _ _ _ (d .args .kind) (d .args .key))))
+    let e = changed c .change-words .ensures in
+    outcome-of (e .0) (e .1)
+    ((rw (changed c .change-words .kept .1 .1 .1 .0) at (c .before .before .clear .ensures)) ∙ sym (change-scratch _ _ _ (start c .args .kind) (start c .args .key)))
 
 pub update-spec : {M : Type 1} → statement M
 update-spec =

@@ -51,7 +51,7 @@ use Rattle.counted.proofs.init as callee
 use Rattle.counted.proofs.init.Symbol as callee-def
 use Rattle.counted.proofs.init.Symbol.{name as #callee}
 use Rattle.counted.proofs.init.Met as callee-thm
-use Rattle.pinorange.proofs.Counting.{slice-val, ref-val, counters-val, seen, lent, opens-counters, closes-counters, counters-of, answer-fits, spelled, says3}
+use Rattle.pinorange.proofs.Counting.{slice-val, ref-val, counters-val, seen, lent, opens-counters, closes-counters, counters-of, answer-fits, spelled, shown, with-fact, says}
 use Rattle.pinorange.proofs.pinorange_init.Key.{name as #self}
 use Rattle.pinorange.proofs.pinorange_init as self
 use Rattle.pinorange.proofs.pinorange_init.Statement as stated
@@ -99,12 +99,13 @@ module _ {M : Type 1} (𝓤 : URA M) (H : Heap 𝓤) (A : Atoms 𝓤) (W : Given
   abbrev Had : Counted → List ℕ → List (Item 𝓤)
   Had c us = ‵ (seen m (c .counters)) ∷ ‵ (lent m κ₁) ∷ ‵ (flft κ₁ q₁) ∷ (‵ (flft κ₀ q₀) ⊛ ‵ ftrue) ∷ ‵ (finally u32 (ws .name) us) ∷ []
 
-  exits : (c : Counted) (us : List ℕ) → c .answer < 2 ^ 32 → c .answer ≡ answer → us ≡ laid → c .counters ≡ counted (m .now) answer
+  exits : (c : Counted) (us : List ℕ) → c .answer < 2 ^ 32 → c .answer ≡ answer → us ≡ laid → c .counters ≡ counted (m .now) (c .answer)
       → length us ≡ length (ws .now) → ent 𝓤 (⋆ 𝓤 H A (Had c us)) (Post (vint w32 (c .answer)))
   exits c us fits e₀ e₁ e₂ long =
       qed W (Had c us) ∵
       suffices ! _ (ends-at 𝓤 H A self.ended stayed (self.clauses 𝓤 H A at-mem run) W (((κ₀, (κ₁, tt)), (q₀, (q₁, tt)), bounds, a, vals), tt)
-      (vint w32 (c .answer)) (c .answer) (us, (tt, (tt, (c .counters, tt)))) (long, (tt, (tt, (tt, tt))))) $ says3 ! e₀ e₁ e₂ $
+      (vint w32 (c .answer)) (c .answer) (us, (tt, (tt, (c .counters, tt)))) (long, (tt, (tt, (tt, tt))))) $
+      says ! _ (with-fact 𝓤 _ e₀ (with-fact 𝓤 _ e₁ (shown 𝓤 _ e₂))) $
       move ! (3 ∷ []) $ split ! $ move ! (4 ∷ 1 ∷ []) $ join ! $ move ! (1 ∷ 0 ∷ []) $ join ! $ frame ! $
       feqI ! (List Val) (ref-val m ∷ []) (ref-val m ∷ []) refl $ fjoin3 ! $ nothing ! $ move ! (1 ∷ 0 ∷ []) $ fjoin ! $ nothing ! $ fjoin ! $ nothing ! $ fjoin ! $
       move ! (1 ∷ 0 ∷ []) $ fjoin ! $ owned ! u32 (Is u32) (uint-makes 𝓤 H A W w32) (c .answer) _ (refl, fits) $ move ! (1 ∷ 0 ∷ []) $ done !
@@ -157,9 +158,9 @@ module _ {M : Type 1} (𝓤 : URA M) (H : Heap 𝓤) (A : Atoms 𝓤) (W : Given
         use1 W (later (some (λ (c : Counted). ((‵ (flft κ₀ q₀) ⊛ ‵ ftrue) ⊛ ‵ (R.the-row .own c (w ∷ [])))
         ⊛ raw (ensured 𝓤 H A callee.ended (callee.clauses 𝓤 H A at-mem run) (κ₀, tt) passed tt c)))) (id⊢ 𝓤 _) $ await ! tt $ pick ! (λ c.
         split ! $ move ! (1 ∷ []) $ use1 W (some (λ (zs : List ℕ × (Unit {0} × (Unit {0} × (Unit {0} × Unit {0})))). ‵ (lasts callee.ended (κ₀, tt) passed zs)
-        ⊛ raw (fact 𝓤 (c .answer ≡ answer)) ⊛ raw (fact 𝓤 (zs .0 ≡ laid)) ⊛ raw (fact 𝓤 (c .counters ≡ counted (m .now) answer)))) (id⊢ 𝓤 _) $ pick ! (λ zs.
+        ⊛ raw (fact 𝓤 (c .answer ≡ answer)) ⊛ raw (fact 𝓤 (zs .0 ≡ laid)) ⊛ raw (fact 𝓤 (c .counters ≡ counted (m .now) (c .answer))))) (id⊢ 𝓤 _) $ pick ! (λ zs.
         split ! $ move ! (1 ∷ []) $ split ! $ heard ! (c .answer ≡ answer) (λ e₀. split ! $ heard ! (zs .0 ≡ laid) (λ e₁.
-        heard ! (c .counters ≡ counted (m .now) answer) (λ e₂. fsplit ! $ fsplit ! $ move ! (1 ∷ []) $ feqL ! (λ long.
+        heard ! (c .counters ≡ counted (m .now) (c .answer)) (λ e₂. fsplit ! $ fsplit ! $ move ! (1 ∷ []) $ feqL ! (λ long.
         move ! (2 ∷ []) $ split ! $ move ! (1 ∷ []) $ peeks ! R.the-row (Is R.the-row) (shows 𝓤 H A R.the-row) c (w ∷ []) (λ is′.
         -- [what the result owns; the words' token; the last words; …; the stored counters; the open borrow; obs; auth; true; true; _8; …]
         land ! (from ! (stop !)) (init ! 14 refl (LL.lawful R.the-type R′.the-laws 𝓤 H A W .typed c _ is′ .0)) $
