@@ -7,33 +7,28 @@ use native.Mathlib.Omega.{arith}
 use lib.ListN.{length, getD, set, length-set}
 use lib.Seq.{getD-take}
 use borrow.Rule.Slice.PartMut.{midOf, putMid}
-use Rattle.tabulation.specs.Hash.{Family, tabulation-length, max-slots}
-use Rattle.build.specs.Scratch.{Parts, glue, parts, held-at, next-at, sets-at, stash-at, used, Sized, Place, place-word, place-part, place-put, place-set}
+use Rattle.tabulation.specs.Hash.{max-slots, Hashing}
+use Rattle.build.specs.Scratch.{Parts, glue, parts, held-at, next-at, sets-at, stashed-at, used, Sized, Place, place-word, place-part, place-put, place-set}
 use Rattle.build.specs.Scratch.{with-held, with-next, with-sets, with-stash, held-place, next-place, sets-place, stash-place}
 use Rattle.build.specs.Scratch.{parts-sized, glue-parts, parts-glue}
 
 -- what every pass asks of scratch: sizes in range, and enough words for the parts
 pub record Enough (r s : ℕ) (scratch : List ℕ) : Type 0 where
-  pub most : r ≤ max-slots
-  pub few : s ≤ 64
+  pub slots-bound : r ≤ max-slots
+  pub places-bound : s ≤ 64
   pub long : used r s ≤ length scratch
 
 -- and a pass that finds the slots of keys: a tabulation, and slots to find
 pub record Room (tabulation : List ℕ) (r s : ℕ) (scratch : List ℕ) : Type 0 where
-  pub hashed : length tabulation ≡ tabulation-length
-  pub some : 0 < r
+  pub hashing : Hashing tabulation r
   pub enough : Enough r s scratch
 
 -- scratch keeps its length
 pub enough-kept : {r s : ℕ} {xs ys : List ℕ} → Enough r s xs → length ys ≡ length xs → Enough r s ys
-enough-kept E e = record { most = E .most; few = E .few; long = omega (arith, E .long) }
+enough-kept E e = record { slots-bound = E .slots-bound; places-bound = E .places-bound; long = omega (arith, E .long) }
 
 pub room-kept : {tabulation : List ℕ} {r s : ℕ} {xs ys : List ℕ} → Room tabulation r s xs → length ys ≡ length xs → Room tabulation r s ys
-room-kept R e = record { hashed = R .hashed; some = R .some; enough = enough-kept (R .enough) e }
-
--- the slots that a tabulation gives, with r to a table
-abbrev pub tables : List ℕ → ℕ → Family
-tables tabulation r = record { tabulation = tabulation; slots = r }
+room-kept R e = record { hashing = R .hashing; enough = enough-kept (R .enough) e }
 
 -- each of m labels names one of m slots
 pub record Fit (m : ℕ) (labels : List ℕ) : Type 0 where
@@ -87,10 +82,10 @@ module _ {r s : ℕ} {xs : List ℕ} (E : Enough r s xs) where
   pub next-part : Part r s xs (next-at r s) (sets-at r s) (2 * r) (P .next) (with-next P)
   next-part = record { place = next-place parts-fit; whole = parts-whole; size = parts-fit .next-size; ends = omega arith; sized = next-sized parts-fit }
 
-  pub sets-part : Part r s xs (sets-at r s) (stash-at r s) (2 * r) (P .sets) (with-sets P)
+  pub sets-part : Part r s xs (sets-at r s) (stashed-at r s) (2 * r) (P .sets) (with-sets P)
   sets-part = record { place = sets-place parts-fit; whole = parts-whole; size = parts-fit .sets-size; ends = omega arith; sized = sets-sized parts-fit }
 
-  pub stash-part : Part r s xs (stash-at r s) (used r s) s (P .stash) (with-stash P)
+  pub stash-part : Part r s xs (stashed-at r s) (used r s) s (P .stash) (with-stash P)
   stash-part = record { place = stash-place parts-fit; whole = parts-whole; size = parts-fit .stash-size; ends = omega arith; sized = stash-sized parts-fit }
 
 module _ {r s at end n : ℕ} {xs X : List ℕ} {new : List ℕ → Parts} (Q : Part r s xs at end n X new) where

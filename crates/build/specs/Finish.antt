@@ -17,7 +17,7 @@ use Rattle.cuckoo.specs.Settling.{seated-asc, seated-sub, seated-forest, seated
 use Rattle.cuckoo.specs.Seating.{Ends, occupant-from}
 use Rattle.forest.specs.Oriented.{OrientedForest, Oriented, end-near, recast, standing}
 use Rattle.forest.specs.Finish.{Finished, Spanned, TreeComponent, CycleComponent, finish-tree, finish-cycle, finishes-tree, finishes-cycle, length-finish-tree, length-finish-cycle}
-use Rattle.build.specs.Held.{Occupied, standing-tree, standing-off}
+use Rattle.build.specs.Seat.{Occupied, standing-tree, standing-off}
 use Rattle.build.specs.Labels.{Labels, same-label}
 use Rattle.build.specs.Notes.{Marks, cycle, no-cycle}
 
@@ -66,9 +66,9 @@ joined-fit {a} {b} m fits R {u} {v} j l =
 -- the seated keys and the forest that spans them
 module _ (a b : ℕ → ℕ) (S : List ℕ) (asc : Asc S) where
   spanned : ((c : ℕ) → In c S → c ≡ 0 → ⊥) → Spanned a b (seated a b S) (forest a b S)
-  spanned solid = record {
+  spanned nonzero = record {
     asc = seated-asc a b S asc;
-    forest = record { acyclic = λ c i. acyclic S i; solid = λ c i. solid c (forest-in a b S c i) };
+    forest = record { acyclic = λ c i. acyclic S i; nonzero = λ c i. nonzero c (forest-in a b S c i) };
     sub = seated-forest a b S asc;
     spans = λ c i. spans S (edge (seated-sub a b S asc c i));
   }
@@ -109,7 +109,7 @@ module _ (a b : ℕ → ℕ) (S : List ℕ) (asc : Asc S) where
   }
 
 module _ {a b : ℕ → ℕ} {other : ℕ → ℕ → ℕ} (turn : (c v w : ℕ) → Ends a b c v w → other v c ≡ w) (m : ℕ) (fits : (c : ℕ) → (a c < m) × (b c < m))
-    (two : (c : ℕ) → a c ≡ b c → ⊥) {S : List ℕ} (asc : Asc S) (solid : (c : ℕ) → In c S → c ≡ 0 → ⊥)
+    (two : (c : ℕ) → a c ≡ b c → ⊥) {S : List ℕ} (asc : Asc S) (nonzero : (c : ℕ) → In c S → c ≡ 0 → ⊥)
     {h₀ : List ℕ} (W : OrientedForest a b (forest a b S) h₀) (fuel : ℕ) (enough : length (forest a b S) < fuel)
     {labels : List ℕ} (L : Labels a b S m labels) {notes : List ℕ} (M : Marks a b S labels notes) where
   abbrev T : List ℕ
@@ -186,13 +186,13 @@ module _ {a b : ℕ → ℕ} {other : ℕ → ℕ → ℕ} (turn : (c v w : ℕ)
         | inr nz ↦ rw (ne-eqb y 0 nz) (elim (M .sound l nz) [
           | cycle i off e low ↦
               let o = tree-here st e in
-              rw (standing-off o (spans S (edge i)) (solid y i) off)
-              (after st e (finishes-cycle turn m fits (spanned a b S asc solid) fuel enough (cycle-component a b S asc i off
+              rw (standing-off o (spans S (edge i)) (nonzero y i) off)
+              (after st e (finishes-cycle turn m fits (spanned a b S asc nonzero) fuel enough (cycle-component a b S asc i off
               (λ x k p j. low x k p (same-label L fits j ∙ e))) o (st .size) nz (two y)))
           | no-cycle f e all ↦
               let o = tree-here st e in
               rw (standing-tree o f)
-              (after st e (finishes-tree turn m fits (spanned a b S asc solid) fuel enough (tree-component a b S asc f
+              (after st e (finishes-tree turn m fits (spanned a b S asc nonzero) fuel enough (tree-component a b S asc f
               (λ x k j. all x k (same-label L fits (jsym j) ∙ e))) o (st .size)))
         ])
       ]

@@ -6,12 +6,12 @@ use mathlib.Core.List.{List}
 use lib.ListN.{length, getD}
 use native.Mathlib.Omega.{arith}
 use borrow.Rule.Slice.PartMut.{midOf, putMid}
-use Rattle.tabulation.specs.Hash.{Family}
+use Rattle.tabulation.specs.Hash.{Family, tables}
 use Rattle.tabulation.specs.Slots.{slot-0, slot-1}
-use Rattle.forest.specs.Held.{other, slot-count, budget, holding, finished-tree, finished-cycle}
+use Rattle.forest.specs.HeldForest.{other, slot-count, budget, holding, finished-tree, finished-cycle}
 use Rattle.build.specs.Finish.{finish-label, finished, finish-label-none, finish-label-tree, finish-label-cycle}
 use Rattle.build.specs.Scratch.{Parts, parts, held-at, next-at, with-held}
-use Rattle.build.specs.Access.{Room, NoteAt, tables, held-part, part-renewed, note-word}
+use Rattle.build.specs.Access.{Room, NoteAt, held-part, part-renewed, note-word}
 use Rattle.build.specs.Passes.{finished-parts}
 
 -- the held words after the component of label l

@@ -1,7 +1,7 @@
 -- From ascending keys to the canonical image. The passes of the build as functions on lists, and what they compute (Slots to Built); how the parts lie in
 -- scratch (Scratch); the same passes over scratch, for the code (Access to Whole); what callers read (Outcome). Assumes nothing.
 pub mod Slots
-pub mod Held
+pub mod Seat
 pub mod Link
 pub mod Labels
 pub mod Notes

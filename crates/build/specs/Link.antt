@@ -78,7 +78,7 @@ module _ {a b : ℕ → ℕ} where
     whole = record { forest = forest-sub g (K .whole .forest); each = λ p. recast (λ c i k. f c i) (λ c i k. g c i) jrefl (λ x k. refl) (K .whole .each p) };
     parts = record {
       long = K .parts .long;
-      few = K .parts .few;
+      points-bound = K .parts .points-bound;
       reached = K .parts .reached;
       honest = K .parts .honest;
       law = λ u v lu lv. (λ e. mono f (K .parts .law u v lu lv .0 e), λ j. K .parts .law u v lu lv .1 (mono g j));
@@ -132,9 +132,9 @@ module _ {a b : ℕ → ℕ} {other : ℕ → ℕ → ℕ} (turn : (c v w : ℕ)
     | inr n ↦ record { keys = c ∷ Q .keys; linked = link-new (Q .linked) (Q .once) nz n; once = one-more (λ i. n (edge i)) (Q .once) }
   ]
 
-  module _ (few : m ≤ max-points) {S : List ℕ} (asc : Asc S) (solid : (c : ℕ) → In c S → c ≡ 0 → ⊥) where
+  module _ (few : m ≤ max-points) {S : List ℕ} (asc : Asc S) (nonzero : (c : ℕ) → In c S → c ≡ 0 → ⊥) where
     -- Law of step 1: the held words are an oriented forest of Kruskal's forest of S, and the sets are its trees.
     pub link-all : Linked a b m (forest a b S) (link-keys a b other (suc m) S (unlinked m))
     link-all =
         let g = grow-is a b asc in
-        linked-same (g .0) (g .1) (link-grow S solid (linked-none few) no-key)
+        linked-same (g .0) (g .1) (link-grow S nonzero (linked-none few) no-key)

@@ -12,15 +12,15 @@ use lib.Dec.{ltb}
 use lib.ListN.{length, getD, replicate, take, drop, length-replicate, set, take-append-drop, List·getD-append}
 use lib.Seq.{length-take-le, getD-take, take-suc, take-take}
 use borrow.Author.Tests.{eq-eqb, ne-eqb}
-use Rattle.tabulation.specs.Hash.{Family}
+use Rattle.tabulation.specs.Hash.{Family, tables}
 use Rattle.tabulation.specs.Slots.{slot-0, slot-1}
 use Rattle.basics.specs.Tests.{test}
 use Rattle.forest.specs.Reroot.{length-reroot}
-use Rattle.forest.specs.Held.{other, slot-count, budget, rerooted, other-end, slots-fit}
+use Rattle.forest.specs.HeldForest.{other, slot-count, budget, rerooted, other-end, slots-fit}
 use Rattle.partition.specs.Words.{Representative, Mergeable, rep-of, size-of, united, singletons-of}
 use Rattle.partition.specs.Partition.{rep-marked, mergeable}
 use Rattle.build.specs.Scratch.{Parts, glue, next-at, parts, parts-glue, with-held, with-next, with-sets}
-use Rattle.build.specs.Access.{Enough, Room, tables, parts-fit, parts-whole, held-sized, sets-sized, next-part, part-set}
+use Rattle.build.specs.Access.{Enough, Room, parts-fit, parts-whole, held-sized, sets-sized, next-part, part-set}
 use Rattle.build.specs.Link.{Linking, smaller-end, link-key, link-keys, unlinked, Sound, sound-start, sound-key}
 use Rattle.build.specs.Labels.{relabel, labelled}
 use Rattle.build.specs.Slots.{each-slot, each-slot-none, each-slot-step}
@@ -57,8 +57,8 @@ abbrev pub first-keys : (r s n : ℕ) → List ℕ → List ℕ
 first-keys r s n xs = take n (parts r s xs .keys)
 
 -- scratch after one key; after i of its first n keys; after all of them; and after all of them from the start, whatever stood in the held words and the sets
-abbrev pub key-words : Family → (s key : ℕ) → List ℕ → List ℕ
-key-words F s key xs = relinked (F .slots) s xs (key-linked F key (linking-in (F .slots) s xs))
+abbrev pub link-words : Family → (s key : ℕ) → List ℕ → List ℕ
+link-words F s key xs = relinked (F .slots) s xs (key-linked F key (linking-in (F .slots) s xs))
 
 abbrev pub after-keys : Family → (s n : ℕ) → List ℕ → ℕ → List ℕ
 after-keys F s n xs i = relinked (F .slots) s xs (keys-linked F (take i (first-keys (F .slots) s n xs)) (linking-in (F .slots) s xs))
@@ -139,9 +139,9 @@ module _ (F : Family) where
 
   keys-sound : 0 < F .slots → (R : List ℕ) → Solid R → (L : Linking) → Linkable F L → Linkable F (keys-linked F R L)
   unfolding link-keys
-  keys-sound some [] solid L K = K
-  keys-sound some (c ∷ R) solid L K =
-      keys-sound some R (λ d i. solid d (there i)) (key-linked F c L) (sound-key (other-end F some) (slot-count F) (slots-fit F some) c (solid c (here refl)) K)
+  keys-sound some [] nonzero L K = K
+  keys-sound some (c ∷ R) nonzero L K =
+      keys-sound some R (λ d i. nonzero d (there i)) (key-linked F c L) (sound-key (other-end F some) (slot-count F) (slots-fit F some) c (nonzero c (here refl)) K)
 
 -- over scratch with room
 module _ {T : List ℕ} {r s : ℕ} {xs : List ℕ} (R : Room T r s xs) where
@@ -153,7 +153,7 @@ module _ {T : List ℕ} {r s : ℕ} {xs : List ℕ} (R : Room T r s xs) where
 
   -- The two ends in one set: nothing is to be done. In two sets: the held words have the tree re-rooted, then the sets are united.
   module _ {key first second one two : ℕ} (K : Found F (P .sets) key first second one two) where
-    pub within-sets : one ≡ two → xs ≡ key-words F s key xs
+    pub within-sets : one ≡ two → xs ≡ link-words F s key xs
     unfolding link-key
     within-sets e =
         rw (eq-eqb (rep-of (P .sets) (slot-0 F key)) (rep-of (P .sets) (slot-1 F key)) (sym (first-set K) ∙ e ∙ second-set K)) (sym (parts-whole (R .enough)))
@@ -169,7 +169,7 @@ module _ {T : List ℕ} {r s : ℕ} {xs : List ℕ} (R : Room T r s xs) where
 
       pub between-sets : (one ≡ two → ⊥) → end ≡ cond (ltb (size-of (P .sets) one) (size-of (P .sets) two)) first second
           → glue (with-sets (parts r s xs₁) (united (parts r s xs₁ .sets) one two))
-          ≡ key-words F s key xs
+          ≡ link-words F s key xs
       unfolding link-key
       between-sets n e =
           rw (
@@ -181,7 +181,7 @@ module _ {T : List ℕ} {r s : ℕ} {xs : List ℕ} (R : Room T r s xs) where
           )
 
   -- The first n keys, i of them so far.
-  module _ {n : ℕ} (few : n ≤ 2 * r + s) (K : Linkable F (linking-in r s xs)) (solid : Solid (first-keys r s n xs)) where
+  module _ {n : ℕ} (few : n ≤ 2 * r + s) (K : Linkable F (linking-in r s xs)) (nonzero : Solid (first-keys r s n xs)) where
     abbrev S : List ℕ
     S = first-keys r s n xs
 
@@ -193,7 +193,7 @@ module _ {T : List ℕ} {r s : ℕ} {xs : List ℕ} (R : Room T r s xs) where
 
     sound-by : (i : ℕ) → Linkable F (linked-by i)
     sound-by i =
-        keys-sound F (R .some) (take i S) (λ c m. solid c (subst (λ (Z : List ℕ). In c Z) (take-append-drop i S) (Memᴰ·append-left (drop i S) m)))
+        keys-sound F (R .hashing .has-slots) (take i S) (λ c m. nonzero c (subst (λ (Z : List ℕ). In c Z) (take-append-drop i S) (Memᴰ·append-left (drop i S) m)))
         (linking-in r s xs) K
 
     parts-by : (i : ℕ) → parts r s (after-keys F s n xs i) ≡ with-linking P (linked-by i)
@@ -208,7 +208,7 @@ module _ {T : List ℕ} {r s : ℕ} {xs : List ℕ} (R : Room T r s xs) where
         List·getD-append (P .keys) _ 0 i (rw (parts-fit (R .enough) .keys-size) (omega arith)) ∙ sym (getD-take n (P .keys) i 0 l)
 
     pub after-more : (i : ℕ) → i < n
-        → key-words F s (getD (after-keys F s n xs i) i 0) (after-keys F s n xs i) ≡ after-keys F s n xs (i + 1)
+        → link-words F s (getD (after-keys F s n xs i) i 0) (after-keys F s n xs i) ≡ after-keys F s n xs (i + 1)
     after-more i l = rw (add-one, after-at i l, parts-by i, take-suc S i 0 (rw S-long l), keys-then F (take i S) (getD S i 0))
 
     pub after-none : xs ≡ after-keys F s n xs 0
@@ -221,7 +221,7 @@ module _ {T : List ℕ} {r s : ℕ} {xs : List ℕ} (R : Room T r s xs) where
   -- All keys, from the start.
   module _ {ys : List ℕ} (start : ys ≡ relinked r s xs (unlinked (2 * r))) where
     unlinked-sound : Linkable F (unlinked (2 * r))
-    unlinked-sound = sound-start (omega (arith, R .enough .most))
+    unlinked-sound = sound-start (omega (arith, R .enough .slots-bound))
 
     start-parts : parts r s ys ≡ with-linking P (unlinked (2 * r))
     start-parts = let K = unlinked-sound .linked in rw start (parts-linking (R .enough) (unlinked (2 * r)) (K .size) (K .parts .long))

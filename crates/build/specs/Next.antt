@@ -20,7 +20,7 @@ use Rattle.cuckoo.specs.Seating.{from-a, from-b, occupant-from, look}
 use Rattle.cuckoo.specs.Next.{larger, around, next-is}
 use Rattle.build.specs.Slots.{each-slot, each-slot-length, all-slots-at}
 use Rattle.forest.specs.Oriented.{standing}
-use Rattle.build.specs.Held.{Occupied, standing-at, seat, seat-at}
+use Rattle.build.specs.Seat.{Occupied, standing-at, seat, seat-at}
 use Rattle.build.specs.Labels.{Labels, label-of, label-fit, same-label, label-joined}
 use Rattle.build.specs.Finish.{down, raise}
 
@@ -154,7 +154,7 @@ data Last (label : ℕ → ℕ) (K R old last : List ℕ) (l : ℕ) : Type 0 whe
   seen : (d : ℕ) → In d R → In d K → label d ≡ l → ((e : ℕ) → In e R → In e K → label e ≡ l → d ≤ e) → getD last l 0 ≡ d → Last label K R old last l
   unseen : ((e : ℕ) → In e R → In e K → label e ≡ l → ⊥) → getD last l 0 ≡ getD old l 0 → Last label K R old last l
 
-module _ {a b : ℕ → ℕ} (m : ℕ) (fits : (c : ℕ) → (a c < m) × (b c < m)) {S : List ℕ} (asc : Asc S) (solid : (c : ℕ) → In c S → c ≡ 0 → ⊥)
+module _ {a b : ℕ → ℕ} (m : ℕ) (fits : (c : ℕ) → (a c < m) × (b c < m)) {S : List ℕ} (asc : Asc S) (nonzero : (c : ℕ) → In c S → c ≡ 0 → ⊥)
     {held : List ℕ} (O : Occupied a b (seated a b S) m held)
     {labels : List ℕ} (L : Labels a b S m labels) where
   abbrev T : List ℕ
@@ -179,7 +179,7 @@ module _ {a b : ℕ → ℕ} (m : ℕ) (fits : (c : ℕ) → (a c < m) × (b c <
   ])
 
   held-seated : (c : ℕ) → In c S → standing a b held c ≡ true → In c T
-  held-seated c i t = own (seat a b held c) c (seat-at a b held c t .0) (solid c i) .0
+  held-seated c i t = own (seat a b held c) c (seat-at a b held c t .0) (nonzero c i) .0
 
   alike : {c d : ℕ} → Joined a b T (a c) (a d) → label-of a labels c ≡ label-of a labels d
   alike j = same-label L fits (raise a b S asc j)
@@ -252,7 +252,7 @@ module _ {a b : ℕ → ℕ} (m : ℕ) (fits : (c : ℕ) → (a c < m) × (b c <
           long = put-length a b held (P .next) c x ∙ Q .long;
           numbered = λ v i. elim (eq? (getD held v 0) c) [
             | inl q ↦
-                let o = own v c q (solid c ic) in
+                let o = own v c q (nonzero c ic) in
                 put-hit a b held (P .next) c x v (fit (a c) (fits c .0)) (fit (b c) (fits c .1)) q (o .1)
                 ∙ ap (λ (W : List ℕ). getD W (label-of a labels c) 0) (Q .last-is) ∙ last-next R (o .0) ordered sub up cover ∙ ap (next a b T) (sym q)
             | inr n ↦ put-miss a b held (P .next) c x v n ∙ Q .numbered v (elim i [ here q ↦ absurd (n q) | there k ↦ k ])
@@ -265,7 +265,7 @@ module _ {a b : ℕ → ℕ} (m : ℕ) (fits : (c : ℕ) → (a c < m) × (b c <
       last-is = rw t (Q .last-is);
       long = Q .long;
       numbered = λ v i. Q .numbered v (elim i [
-        | here q ↦ absurd (true≢false (sym (seated-held c (own v c q (solid c ic) .0)) ∙ t))
+        | here q ↦ absurd (true≢false (sym (seated-held c (own v c q (nonzero c ic) .0)) ∙ t))
         | there k ↦ k
       ]);
     }

@@ -8,17 +8,17 @@ use native.Mathlib.Omega.{arith}
 use lib.ListN.{length, getD, set, take, drop}
 use lib.Seq.{set-getD}
 use borrow.Author.Tests.{eq-eqb, ne-eqb}
-use Rattle.tabulation.specs.Hash.{Family}
+use Rattle.tabulation.specs.Hash.{Family, tables}
 use Rattle.tabulation.specs.Slots.{slot-0, slot-1}
 use Rattle.basics.specs.Sets.{Asc, none, some}
 use Rattle.forest.specs.Oriented.{standing}
-use Rattle.forest.specs.Held.{holding, slot-count, slots-fit}
-use Rattle.build.specs.Held.{seat}
+use Rattle.forest.specs.HeldForest.{holding, slot-count, slots-fit}
+use Rattle.build.specs.Seat.{seat}
 use Rattle.build.specs.Slots.{each-slot, each-slot-none, each-slot-step}
 use Rattle.build.specs.Labels.{Labels, label-of, label-fit}
 use Rattle.build.specs.Next.{Passing, last-seen, put-at, put-next, chained, blank, blanked, label-read}
 use Rattle.build.specs.Scratch.{Parts, parts, held-at, with-sets, with-next}
-use Rattle.build.specs.Access.{Enough, Room, NoteAt, tables, parts-fit, read-key, held-part, part-word, note-word, note-set}
+use Rattle.build.specs.Access.{Enough, Room, NoteAt, parts-fit, read-key, held-part, part-word, note-word, note-set}
 use Rattle.build.specs.Passes.{with-passing, blanked-parts}
 use Rattle.build.specs.NotesCode.{next-key, no-key}
 
@@ -121,7 +121,7 @@ module _ {T : List ℕ} {r s : ℕ} {xs : List ℕ} (R : Room T r s xs) (c : ℕ
   -- where it stands: its slot v in table 0 if it is read there, at b + v, and otherwise its slot in table 1
   module _ {b v : ℕ} (start : b ≡ held-at r s) (first : v ≡ slot-0 F c) where
     low : v < 2 * r
-    low = rw first (slots-fit F (R .some) c .0)
+    low = rw first (slots-fit F (R .hashing .has-slots) c .0)
 
     word : getD xs (b + v) 0 ≡ getD (P .held) (slot-0 F c) 0
     word = part-word (held-part (R .enough)) (ap (λ (n : ℕ). n + v) start) low ∙ ap (λ (n : ℕ). getD (P .held) n 0) first
@@ -133,7 +133,7 @@ module _ {T : List ℕ} {r s : ℕ} {xs : List ℕ} (R : Room T r s xs) (c : ℕ
     pub seat-second : (getD xs (b + v) 0 ≡ c → ⊥) → {w : ℕ} → w ≡ slot-1 F c → (w ≡ seat-in F P c) × (w < 2 * r)
     unfolding seat
     seat-second n second =
-        (rw (ne-eqb (getD (P .held) (slot-0 F c) 0) c (λ e. n (word ∙ e))) second, rw second (slots-fit F (R .some) c .1))
+        (rw (ne-eqb (getD (P .held) (slot-0 F c) 0) c (λ e. n (word ∙ e))) second, rw second (slots-fit F (R .hashing .has-slots) c .1))
 
 -- a key of an ascending list is not among those after it
 in-drop : (i : ℕ) (S : List ℕ) {x : ℕ} → In x (drop i S) → In x S
@@ -228,7 +228,7 @@ module _ {T : List ℕ} {r s : ℕ} {x₀ : List ℕ} (R : Room T r s x₀) (n :
 
       pub readable-again : Chainable (tables T r) n (parts r s x₀) → Readable (tables T r) (parts r s xs) (getD xs (i - 1) 0)
       readable-again C =
-          chained-readable (tables T r) n (parts r s x₀) keys-long (i - 1) (omega arith) (getD xs (i - 1) 0) (R .some) C from-next key-is
+          chained-readable (tables T r) n (parts r s x₀) keys-long (i - 1) (omega arith) (getD xs (i - 1) 0) (R .hashing .has-slots) C from-next key-is
 
 -- one slot of the last loop: it holds no key, or it holds one
 module _ (held : List ℕ) (n v : ℕ) (words : List ℕ) where

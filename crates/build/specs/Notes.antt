@@ -19,7 +19,7 @@ use Rattle.cuckoo.specs.Forest.{forest, spans}
 use Rattle.cuckoo.specs.Settling.{seated-forest, seated-is, is-seated, tree, smallest}
 use Rattle.forest.specs.Link.{getD-zeros}
 use Rattle.forest.specs.Oriented.{OrientedForest, standing}
-use Rattle.build.specs.Held.{standing-tree, standing-off}
+use Rattle.build.specs.Seat.{standing-tree, standing-off}
 use Rattle.build.specs.Labels.{Labels, label-of, label-fit, same-label, label-joined}
 
 -- the notes, one word for each label; the stash words, of which the first `count` are written; and whether one more was wanted
@@ -151,7 +151,7 @@ module _ {a b : ℕ → ℕ} {S labels : List ℕ} {m : ℕ} where
   before {D = D} {c = c} {N = N} (done l e k t sz h) = done (omega (arith, length-set (N .stash) (N .count) c)) e (omega arith) t sz h
 
 -- the two passes together
-module _ (a b : ℕ → ℕ) (S labels : List ℕ) {zeros notes out : List ℕ} (solid : (c : ℕ) → In c S → c ≡ 0 → ⊥) (none-old : (l : ℕ) → getD zeros l 0 ≡ 0)
+module _ (a b : ℕ → ℕ) (S labels : List ℕ) {zeros notes out : List ℕ} (nonzero : (c : ℕ) → In c S → c ≡ 0 → ⊥) (none-old : (l : ℕ) → getD zeros l 0 ≡ 0)
     (K : (l : ℕ) → Noted (Off a b S) (label-of a labels) S zeros [] notes l)
     (J : (l : ℕ) → Noted (On a b S) (label-of a labels) S notes [] out l) where
   none-off : (l : ℕ) → getD notes l 0 ≡ 0 → (x : ℕ) → In x S → label-of a labels x ≡ l → In x (forest a b S)
@@ -160,7 +160,7 @@ module _ (a b : ℕ → ℕ) (S labels : List ℕ) {zeros notes out : List ℕ} 
     | inr off ↦ elim (K l) [
       | kept p f ↦ absurd (p (none-old l))
       | none-yet p f h ↦ elim (h x ix off k) [ ]
-      | found d p f i q y low u ↦ absurd (solid d i (sym f ∙ z))
+      | found d p f i q y low u ↦ absurd (nonzero d i (sym f ∙ z))
     ]
   ]
 
@@ -178,18 +178,18 @@ module _ (a b : ℕ → ℕ) (S labels : List ℕ) {zeros notes out : List ℕ} 
     whole = λ x ix z. elim (J (label-of a labels x)) [
       | kept o e ↦ o (sym e ∙ z)
       | none-yet o e h ↦ elim (h x ix (none-off (label-of a labels x) o x ix refl) refl) [ ]
-      | found d o e i on k low u ↦ solid d i (sym e ∙ z)
+      | found d o e i on k low u ↦ nonzero d i (sym e ∙ z)
     ];
   }
 
-module _ {a b : ℕ → ℕ} (m : ℕ) (fits : (c : ℕ) → (a c < m) × (b c < m)) {S : List ℕ} (asc : Asc S) (solid : (c : ℕ) → In c S → c ≡ 0 → ⊥)
+module _ {a b : ℕ → ℕ} (m : ℕ) (fits : (c : ℕ) → (a c < m) × (b c < m)) {S : List ℕ} (asc : Asc S) (nonzero : (c : ℕ) → In c S → c ≡ 0 → ⊥)
     {held labels : List ℕ} (W : OrientedForest a b (forest a b S) held) (L : Labels a b S m labels) where
   -- those of R that go to the stash
   abbrev rest : List ℕ → List ℕ
   rest R = keep (λ c. not (member c (seated a b S))) R
 
   not-held : {c : ℕ} → In c S → Off a b S c → standing a b held c ≡ false
-  not-held {c} i n = standing-off (W .each (a c)) (spans S (edge i)) (solid c i) n
+  not-held {c} i n = standing-off (W .each (a c)) (spans S (edge i)) (nonzero c i) n
 
   -- the first key off the forest of its label stays,
   first-stays : {old R notes : List ℕ} {c : ℕ} → In c S → Off a b S c → ((x : ℕ) → In x R → c < x) → getD notes (label-of a labels c) 0 ≡ 0
@@ -197,7 +197,7 @@ module _ {a b : ℕ → ℕ} (m : ℕ) (fits : (c : ℕ) → (a c < m) × (b c <
   first-stays {c = c} i n up z (kept o e) = absurd (o (sym e ∙ z))
   first-stays {c = c} i n up z (none-yet o e h) = is-seated a b S asc c i (smallest (λ x k off j.
       elim (h x k off (same-label L fits j)) [ here s ↦ omega arith | there s ↦ omega (arith, up x s) ]))
-  first-stays {c = c} i n up z (found d o e k off y low out) = absurd (solid d k (sym e ∙ z))
+  first-stays {c = c} i n up z (found d o e k off y low out) = absurd (nonzero d k (sym e ∙ z))
 
   -- and a later one does not
   later-goes : {old R notes : List ℕ} {c : ℕ} → In c S → Off a b S c → getD old (label-of a labels c) 0 ≡ 0 → (getD notes (label-of a labels c) 0 ≡ 0 → ⊥)
@@ -225,7 +225,7 @@ module _ {a b : ℕ → ℕ} (m : ℕ) (fits : (c : ℕ) → (a c < m) × (b c <
               let fit : label-of a labels c < length (N .notes) = rw sz (label-fit L fits c) in
               rw (not-held ic n, eq-eqb (getD (N .notes) (label-of a labels c) 0) 0 z, in-member (first-stays ic n up z (K (label-of a labels c))))
               (along (label-of a labels c) c (noted-from old zeros R (note-at (label-of a labels c) c N) ordered sub′
-              (length-set (N .notes) (label-of a labels c) c ∙ sz) room (λ l. marked ic n up solid fit z (K l))))
+              (length-set (N .notes) (label-of a labels c) c ∙ sz) room (λ l. marked ic n up nonzero fit z (K l))))
           | inr nz ↦
               let K′ : (l : ℕ) → Noted (Off a b S) (label-of a labels) S old R (N .notes) l = λ l. passed (λ off z. nz z) (K l) in
               let goes = no-member c (seated a b S) (later-goes ic n (zeros (label-of a labels c)) nz (K (label-of a labels c))) in
@@ -252,7 +252,7 @@ module _ {a b : ℕ → ℕ} (m : ℕ) (fits : (c : ℕ) → (a c < m) × (b c <
               let fit : label-of a labels c < length notes = rw sz (label-fit L fits c) in
               rw (eq-eqb (getD notes (label-of a labels c) 0) 0 z)
               (noted-held-from old R (set notes (label-of a labels c) c) ordered sub′ (length-set notes (label-of a labels c) c ∙ sz)
-              (λ l. marked ic f up solid fit z (K l)))
+              (λ l. marked ic f up nonzero fit z (K l)))
           | inr nz ↦ rw (ne-eqb (getD notes (label-of a labels c) 0) 0 nz) (noted-held-from old R notes ordered sub′ sz (λ l. passed (λ q z. nz z) (K l)))
         ])
       ]
@@ -270,5 +270,5 @@ module _ {a b : ℕ → ℕ} (m : ℕ) (fits : (c : ℕ) → (a c < m) × (b c <
             let r = noted-held-from (N .notes) S (N .notes) asc (λ x i. i) sz (nothing-seen (On a b S) (label-of a labels) S (N .notes)) in
             let z : 0 + length (stash a b S) ≡ length (stash a b S) = omega arith in
             fit (omega arith) e (omega arith) (t ∙ rw z at (sets-eq (stash a b S) words 0 (omega arith))) (r .0)
-            (two-passes a b S labels solid (getD-zeros m) h (r .1))
+            (two-passes a b S labels nonzero (getD-zeros m) h (r .1))
       ]

@@ -8,15 +8,15 @@ use native.Mathlib.Numerals.{add-one}
 use lib.Dec.{eqb, ltb}
 use lib.ListN.{length, getD, set, take, drop, replicate, length-take, drop-of-length-le}
 use borrow.Author.Tests.{eq-eqb, ne-eqb, lt-ltb, le-ltb}
-use Rattle.forest.specs.Held.{holding}
+use Rattle.forest.specs.HeldForest.{holding}
 use lib.Seq.{drop-cons, getD-take, length-take-le}
-use Rattle.tabulation.specs.Hash.{Family}
+use Rattle.tabulation.specs.Hash.{Family, tables}
 use Rattle.tabulation.specs.Slots.{slot-0, slot-1}
 use Rattle.forest.specs.Oriented.{standing}
 use Rattle.build.specs.Labels.{label-of}
 use Rattle.build.specs.Notes.{Noting, nothing-noted, note-at, stash-key, overflowed, noted, noted-held}
-use Rattle.build.specs.Scratch.{Parts, glue, parts, stash-at, with-sets}
-use Rattle.build.specs.Access.{Enough, Room, Fit, NoteAt, tables, enough-kept, parts-fit, is-glue, read-key, stash-part, part-set, note-word, note-set}
+use Rattle.build.specs.Scratch.{Parts, glue, parts, stashed-at, with-sets}
+use Rattle.build.specs.Access.{Enough, Room, Fit, NoteAt, enough-kept, parts-fit, is-glue, read-key, stash-part, part-set, note-word, note-set}
 use Rattle.build.specs.Passes.{with-noting, answer, noting-of, noted-parts, noted-held-parts}
 use Rattle.build.specs.declared.StashCount.{StashCount}
 use Rattle.build.specs.declared.StashCount.the-variants.{Keys, Overflow}
@@ -147,7 +147,7 @@ module _ {T : List ℕ} {r s : ℕ} {xs : List ℕ} (R : Room T r s xs) where
             let full : length (P .stash) ≤ k = omega (arith, parts-fit (R .enough) .stash-size) in
             rw (t, ne-eqb (note c) 0 taken, le-ltb k (length (P .stash)) full) (refl, refl)
 
-        pub key-stashed : {j : ℕ} → j ≡ stash-at r s + k → k < s → Told (set xs j c) (Keys (k + 1))
+        pub key-stashed : {j : ℕ} → j ≡ stashed-at r s + k → k < s → Told (set xs j c) (Keys (k + 1))
         unfolding note-key
         key-stashed at u =
             let free : k < length (P .stash) = omega (arith, parts-fit (R .enough) .stash-size) in

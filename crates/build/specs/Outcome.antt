@@ -4,7 +4,7 @@ use mathlib.Core.Path.{_≡_}
 use mathlib.Core.List.{List, [], _∷_, _++_, List·Memᴰ as In}
 use lib.ListN.{length, take, replicate}
 use Rattle.refusals.specs.Refusal.{done, stash-full}
-use Rattle.tabulation.specs.Hash.{Family, tabulation-length, max-slots}
+use Rattle.tabulation.specs.Hash.{Family, Hashing}
 use Rattle.tabulation.specs.Slots.{slot-0, slot-1}
 use Rattle.cuckoo.specs.Graph.{stash, slot-key, slot-next}
 use Rattle.build.specs.Slots.{listed}
@@ -43,11 +43,9 @@ pub record Built (F : Family) (s : ℕ) (S before after : List ℕ) (count : Sta
 
 -- What the build needs: a tabulation, sizes in their ranges, and scratch with room for the parts and n ascending keys, none of them 0, at its front.
 pub record Buildable (r s n : ℕ) (tabulation scratch : List ℕ) : Type 0 where
-  pub full-tabulation : length tabulation ≡ tabulation-length
-  pub some : 0 < r
-  pub most : r ≤ max-slots
-  pub few : s ≤ 64
+  pub hashing : Hashing tabulation r
+  pub places-bound : s ≤ 64
   pub room : used r s ≤ length scratch
   pub keys : n ≤ 2 * r + s
   pub asc : Asc (take n scratch)
-  pub solid : (c : ℕ) → In c (take n scratch) → c ≡ 0 → ⊥
+  pub nonzero : (c : ℕ) → In c (take n scratch) → c ≡ 0 → ⊥

@@ -10,7 +10,7 @@ use lib.ListN.{length, getD, set, take, replicate, length-replicate, length-set}
 use Rattle.tabulation.specs.Hash.{Family}
 use Rattle.tabulation.specs.Slots.{slot-0, slot-1}
 use Rattle.basics.specs.Tests.{test}
-use Rattle.forest.specs.Held.{other, slot-count, budget}
+use Rattle.forest.specs.HeldForest.{other, slot-count, budget}
 use Rattle.forest.specs.Oriented.{standing}
 use Rattle.build.specs.Labels.{Labels, label-of}
 use Rattle.build.specs.Notes.{Noting, nothing-noted, note-at, stash-key, noted, noted-held}

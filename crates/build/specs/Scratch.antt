@@ -30,8 +30,8 @@ next-at r s = 4 * r + s
 abbrev pub sets-at : ℕ → ℕ → ℕ
 sets-at r s = 6 * r + s
 
-abbrev pub stash-at : ℕ → ℕ → ℕ
-stash-at r s = 8 * r + s
+abbrev pub stashed-at : ℕ → ℕ → ℕ
+stashed-at r s = 8 * r + s
 
 abbrev pub used : ℕ → ℕ → ℕ
 used r s = 8 * r + 2 * s
@@ -51,7 +51,7 @@ parts r s xs =
       held = take (2 * r) (drop (held-at r s) xs);
       next = take (2 * r) (drop (next-at r s) xs);
       sets = take (2 * r) (drop (sets-at r s) xs);
-      stash = take s (drop (stash-at r s) xs);
+      stash = take s (drop (stashed-at r s) xs);
       rest = drop (used r s) xs;
     }
 
@@ -117,7 +117,7 @@ module _ {r s : ℕ} {P : Parts} (Z : Sized r s P) where
     is = λ ys. simp append-assoc;
   }
 
-  pub stash-place : Place (stash-at r s) (λ ys. glue (with-stash P ys))
+  pub stash-place : Place (stashed-at r s) (λ ys. glue (with-stash P ys))
   stash-place = record {
     front = P .keys ++ (P .held ++ (P .next ++ P .sets));
     back = P .rest;
@@ -137,7 +137,7 @@ module _ (r s : ℕ) (xs : List ℕ) (long : used r s ≤ length xs) where
     held-size = part-length (2 * r) (held-at r s) xs (omega arith);
     next-size = part-length (2 * r) (next-at r s) xs (omega arith);
     sets-size = part-length (2 * r) (sets-at r s) xs (omega arith);
-    stash-size = part-length s (stash-at r s) xs (omega arith);
+    stash-size = part-length s (stashed-at r s) xs (omega arith);
   }
 
   -- the next stretch of words, and what comes after it
@@ -148,8 +148,8 @@ module _ (r s : ℕ) (xs : List ℕ) (long : used r s ≤ length xs) where
   unfolding parts
   glue-parts =
       rw (
-        stretch s (stash-at r s) (used r s) (omega arith),
-        stretch (2 * r) (sets-at r s) (stash-at r s) (omega arith),
+        stretch s (stashed-at r s) (used r s) (omega arith),
+        stretch (2 * r) (sets-at r s) (stashed-at r s) (omega arith),
         stretch (2 * r) (next-at r s) (sets-at r s) (omega arith),
         stretch (2 * r) (held-at r s) (next-at r s) (omega arith),
       )

@@ -8,12 +8,12 @@ use borrow.Author.Tests.{ltb-true, ltb-false}
 use lib.Dec.{ltb}
 use lib.ListN.{length, take, replicate}
 use lib.Seq.{take-take, take-at}
-use Rattle.tabulation.specs.Hash.{Family}
+use Rattle.tabulation.specs.Hash.{Family, tables}
 use Rattle.tabulation.specs.Slots.{slot-0, slot-1}
 use Rattle.cuckoo.specs.Graph.{slot-key, slot-next}
 use Rattle.basics.specs.Tests.{zero-one}
 use Rattle.basics.specs.Sets.{Asc}
-use Rattle.forest.specs.Held.{other, slot-count, other-end, slots-fit}
+use Rattle.forest.specs.HeldForest.{other, slot-count, other-end, slots-fit}
 use Rattle.build.specs.Slots.{listed}
 use Rattle.build.specs.Labels as Labels-of
 use Rattle.build.specs.Labels.{Labels, labelled}
@@ -21,9 +21,9 @@ use Rattle.build.specs.LinkCode.{with-linking, linked-words, label-words
 use Rattle.build.specs.NextCode.{Chainable}
 use Rattle.build.specs.Notes.{Noting}
 use Rattle.build.specs.Built as Passes-of
-use Rattle.build.specs.Built.{linking, labels, noting, notes, held, nexts, built, canonical, linking-is, labels-is, built-tables}
+use Rattle.build.specs.Built.{linking, labels, noting, notes, held, nexts, built, canonical-parts, linking-is, labels-is, built-tables}
 use Rattle.build.specs.Scratch.{Parts, Sized, parts, glue, with-next, parts-sized, parts-glue}
-use Rattle.build.specs.Access.{tables, Room, Fit, parts-fit, held-sized, next-sized, sets-sized}
+use Rattle.build.specs.Access.{Room, Fit, parts-fit, held-sized, next-sized, sets-sized}
 use Rattle.build.specs.Passes.{answer, noting-of, noted-parts, noted-held-parts, finished-parts, last-seen-parts, chained-parts, blanked-parts}
 use Rattle.build.specs.Passes.{noted-sized, noted-held-sized, finished-sized, last-seen-sized, chained-sized, blanked-sized, labels-fit}
 use Rattle.build.specs.Outcome.{Buildable, Build, full, made, Built, stash-keys}
@@ -85,36 +85,39 @@ module _ {r s n : ℕ} {tabulation scratch : List ℕ} (B : Buildable r s n tabu
   first-words = take-take n (2 * r + s) scratch (B .keys)
 
   pub room-of : Room tabulation r s scratch
-  room-of = record { hashed = B .full-tabulation; some = B .some; enough = record { most = B .most; few = B .few; long = B .room } }
+  room-of = record {
+    hashing = B .hashing;
+    enough = record { slots-bound = B .hashing .slots-bound; places-bound = B .places-bound; long = B .room };
+  }
 
   asc-of : Asc S
   asc-of = rw first-words (B .asc)
 
-  pub solid-of : (c : ℕ) → In c S → c ≡ 0 → ⊥
-  solid-of c i = B .solid c (rw first-words at i)
+  pub nonzero-of : (c : ℕ) → In c S → c ≡ 0 → ⊥
+  nonzero-of c i = B .nonzero c (rw first-words at i)
 
   -- the labels of the second step
   labels-of : Labels (slot-0 F) (slot-1 F) S (2 * r) (labelled-from F s n P .next)
   unfolding labels
-  labels-of = labels-is (other-end F (B .some)) (omega (arith, B .most)) (slots-fit F (B .some)) asc-of solid-of (P .next) (parts-of .next-size)
+  labels-of = labels-is (other-end F (B .hashing .has-slots)) (omega (arith, B .hashing .slots-bound)) (slots-fit F (B .hashing .has-slots)) asc-of nonzero-of (P .next) (parts-of .next-size)
 
   -- the passes make what `built` is
   whole : cond (whole-noting F s n P .overflow) Passes-of.overflow
       (Passes-of.made (seated-from F n (noted-from F s n P) .held) (seated-from F n (noted-from F s n P) .next) (whole-noting F s n P .stash) (whole-noting F s n P .count))
-      ≡ canonical (slot-0 F) (slot-1 F) S (slot-count F) s
+      ≡ canonical-parts (slot-0 F) (slot-1 F) S (slot-count F) s
   unfolding built noting notes held nexts labels
-  whole = built-tables F (B .some) (B .most) asc-of solid-of (P .next) (parts-of .next-size) s
+  whole = built-tables F (B .hashing .has-slots) (B .hashing .slots-bound) asc-of nonzero-of (P .next) (parts-of .next-size) s
 
   decided : Verdict (whole-noting F s n P .overflow) s (stash-keys F S) (listed (slot-key (slot-0 F) (slot-1 F) S) (slot-count F) 0)
       (listed (slot-next (slot-0 F) (slot-1 F) S) (slot-count F) 0) (seated-from F n (noted-from F s n P) .held) (seated-from F n (noted-from F s n P) .next)
       (whole-noting F s n P .stash) (whole-noting F s n P .count)
-  unfolding canonical
+  unfolding canonical-parts
   decided = verdict (whole-noting F s n P .overflow) (ltb s (length (stash-keys F S))) refl whole
 
   -- the sizes stay
   linked-sized : Sized r s (linked-from F s n P)
   linked-sized =
-      let L = linking-is (other-end F (B .some)) (omega (arith, B .most)) (slots-fit F (B .some)) asc-of solid-of in
+      let L = linking-is (other-end F (B .hashing .has-slots)) (omega (arith, B .hashing .slots-bound)) (slots-fit F (B .hashing .has-slots)) asc-of nonzero-of in
       sets-sized (held-sized parts-of (linked-from F s n P .held) (L .size)) (linked-from F s n P .sets) (L .parts .long)
 
   labelled-sized : Sized r s (labelled-from F s n P)

@@ -113,10 +113,10 @@ module _ (a b : ℕ → ℕ) (T : List ℕ) where
         omega (arith, s .low (root a b T (a z)) (r .0 .on) (r .1), r .0 .low z (s .on) (jsym (r .1)))
 
   -- `occupant` obeys the bullets.
-  module _ (stop : Settled a b T) (asc : Asc T) (solid : In 0 T → ⊥) where
+  module _ (stop : Settled a b T) (asc : Asc T) (nonzero : In 0 T → ⊥) where
     -- a key of T that is the occupant of a slot sits there
     pub seated-at : {v c : ℕ} → In c T → occupant a b T v ≡ c → Seat a b T v c
-    seated-at {v} i e = elim (occupant-seat a b T v) [ inl q ↦ absurd (solid (rw (sym e ∙ q) at i)) | inr S ↦ rw e at S ]
+    seated-at {v} i e = elim (occupant-seat a b T v) [ inl q ↦ absurd (nonzero (rw (sym e ∙ q) at i)) | inr S ↦ rw e at S ]
 
     -- a key that is not the root sits in exactly one slot
     other-one : {c : ℕ} → In c T → (c ≡ root a b T (a c) → ⊥) → InOne (occupant a b T) c

@@ -35,10 +35,10 @@ module _ (a b : ℕ → ℕ) where
     in-one : InOne (occupant a b T) c → Sitting T c
     in-both : Smallest a b T c → (Cyclic a b T (a c) → ⊥) → occupant a b T (a c) ≡ c → occupant a b T (b c) ≡ c → Sitting T c
 
-  module _ {T : List ℕ} (stop : Settled a b T) (asc : Asc T) (solid : In 0 T → ⊥) where
+  module _ {T : List ℕ} (stop : Settled a b T) (asc : Asc T) (nonzero : In 0 T → ⊥) where
     -- In a component with a cycle each key sits in exactly one slot.
     pub cycle-one : {v c : ℕ} → Cyclic a b T v → In c T → Joined a b T v (a c) → InOne (occupant a b T) c
-    cycle-one L i j = let r = root-cycle a b T asc L in bullet-cycle a b T stop asc solid _ (r .0) .each _ i (jtrans (jsym (r .1)) j)
+    cycle-one L i j = let r = root-cycle a b T asc L in bullet-cycle a b T stop asc nonzero _ (r .0) .each _ i (jtrans (jsym (r .1)) j)
 
     -- Each key sits in exactly one slot, except the smallest key of a component without a cycle, which sits in both.
     pub sitting : (c : ℕ) → In c T → Sitting T c
@@ -49,16 +49,16 @@ module _ (a b : ℕ → ℕ) where
         ]
       where
         go : {z : ℕ} → Smallest a b T z × Joined a b T (a c) (a z) → (Cyclic a b T (a c) → ⊥) → (c ≡ z) ⊎ (c ≡ z → ⊥) → Sitting T c
-        go s n (inl q) = let B = bullet-tree a b T stop asc solid c (rw (← q) at (s .0)) n in in-both (rw (← q) at (s .0)) n (B .table-0) (B .table-1)
+        go s n (inl q) = let B = bullet-tree a b T stop asc nonzero c (rw (← q) at (s .0)) n in in-both (rw (← q) at (s .0)) n (B .table-0) (B .table-1)
         go {z} s n (inr m) =
             let flat : Cyclic a b T (a z) → ⊥ = λ L. n (cyclic-near (s .1) L) in
-            in-one (bullet-tree a b T stop asc solid z (s .0) flat .others c i (jsym (s .1)) m)
+            in-one (bullet-tree a b T stop asc nonzero z (s .0) flat .others c i (jsym (s .1)) m)
 
     -- In a component with a cycle no two slots have the same key.
     pub occupant-injective : {v w : ℕ} → Cyclic a b T v → occupant a b T v ≡ occupant a b T w → v ≡ w
     occupant-injective {v} {w} L e =
         let i = filled stop (L .cycle .on) (L .near) in
-        let o = cycle-one L i (seat-near a b (seated-at a b T stop asc solid i refl)) in
+        let o = cycle-one L i (seat-near a b (seated-at a b T stop asc nonzero i refl)) in
         o .only v refl ∙ sym (o .only w (sym e))
 
 module _ (a b : ℕ → ℕ) (S : List ℕ) where

@@ -69,15 +69,15 @@ module _ (a b : ℕ → ℕ) where
     D = stash a b S
 
     -- the canonical placement: a seated key in a slot that holds it, a stashed one at its rank in the stash
-    canonical : ℕ → Place
-    canonical c = cond (member c T) (slot (cond (eqb (occupant a b T (a c)) c) (a c) (b c))) (place (length (below c D)))
+    canonical-place : ℕ → Place
+    canonical-place c = cond (member c T) (slot (cond (eqb (occupant a b T (a c)) c) (a c) (b c))) (place (length (below c D)))
 
     data Put (c : ℕ) : Type 0 where
-      sits : (v : ℕ) → canonical c ≡ slot v → (v ≡ a c) ⊎ (v ≡ b c) → occupant a b T v ≡ c → Put c
-      goes : In c D → canonical c ≡ place (length (below c D)) → Put c
+      sits : (v : ℕ) → canonical-place c ≡ slot v → (v ≡ a c) ⊎ (v ≡ b c) → occupant a b T v ≡ c → Put c
+      goes : In c D → canonical-place c ≡ place (length (below c D)) → Put c
 
     put : (c : ℕ) → In c S → Put c
-    unfolding canonical
+    unfolding canonical-place
     put c i = elim (seated-or-stash a b S i) [
       | inl k ↦ elim (test (eqb (occupant a b T (a c)) c)) [
         | inl e ↦ sits (a c) (rw (in-member k, e)) (inl refl) (eqb-true (occupant a b T (a c)) c e)
@@ -91,14 +91,14 @@ module _ (a b : ℕ → ℕ) where
 
     -- The canonical image is a placement: a set whose stash has at most s keys can be placed.
     pub fits-placed : {s : ℕ} → length D ≤ s → Placement s S
-    fits-placed {s} l = record { at = canonical; allowed = λ c i. allow (put c i); apart = λ c d i j. part (put c i) (put d j) }
+    fits-placed {s} l = record { at = canonical-place; allowed = λ c i. allow (put c i); apart = λ c d i j. part (put c i) (put d j) }
       where
-        allow : {c : ℕ} → Put c → Allowed s c (canonical c)
+        allow : {c : ℕ} → Put c → Allowed s c (canonical-place c)
         allow (sits v e (inl q) o) = table-0 (e ∙ ap slot q)
         allow (sits v e (inr q) o) = table-1 (e ∙ ap slot q)
         allow {c} (goes i e) = aside (length (below c D)) (omega (arith, rank-below D i)) e
 
-        part : {c d : ℕ} → Put c → Put d → canonical c ≡ canonical d → c ≡ d
+        part : {c d : ℕ} → Put c → Put d → canonical-place c ≡ canonical-place d → c ≡ d
         part (sits v e p o) (sits w f q r) m = cc
         part (sits v e p o) (goes j f) m = absurd (slot-place e f m)
         part (goes i e) (sits w f q r) m = absurd (slot-place f e (sym m))
@@ -106,7 +106,7 @@ module _ (a b : ℕ → ℕ) where
 
     -- A key goes to the one that holds the slot where the placement has it, or to its place aside; in a component without a cycle, where no key
     -- is stashed, to itself. No two keys go to one: in a component with a cycle no two slots have the same key.
-    module _ (solid : In 0 S → ⊥) {s : ℕ} (P : Placement s S) where
+    module _ (nonzero : In 0 S → ⊥) {s : ℕ} (P : Placement s S) where
       abbrev to : Place → Place
       to (slot u) = slot (occupant a b T u)
       to (place i) = place i
@@ -144,7 +144,7 @@ module _ (a b : ℕ → ℕ) where
 
       goal-apart : {c d : ℕ} → In c S → In d S → Goal c → Goal d → goal c ≡ goal d → c ≡ d
       goal-apart {c} {d} i j (holder u x q e L o k M) (holder w y r f L′ p l M′) m =
-          let eq = occupant-injective a b (seated-stops a b S h) (seated-asc a b S h) (λ z. solid (seated-sub a b S h 0 z)) {w = w} L (cc) in
+          let eq = occupant-injective a b (seated-stops a b S h) (seated-asc a b S h) (λ z. nonzero (seated-sub a b S h 0 z)) {w = w} L (cc) in
           P .apart c d i j (cc)
       goal-apart i j (holder u x q e L o k M) (same y l r f) m = absurd (slot-place e f m)
       goal-apart {c} {d} i j (holder u x q e L o k M) (itself f l n) m = let z : x ≡ d = cc in absurd (n (rw z at M))
@@ -163,12 +163,12 @@ module _ (a b : ℕ → ℕ) where
 
     -- A set fits, its stash has at most s keys, exactly if it can be placed.
     pub placement : (s : ℕ) → (In 0 S → ⊥) → (length D ≤ s) ↔ Placement s S
-    placement s solid = (fits-placed, placed-fits solid)
+    placement s nonzero = (fits-placed, placed-fits nonzero)
 
     -- "Full drawer": the stash would have more than s keys exactly when no placement of the set exists.
     pub full : (s : ℕ) → (In 0 S → ⊥) → (s < length D) ↔ (Placement s S → ⊥)
-    full s solid = (
-      λ l P. omega (arith, placed-fits solid P),
+    full s nonzero = (
+      λ l P. omega (arith, placed-fits nonzero P),
       λ n. elim (le? (length D) s) [ inl l ↦ absurd (n (fits-placed l)) | inr l ↦ l ],
     )
 
@@ -189,8 +189,8 @@ module _ (a b : ℕ → ℕ) where
 
   -- Every part of a set that fits, fits: its stash is no larger. So a set that fits can be reached by inserting its keys in any order.
   pub subset-fits : {R S : List ℕ} → Asc R → Asc S → (In 0 S → ⊥) → Sub R S → length (stash a b R) ≤ length (stash a b S)
-  subset-fits h k solid f = placed-fits h (λ z. solid (f 0 z)) (restrict f (fits-placed k (omega arith)))
+  subset-fits h k nonzero f = placed-fits h (λ z. nonzero (f 0 z)) (restrict f (fits-placed k (omega arith)))
 
   -- Removing a key never enlarges the stash.
   pub remove-fits : {S : List ℕ} → Asc S → (In 0 S → ⊥) → (c : ℕ) → length (stash a b (without c S)) ≤ length (stash a b S)
-  remove-fits {S} h solid c = subset-fits (asc-out c h) h solid (λ d. out-in c S)
+  remove-fits {S} h nonzero c = subset-fits (asc-out c h) h nonzero (λ d. out-in c S)

@@ -21,9 +21,9 @@ module _ (a b : ℕ → ℕ) where
     own : (c : ℕ) → In c (hung a b T z) → Joined a b (hung a b T z) (a z) (a c) → (f (a c) ≡ c) ⊎ (f (b c) ≡ c)
     top : (c v : ℕ) → f (a z) ≡ c → Far a b (hung a b T z) (a z) c v → f v ≡ c
 
-  module _ {T : List ℕ} (stop : Settled a b T) (asc : Asc T) (solid : In 0 T → ⊥) {f : ℕ → ℕ} (o : Obeys a b T f) where
+  module _ {T : List ℕ} (stop : Settled a b T) (asc : Asc T) (nonzero : In 0 T → ⊥) {f : ℕ → ℕ} (o : Obeys a b T f) where
     own-end : {c : ℕ} → In c T → InOne f c → (f (a c) ≡ c) ⊎ (f (b c) ≡ c)
-    own-end i n = one-of a b T (o .holds) (λ q. solid (rw q at i)) n
+    own-end i n = one-of a b T (o .holds) (λ q. nonzero (rw q at i)) n
 
     rule-cycle : {z : ℕ} → SmallestOnCycle a b T z → Rule T f z
     rule-cycle {z} s =
@@ -78,18 +78,18 @@ module _ (a b : ℕ → ℕ) where
             | inl q ↦ q ∙ sym e
             | inr r ↦
                 let S = slot-seat a b {v = v} stop (r .0) (ends-near (or-ends a b (r .1) .1) (r .0)) in
-                absurd (solid (rw (sym (seat-occupant a b (S .1)) ∙ e) at (S .1 .c-in)))
+                absurd (nonzero (rw (sym (seat-occupant a b (S .1)) ∙ e) at (S .1 .c-in)))
           ]
         ]
 
   -- So the occupants of a set's seated keys obey the bullets, and no other seating does.
-  module _ (S : List ℕ) (asc : Asc S) (solid : In 0 S → ⊥) where
-    solid-seated : In 0 (seated a b S) → ⊥
-    solid-seated i = solid (seated-sub a b S asc 0 i)
+  module _ (S : List ℕ) (asc : Asc S) (nonzero : In 0 S → ⊥) where
+    seated-nonzero : In 0 (seated a b S) → ⊥
+    seated-nonzero i = nonzero (seated-sub a b S asc 0 i)
 
     pub seated-obeys : Obeys a b (seated a b S) (occupant a b (seated a b S))
-    seated-obeys = obeys a b (seated a b S) (seated-stops a b S asc) (seated-asc a b S asc) solid-seated
+    seated-obeys = obeys a b (seated a b S) (seated-stops a b S asc) (seated-asc a b S asc) seated-nonzero
 
     -- "That fixes the rest", for the seated keys of a set
     pub seated-unique : {f : ℕ → ℕ} → Obeys a b (seated a b S) f → (v : ℕ) → f v ≡ occupant a b (seated a b S) v
-    seated-unique o = unique (seated-stops a b S asc) (seated-asc a b S asc) solid-seated o
+    seated-unique o = unique (seated-stops a b S asc) (seated-asc a b S asc) seated-nonzero o

@@ -37,7 +37,7 @@ pub record Settable (tabulation ws scratch : List ℕ) (n key : ℕ) : Type 0 wh
   pub image : canonical tabulation ws ≡ true
   pub count : n ≡ length (keys-in ws)
   pub front : take n scratch ≡ keys-in ws
-  pub solid : blank key ≡ false
+  pub not-blank : blank key ≡ false
 
 -- the answer and the words that a change of the set leads to
 abbrev pub set-answer : Change → List ℕ → List ℕ → ℕ → ℕ
@@ -78,7 +78,7 @@ module _ {tabulation ws scratch : List ℕ} {n key : ℕ} (Z : Settable tabulati
       → Decided Insert tabulation ws key stash-full ws
   insert-crowded m l =
       let t = rw (Z .front) at m in
-      let f = one-too-many (params-of tabulation ws) key (sizes .sizes .some) valid (Z .solid) t (omega (arith, Z .count)) in
+      let f = one-too-many (params-of tabulation ws) key (sizes .sizes .has-slots) valid (Z .not-blank) t (omega (arith, Z .count)) in
       (rw (t, f), rw (t, f))
 
   pub insert-renewed : member key (take n scratch) ≡ false
@@ -115,7 +115,7 @@ module _ {tabulation ws scratch : List ℕ} {n key : ℕ} (Z : Settable tabulati
 
     pub changed-buildable : Buildable (slots-of ws) (places-of ws) m tabulation mid × Shaped ws
     changed-buildable = (
-      set-buildable tabulation ws scratch mid m (Z .ready) same-room few changed-front (changed-valid kind key (Z .solid) valid),
+      set-buildable tabulation ws scratch mid m (Z .ready) same-room few changed-front (changed-valid kind key (Z .not-blank) valid),
       sizes,
     )
 
@@ -144,7 +144,7 @@ module _ (tabulation ws scratch : List ℕ) where
   -- and where none does
   module _ (ready : Ready tabulation ws scratch) where
     full-test : eqb (length tabulation) tabulation-length ≡ true
-    full-test = eq-eqb _ _ (ready .full)
+    full-test = eq-eqb _ _ (ready .full-length)
 
     room-test : ltb (length scratch) (scratch-length (slots-of ws) (places-of ws)) ≡ false
     room-test = le-ltb _ _ (ready .room)
@@ -172,14 +172,14 @@ pub settable : {tabulation ws before scratch : List ℕ} {n key : ℕ} {l : Read
     → Ready tabulation ws before → length scratch ≡ length before → l ≡ Keys n
     → (values l ≡ reading-values tabulation ws) × (take (length (keys-in ws)) scratch ≡ keys-in ws) → b ≡ false → b ≡ blank key
     → Settable tabulation ws scratch n key
-settable {tabulation} {ws} ready same-room e told solid test =
+settable {tabulation} {ws} ready same-room e told not-blank test =
     let t = told-keys tabulation ws (told .0) e in
     record {
-      ready = record { full = ready .full; shape = ready .shape; room = omega (arith, ready .room) };
+      ready = record { full-length = ready .full-length; shape = ready .shape; room = omega (arith, ready .room) };
       image = t .0;
       count = t .1;
       front = rw (t .1) (told .1);
-      solid = sym test ∙ solid;
+      not-blank = sym test ∙ not-blank;
     }
 
 -- insert and remove
@@ -213,5 +213,5 @@ module _ (tabulation ws scratch : List ℕ) (kind : Change) (key : ℕ) where
   unfolding change-outcome
   left-set ready Z e =
       let r : set-answer kind tabulation ws key ≡ change-refusal kind tabulation ws scratch key =
-      rw (Z .image, Z .solid) at (change-ready tabulation ws scratch ready kind key) in
+      rw (Z .image, Z .not-blank) at (change-ready tabulation ws scratch ready kind key) in
       (e .0 ∙ r, rw (← r) (e .1))

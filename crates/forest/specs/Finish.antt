@@ -185,7 +185,7 @@ module _ {a b : ℕ → ℕ} {other : ℕ → ℕ → ℕ} (turn : (c v w : ℕ)
       let flat = tree-flat P C in
       record {
         seats = seats (P .forest) (C .z-in) (tree-top P C) (λ d i j. C .all d (hung-sub a b K z d i) (mono (hung-sub a b K z) j))
-            (λ d i j. hung-tree K z (λ l. flat z l jrefl) d (P .sub d i)) I (P .forest .solid z (C .all z (C .z-in) jrefl));
+            (λ d i j. hung-tree K z (λ l. flat z l jrefl) d (P .sub d i)) I (P .forest .nonzero z (C .all z (C .z-in) jrefl));
         frame = λ x k. I .frame x (λ j. k (mono (P .sub) j));
         size = I .size;
       }
@@ -205,7 +205,7 @@ module _ {a b : ℕ → ℕ} {other : ℕ → ℕ → ℕ} (turn : (c v w : ℕ)
         let ey : Joined a b F (a y) (b y) = span P (edge (C .y-in)) in
         -- z is taken out of its slot s, which leaves two trees: h2, with the slots of y on either side
         let os = move (jtrans ey to) o in
-        let w = leads f os refl (f .solid z iz) in
+        let w = leads f os refl (f .nonzero z iz) in
         let h2 = set h s 0 in
         let same2 : (x : ℕ) → (x ≡ s → ⊥) → getD h2 x 0 ≡ getD h x 0 = λ x k. off-set h s 0 x k in
         let o2 : (x : ℕ) → Joined a b F s x → Oriented a b G h2 x = λ x j. elim (sides G (w .ends) (around z F) j) [
@@ -227,7 +227,7 @@ module _ {a b : ℕ → ℕ} {other : ℕ → ℕ → ℕ} (turn : (c v w : ℕ)
         let I4 = reroots turn m fits n z (omega arith) fT (move (F-T P C Z near) o3) sz3 (fits z .0) in
         let no-F : (x : ℕ) → (Joined a b K (a y) x → ⊥) → Joined a b F (a y) x → ⊥ = λ x k j. k (mono (P .sub) j) in
         record {
-          seats = λ v j. seats fT (P .sub z iz) (cycle-top P C Z) (hung-T P C Z) (λ d i k. T-hung P C Z d i) I4 (f .solid z iz) v
+          seats = λ v j. seats fT (P .sub z iz) (cycle-top P C Z) (hung-T P C Z) (λ d i k. T-hung P C Z d i) I4 (f .nonzero z iz) v
               (jtrans (mono (P .sub) (jsym near)) j);
           frame = λ x k.
               I4 .frame x (λ j. no-F x k (jtrans near (T-F P C Z j)))

@@ -5,4 +5,4 @@ pub mod Way
 pub mod Link
 pub mod Seats
 pub mod Finish
-pub mod Held
+pub mod HeldForest

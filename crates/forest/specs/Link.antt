@@ -46,7 +46,7 @@ module _ (a b : ℕ → ℕ) where
   -- no keys, and every slot bare
   pub forest-none : (m : ℕ) → OrientedForest a b [] (replicate m 0)
   forest-none m = record {
-    forest = record { acyclic = λ c i. elim i [ ]; solid = λ c i. elim i [ ] };
+    forest = record { acyclic = λ c i. elim i [ ]; nonzero = λ c i. elim i [ ] };
     each = λ p. record { own = λ v c j e n. absurd (n (sym e ∙ getD-zeros m v)); stands = λ c i. elim i [ ] };
   }
 
@@ -55,7 +55,7 @@ module _ {a b : ℕ → ℕ} where
   pub keys-fit : {F h : List ℕ} → OrientedForest a b F h → Once F → length F ≤ length h
   keys-fit {F} {h} W o = once-shorter h o (λ c i.
       let s = W .each (a c) .stands c i jrefl in
-      let nz : getD h (s .v) 0 ≡ 0 → ⊥ = λ z. W .forest .solid c i (sym (s .at) ∙ z) in
+      let nz : getD h (s .v) 0 ≡ 0 → ⊥ = λ z. W .forest .nonzero c i (sym (s .at) ∙ z) in
       rw (← s .at) (getD-in h (s .v) nz))
 
   -- The tree of one end v of a key c is re-rooted there and c left in v; the other end w lies in another tree. That makes one tree of two.

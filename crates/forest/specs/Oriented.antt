@@ -42,7 +42,7 @@ module _ (a b : ℕ → ℕ) where
   -- a set of keys without a cycle: the others never join the two slots of a key; and 0 is no key
   pub record Forest (F : List ℕ) : Type 0 where
     pub acyclic : (c : ℕ) → In c F → Joined a b (without c F) (a c) (b c) → ⊥
-    pub solid : (c : ℕ) → In c F → c ≡ 0 → ⊥
+    pub nonzero : (c : ℕ) → In c F → c ≡ 0 → ⊥
 
   -- the key c stands in its slot v, and not in its other slot w
   pub record Stands (h : List ℕ) (c : ℕ) : Type 0 where
@@ -107,11 +107,11 @@ module _ {a b : ℕ → ℕ} where
 
   -- fewer keys of a forest are a forest
   pub forest-sub : {F G : List ℕ} → Sub G F → Forest a b F → Forest a b G
-  forest-sub s f = record { acyclic = λ c i j. f .acyclic c (s c i) (mono (out-sub c s) j); solid = λ c i. f .solid c (s c i) }
+  forest-sub s f = record { acyclic = λ c i j. f .acyclic c (s c i) (mono (out-sub c s) j); nonzero = λ c i. f .nonzero c (s c i) }
 
   -- and so are a forest and a key whose slots it does not join
   pub forest-more : {F : List ℕ} {c : ℕ} → Forest a b F → (c ≡ 0 → ⊥) → (Joined a b F (a c) (b c) → ⊥) → Forest a b (c ∷ F)
-  forest-more {F} {c} f nz n = record { acyclic = acyclic; solid = λ d i e. elim i [ here q ↦ nz (sym q ∙ e) | there k ↦ f .solid d k e ] }
+  forest-more {F} {c} f nz n = record { acyclic = acyclic; nonzero = λ d i e. elim i [ here q ↦ nz (sym q ∙ e) | there k ↦ f .nonzero d k e ] }
     where
       down : (d : ℕ) → Sub (without d (c ∷ F)) (c ∷ without d F)
       down d x i = elim (out-in d (c ∷ F) i) [ here q ↦ here q | there k ↦ there (in-out d F (out-ne d (c ∷ F) i) k) ]
@@ -177,7 +177,7 @@ module _ {a b : ℕ → ℕ} where
             | same n t ↦ t ∙ w .at
           ];
           off = λ e. elim (left (w .w) (end-near (ends-flip (w .ends)) i k)) [
-            | gone u t ↦ f .solid d (out-in c F i) (sym e ∙ t)
+            | gone u t ↦ f .nonzero d (out-in c F i) (sym e ∙ t)
             | same n t ↦ w .off (sym t ∙ e)
           ];
         };
@@ -211,7 +211,7 @@ module _ {a b : ℕ → ℕ} where
       w = v;
       ends = ends-flip e;
       at = put;
-      off = λ q. new (ov .own v c jrefl (sym (eh v jrefl) ∙ q) (f .solid c ic) .mem);
+      off = λ q. new (ov .own v c jrefl (sym (eh v jrefl) ∙ q) (f .nonzero c ic) .mem);
     }
 
     old : (d : ℕ) → In d G → Joined a b F v (a d) → Stands a b out d
@@ -228,7 +228,7 @@ module _ {a b : ℕ → ℕ} where
               }
           | inr g ↦
               let o = ow .stands d i g in
-              let at-w : getD k w 0 ≡ d → ⊥ = λ q. f .solid d (up d i) (sym q ∙ bare) in
+              let at-w : getD k w 0 ≡ d → ⊥ = λ q. f .nonzero d (up d i) (sym q ∙ bare) in
               record {
                 v = o .v;
                 w = o .w;
@@ -295,10 +295,10 @@ module _ {a b : ℕ → ℕ} where
       let i = r .c-in in
       let s = o .stands c i (jsym (end-near (r .ends) i jrefl)) in
       let at : getD h (r .w) 0 ≡ c = elim (ends-two (r .ends) (s .ends)) [
-        | inl t ↦ absurd (f .solid c i (sym (s .at) ∙ ap (λ (y : ℕ). getD h y 0) t ∙ p))
+        | inl t ↦ absurd (f .nonzero c i (sym (s .at) ∙ ap (λ (y : ℕ). getD h y 0) t ∙ p))
         | inr t ↦ ap (λ (y : ℕ). getD h y 0) (sym t) ∙ s .at
       ] in
-      leads f (move (ends-edge (r .ends) i) o) at (f .solid c i)
+      leads f (move (ends-edge (r .ends) i) o) at (f .nonzero c i)
 
   -- A tree has one bare slot. Were u one beside v, the key c that parts u from v would stand at its other end w, and without c there were two
   -- bare slots, w and v, in a smaller tree.
@@ -316,7 +316,7 @@ module _ {a b : ℕ → ℕ} where
         let k : Joined a b (without c F) w v = elim (one-near (r .1 .ends) i (jsym j)) [ inl k ↦ absurd (r .1 .cut k) | inr k ↦ k ] in
         let e = one-root-of n (omega (arith, out-shorter c F i)) (forest-sub (λ d. out-in c F) f) (below-emptied f (move (ends-edge (r .1 .ends) i) o) s)
         k (emptied h w) (still-bare h w v q) in
-        absurd (f .solid c i (sym (s .at) ∙ ap (λ (y : ℕ). getD h y 0) e ∙ q))
+        absurd (f .nonzero c i (sym (s .at) ∙ ap (λ (y : ℕ). getD h y 0) e ∙ q))
   ]
 
   pub one-root : {F h : List ℕ} {u v : ℕ} → Forest a b F → Oriented a b F h u → Joined a b F u v → getD h u 0 ≡ 0 → getD h v 0 ≡ 0 → u ≡ v
@@ -327,7 +327,7 @@ module _ {a b : ℕ → ℕ} where
       → Joined a b (without c F) v p → ⊥
   not-below {F} {h} {c} {v} {p} f o s z k =
       let e = one-root (forest-sub (λ d. out-in c F) f) (below-emptied f o s) k (emptied h v) (still-bare h v p z) in
-      f .solid c (s .mem) (sym (s .at) ∙ ap (λ (y : ℕ). getD h y 0) e ∙ z)
+      f .nonzero c (s .mem) (sym (s .at) ∙ ap (λ (y : ℕ). getD h y 0) e ∙ z)
 
   pub root-beyond : {F h : List ℕ} {c v p : ℕ} → Forest a b F → Oriented a b F h v → (s : Leads a b F h c v) → Joined a b F v p → getD h p 0 ≡ 0
       → Joined a b (without c F) (s .w) p

@@ -5,13 +5,13 @@
 ghost use mathlib.Core.Path.{_≡_};
 ghost use Prim.Native.Nat.{_*_, _≤_, _<_};
 ghost use lib.ListN.{length};
-ghost use Rattle.tabulation.specs.Hash.{tabulation-length, max-slots};
-ghost use Rattle.forest.specs.Held.{other, rerooted, lowest, finished-tree, exchanged, finished-cycle, holding};
+ghost use Rattle.tabulation.specs.Hash.{tables, Hashing};
+ghost use Rattle.forest.specs.HeldForest.{other, rerooted, lowest, finished-tree, exchanged, finished-cycle, holding};
 
 // The other slot of a key that stands in `slot`.
 fn other_slot(tabulation: &[u16], r: u32, slot: u32, key: u32) -> u32
-    requires { ⌜ (length (now tabulation) ≡ tabulation-length) × (0 < r) × (r ≤ max-slots) ⌝ }
-    ensures { λ w. ⌜ (w ≡ other (record { tabulation = now (tabulation .entry); slots = r }) slot key) × (w < 2 * r) ⌝ }
+    requires { ⌜ Hashing (now tabulation) r ⌝ }
+    ensures { λ w. ⌜ (w ≡ other (tables (now (tabulation .entry)) r) slot key) × (w < 2 * r) ⌝ }
 {
     if slot < r {
         return tabulation::second_slot(tabulation, r, key);
@@ -22,9 +22,8 @@ fn other_slot(tabulation: &[u16], r: u32, slot: u32, key: u32) -> u32
 // Makes `slot` the root of its tree, and leaves the key `carry` there: every key on the way to the old root moves to
 // its other slot. No way is longer than there are slots, which bounds the loop.
 pub fn reroot(held: &mut [u32], tabulation: &[u16], r: u32, slot: u32, carry: u32)
-    requires { ⌜ (length (now held) ≡ 2 * r) × (length (now tabulation) ≡ tabulation-length) × (0 < r)
-        × (r ≤ max-slots) × (slot < 2 * r) ⌝ }
-    ensures { λ _. ⌜ now (held .exit) ≡ rerooted (record { tabulation = now (tabulation .entry); slots = r })
+    requires { ⌜ Hashing (now tabulation) r × (length (now held) ≡ 2 * r) × (slot < 2 * r) ⌝ }
+    ensures { λ _. ⌜ now (held .exit) ≡ rerooted (tables (now (tabulation .entry)) r)
         (now (held .entry)) carry slot ⌝ }
 {
     let mut at = slot;
@@ -44,9 +43,8 @@ pub fn reroot(held: &mut [u32], tabulation: &[u16], r: u32, slot: u32, carry: u3
 
 // The slot of the smallest key on the way from `slot` to the root of its tree.
 fn lowest_slot(held: &[u32], tabulation: &[u16], r: u32, slot: u32) -> u32
-    requires { ⌜ (length (now held) ≡ 2 * r) × (length (now tabulation) ≡ tabulation-length) × (0 < r)
-        × (r ≤ max-slots) × (slot < 2 * r) ⌝ }
-    ensures { λ s. ⌜ (s ≡ lowest (record { tabulation = now (tabulation .entry); slots = r }) (now (held .entry)) slot)
+    requires { ⌜ Hashing (now tabulation) r × (length (now held) ≡ 2 * r) × (slot < 2 * r) ⌝ }
+    ensures { λ s. ⌜ (s ≡ lowest (tables (now (tabulation .entry)) r) (now (held .entry)) slot)
         × (s < 2 * r) ⌝ }
 {
     let mut at = slot;
@@ -68,9 +66,8 @@ fn lowest_slot(held: &[u32], tabulation: &[u16], r: u32, slot: u32) -> u32
 
 // Finishes a component without a cycle, whose smallest key is `key`.
 pub fn finish_tree(held: &mut [u32], tabulation: &[u16], r: u32, key: u32)
-    requires { ⌜ (length (now held) ≡ 2 * r) × (length (now tabulation) ≡ tabulation-length) × (0 < r)
-        × (r ≤ max-slots) ⌝ }
-    ensures { λ _. ⌜ now (held .exit) ≡ finished-tree (record { tabulation = now (tabulation .entry); slots = r })
+    requires { ⌜ Hashing (now tabulation) r × (length (now held) ≡ 2 * r) ⌝ }
+    ensures { λ _. ⌜ now (held .exit) ≡ finished-tree (tables (now (tabulation .entry)) r)
         (now (held .entry)) key ⌝ }
 {
     let first = tabulation::first_slot(tabulation, r, key);
@@ -80,9 +77,8 @@ pub fn finish_tree(held: &mut [u32], tabulation: &[u16], r: u32, key: u32)
 // The key in the slot `low` goes out of the tree, `key` comes in at its slot in table 1, and the tree is re-rooted at
 // the other's slot in table 0.
 fn exchange(held: &mut [u32], tabulation: &[u16], r: u32, key: u32, low: u32)
-    requires { ⌜ (length (now held) ≡ 2 * r) × (length (now tabulation) ≡ tabulation-length) × (0 < r)
-        × (r ≤ max-slots) × (low < 2 * r) ⌝ }
-    ensures { λ _. ⌜ now (held .exit) ≡ exchanged (record { tabulation = now (tabulation .entry); slots = r })
+    requires { ⌜ Hashing (now tabulation) r × (length (now held) ≡ 2 * r) × (low < 2 * r) ⌝ }
+    ensures { λ _. ⌜ now (held .exit) ≡ exchanged (tables (now (tabulation .entry)) r)
         (now (held .entry)) key low ⌝ }
 {
     let smallest = held[low as usize];
@@ -96,9 +92,8 @@ fn exchange(held: &mut [u32], tabulation: &[u16], r: u32, key: u32, low: u32)
 // Finishes a component with a cycle, whose one key outside the forest is `key`: that comes in for the smallest key on
 // the cycle.
 pub fn finish_cycle(held: &mut [u32], tabulation: &[u16], r: u32, key: u32)
-    requires { ⌜ (length (now held) ≡ 2 * r) × (length (now tabulation) ≡ tabulation-length) × (0 < r)
-        × (r ≤ max-slots) ⌝ }
-    ensures { λ _. ⌜ now (held .exit) ≡ finished-cycle (record { tabulation = now (tabulation .entry); slots = r })
+    requires { ⌜ Hashing (now tabulation) r × (length (now held) ≡ 2 * r) ⌝ }
+    ensures { λ _. ⌜ now (held .exit) ≡ finished-cycle (tables (now (tabulation .entry)) r)
         (now (held .entry)) key ⌝ }
 {
     let first = tabulation::first_slot(tabulation, r, key);
@@ -110,9 +105,8 @@ pub fn finish_cycle(held: &mut [u32], tabulation: &[u16], r: u32, key: u32)
 
 // Whether a key stands in one of its two slots.
 pub fn holds(held: &[u32], tabulation: &[u16], r: u32, key: u32) -> bool
-    requires { ⌜ (length (now held) ≡ 2 * r) × (length (now tabulation) ≡ tabulation-length) × (0 < r)
-        × (r ≤ max-slots) ⌝ }
-    ensures { λ b. ⌜ b ≡ holding (record { tabulation = now (tabulation .entry); slots = r }) (now (held .entry)) key ⌝ }
+    requires { ⌜ Hashing (now tabulation) r × (length (now held) ≡ 2 * r) ⌝ }
+    ensures { λ b. ⌜ b ≡ holding (tables (now (tabulation .entry)) r) (now (held .entry)) key ⌝ }
 {
     let first = tabulation::first_slot(tabulation, r, key);
     let second = tabulation::second_slot(tabulation, r, key);

@@ -23,7 +23,7 @@ pub record Agrees (P : Params) (o : Step) (m : Reply) : Type 0 where
 
 -- Of the lent tabulations only those in place of the sequence's have a wrong length.
 pub own-lent : (P : Params) → length (P .tabulation) ≡ tabulation-length → wrong-length P own ≡ false
-own-lent P full = ap not (eq-eqb (length (P .tabulation)) tabulation-length full)
+own-lent P full-length = ap not (eq-eqb (length (P .tabulation)) tabulation-length full-length)
 
 pub wrong-lent : (P : Params) (t : List ℕ) (n : length t ≡ tabulation-length → ⊥) → wrong-length P (wrong t n) ≡ true
 wrong-lent P t n = ap not (ne-eqb (length t) tabulation-length n)

@@ -95,7 +95,7 @@ pub data Allowed (t : List ℕ) : List ℕ → List Call → Type 0 where
 -- A sequence of demand 3, with the tabulation, r and s of P, that starts with words ws. "It starts with the words of an accepted lay, whatever they
 -- were before."
 pub record Sequence (P : Params) (ws : List ℕ) (cs : List Call) : Type 0 where
-  pub full : length (P .tabulation) ≡ tabulation-length
+  pub full-length : length (P .tabulation) ≡ tabulation-length
   pub before : List ℕ
   pub accepted : fresh-refusal (length before) (P .slots) (P .places) ≡ done
   pub laid : ws ≡ fresh-words before (P .slots) (P .places)

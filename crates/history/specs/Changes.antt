@@ -23,7 +23,7 @@ use Rattle.history.specs.Calls.{Lent, own, wrong, lent-of, Call, step}
 use Rattle.history.specs.Model.{Request, new-set, wrong-length, too-short, change-tests, reply}
 use Rattle.history.specs.Agrees.{Agrees, own-lent, wrong-lent}
 
-module _ {P : Params} {S ws : List ℕ} (h : Holds P S ws) (full : length (P .tabulation) ≡ tabulation-length) where
+module _ {P : Params} {S ws : List ℕ} (h : Holds P S ws) (full-length : length (P .tabulation) ≡ tabulation-length) where
   abbrev t : List ℕ
   t = P .tabulation
 
@@ -44,8 +44,8 @@ module _ {P : Params} {S ws : List ℕ} (h : Holds P S ws) (full : length (P .ta
       ≡ first-refusal (change-tests P kind l (length scratch) key S)
   change-number kind own scratch key =
       change-answer t ws scratch kind key
-      ∙ (held-refusal h full kind scratch key
-      ∙ (rw (tests-are kind own (length scratch) key, own-lent P full)))
+      ∙ (held-refusal h full-length kind scratch key
+      ∙ (rw (tests-are kind own (length scratch) key, own-lent P full-length)))
   change-number kind (wrong u n) scratch key =
       change-tabulation u ws scratch kind key n
       ∙ (rw (tests-are kind (wrong u n) (length scratch) key, wrong-lent P u n))

@@ -75,8 +75,8 @@ module _ {P : Params} {ws : List ℕ} {cs : List Call} (q : Sequence P ws cs) wh
   unfolding step
   lookup-says l key e =
       let f = history q .final in
-      lookup-value f (q .full) l key
-      ∙ (rw (eq-eqb (first-refusal (lookup-tests P l key)) done (sym (lookup-number f (q .full) l key) ∙ e)))
+      lookup-value f (q .full-length) l key
+      ∙ (rw (eq-eqb (first-refusal (lookup-tests P l key)) done (sym (lookup-number f (q .full-length) l key) ∙ e)))
 
   pub lookup-yes : (l : Lent) (key : ℕ) → step t W (Call.lookup l key) .answer .number ≡ done
       → (step t W (Call.lookup l key) .answer .values ≡ 1 ∷ []) ↔ In key S
@@ -111,5 +111,5 @@ module _ {P : Params} {ws : List ℕ} {cs : List Call} (q : Sequence P ws cs) wh
       → (step t (step t W (Call.change Insert l scratch counters key) .words) (Call.change Remove own scratch′ counters′ key) .answer .number ≡ done)
       × (step t (step t W (Call.change Insert l scratch counters key) .words) (Call.change Remove own scratch′ counters′ key) .words ≡ W)
   unfolding step
-  undone own scratch scratch′ counters counters′ key e room = held-undone (history q .final) (q .full) scratch scratch′ key e room
+  undone own scratch scratch′ counters counters′ key e room = held-undone (history q .final) (q .full-length) scratch scratch′ key e room
   undone (wrong u n) scratch scratch′ counters counters′ key e room = absurd (omega (arith, change-tabulation u W scratch Insert key n))

@@ -121,7 +121,7 @@ may-stand =
 -- It is a sequence: the list had 21 words, all 7, before it was laid.
 pub sequence : Sequence P fresh calls
 unfolding fresh-refusal fresh-words sizes-in-range slots-in-range
-sequence = record { full = board-length; before = replicate 21 7; accepted = refl; laid = refl; allowed = may-stand }
+sequence = record { full-length = board-length; before = replicate 21 7; accepted = refl; laid = refl; allowed = may-stand }
 
 -- what the register answers
 
@@ -270,7 +270,7 @@ other-calls = insert 129 ∷ insert 65 ∷ remove 129 ∷ insert 1 ∷ insert 12
 pub other-sequence : Sequence P fresh other-calls
 unfolding fresh-refusal fresh-words sizes-in-range slots-in-range
 other-sequence = record {
-  full = board-length;
+  full-length = board-length;
   before = replicate 21 0;
   accepted = refl;
   laid = refl;

@@ -38,22 +38,22 @@ pub record Follows (P : Params) (S ws : List ℕ) (cs : List Call) : Type 0 wher
 step-agrees : {P : Params} {S ws : List ℕ} → Holds P S ws → length (P .tabulation) ≡ tabulation-length
     → (c : Call) → MayStand ws c
     → Agrees P (step (P .tabulation) ws c) (reply P S (request c (step (P .tabulation) ws c .answer)))
-step-agrees h full (Call.change kind l scratch counters key) stand = change-agrees h full kind l scratch counters key
-step-agrees h full (Call.lookup l key) stand = lookup-agrees h full l key
-step-agrees h full (Call.check l scratch) stand = check-agrees h full l scratch
-step-agrees h full Call.view stand = view-agrees h full
-step-agrees h full (Call.other x) stand = other-agrees h x stand
+step-agrees h full-length (Call.change kind l scratch counters key) stand = change-agrees h full-length kind l scratch counters key
+step-agrees h full-length (Call.lookup l key) stand = lookup-agrees h full-length l key
+step-agrees h full-length (Call.check l scratch) stand = check-agrees h full-length l scratch
+step-agrees h full-length Call.view stand = view-agrees h full-length
+step-agrees h full-length (Call.other x) stand = other-agrees h x stand
 
 -- whole sequences
 
 follows : {P : Params} {S ws : List ℕ} → Holds P S ws → length (P .tabulation) ≡ tabulation-length
     → {cs : List Call} → Allowed (P .tabulation) ws cs → Follows P S ws cs
 unfolding run model requests set-after words-after
-follows h full {cs = []} none =
+follows h full-length {cs = []} none =
     record { start = h .is .is; trace = refl; sets = λ m i. elim i [ ]; final = h }
-follows h full {cs = c ∷ cs} (more stand rest) =
-    let a = step-agrees h full c stand in
-    let f = follows (a .holds) full rest in
+follows h full-length {cs = c ∷ cs} (more stand rest) =
+    let a = step-agrees h full-length c stand in
+    let f = follows (a .holds) full-length rest in
     record {
       start = h .is .is;
       trace = λ i. record { answer = a .answer i; words = a .holds .is .is i } ∷ f .trace i;
@@ -68,4 +68,4 @@ history {P} {ws} {cs} q =
       range = fresh-sizes P (q .before) (q .accepted) .0;
       is = record { valid = empty-valid; fit = empty-fits P; is = q .laid ∙ fresh-image P (q .before) (q .accepted) };
     } in
-    follows h (q .full) (q .allowed)
+    follows h (q .full-length) (q .allowed)

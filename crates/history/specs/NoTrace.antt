@@ -74,7 +74,7 @@ allowed-part t (c ∷ cs) ds (more stand a) = more stand (allowed-part t cs ds a
 
 pub part : {P : Params} {ws : List ℕ} (cs ds : List Call) → Sequence P ws (cs ++ ds) → Sequence P ws cs
 part {P} cs ds q = record {
-  full = q .full;
+  full-length = q .full-length;
   before = q .before;
   accepted = q .accepted;
   laid = q .laid;
@@ -159,7 +159,7 @@ module _ {P : Params} {ws : List ℕ} {cs : List Call} (q : Sequence P ws cs)
   -- the register's answer
   insert-number : answer ≡ first-refusal (change-tests P Insert l (length scratch) key S)
   unfolding step
-  insert-number = change-number (history q .final) (q .full) Insert l scratch key
+  insert-number = change-number (history q .final) (q .full-length) Insert l scratch key
 
   come : ComesToFull P S l (length scratch) key → answer ≡ cond (not (fits P (with-key key S))) stash-full done
   come h = insert-number ∙ (rw (h .right-length, h .long-enough, h .not-blank, h .absent))
@@ -192,7 +192,7 @@ pub full-insert : {P : Params} {ws : List ℕ} {cs : List Call} → Sequence P w
 unfolding step
 full-insert {P} q own scratch counters key h =
     let room : scratch-length (P .slots) (P .places) ≤ length scratch = ltb-false (length scratch) _ (h .long-enough) in
-    held-full (history q .final) (q .full) scratch room key (h .not-blank) (h .absent)
+    held-full (history q .final) (q .full-length) scratch room key (h .not-blank) (h .absent)
 full-insert {P} q (wrong t n) scratch counters key h = absurd (true≢false (sym (wrong-lent P t n) ∙ h .right-length))
 
 -- THE theorem of demand 3: no past leaves a trace.

@@ -22,7 +22,7 @@ use Rattle.history.specs.Calls.{Lent, own, wrong, lent-of, Call, step}
 use Rattle.history.specs.Model.{Request, lookup-tests, check-tests, reply}
 use Rattle.history.specs.Agrees.{Agrees, own-lent, wrong-lent}
 
-module _ {P : Params} {S ws : List ℕ} (h : Holds P S ws) (full : length (P .tabulation) ≡ tabulation-length) where
+module _ {P : Params} {S ws : List ℕ} (h : Holds P S ws) (full-length : length (P .tabulation) ≡ tabulation-length) where
   abbrev t : List ℕ
   t = P .tabulation
 
@@ -31,7 +31,7 @@ module _ {P : Params} {S ws : List ℕ} (h : Holds P S ws) (full : length (P .ta
   pub lookup-number : (l : Lent) (key : ℕ)
       → lookup-refusal (lent-of t l) ws key ≡ first-refusal (lookup-tests P l key)
   unfolding lookup-refusal
-  lookup-number own key = rw (eq-eqb (length t) tabulation-length full, held-shaped h)
+  lookup-number own key = rw (eq-eqb (length t) tabulation-length full-length, held-shaped h)
   lookup-number (wrong u n) key = rw (ne-eqb (length u) tabulation-length n)
 
   pub lookup-value : (l : Lent) (key : ℕ)
@@ -39,10 +39,10 @@ module _ {P : Params} {S ws : List ℕ} (h : Holds P S ws) (full : length (P .ta
       ≡ cond (eqb (first-refusal (lookup-tests P l key)) done) (cond (member key S) 1 0 ∷ []) []
   unfolding lookup-values
   lookup-value own key =
-      let e = image-lookup-values P S (h .is .fit) full (h .range) key (h .is .valid) in
+      let e = image-lookup-values P S (h .is .fit) full-length (h .range) key (h .is .valid) in
       ap (λ (ws : List ℕ). lookup-values t ws key) (h .is .is) ∙ e ∙ (elim (test (blank key)) [
-        | inl b ↦ rw (eq-eqb (length t) tabulation-length full, b)
-        | inr b ↦ rw (eq-eqb (length t) tabulation-length full, b)
+        | inl b ↦ rw (eq-eqb (length t) tabulation-length full-length, b)
+        | inr b ↦ rw (eq-eqb (length t) tabulation-length full-length, b)
       ])
   lookup-value (wrong u n) key = rw (lookup-number (wrong u n) key, ne-eqb (length u) tabulation-length n)
 
@@ -55,7 +55,7 @@ module _ {P : Params} {S ws : List ℕ} (h : Holds P S ws) (full : length (P .ta
 
   check-number : (l : Lent) (scratch : List ℕ)
       → check-outcome (lent-of t l) ws scratch .answer ≡ first-refusal (check-tests P l (length scratch))
-  check-number own scratch = held-check h full scratch ∙ (rw (own-lent P full))
+  check-number own scratch = held-check h full-length scratch ∙ (rw (own-lent P full-length))
   check-number (wrong u n) scratch = check-tabulation u ws scratch n ∙ (rw (wrong-lent P u n))
 
   pub check-agrees : (l : Lent) (scratch : List ℕ)

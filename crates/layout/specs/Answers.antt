@@ -8,7 +8,7 @@ use lib.Dec.{eqb, ltb}
 use lib.ListN.{length, getD, take, drop, replicate}
 use Rattle.basics.specs.Sets.{member}
 use Rattle.refusals.specs.Refusal.{done, wrong-tabulation, wrong-shape, not-canonical, blank-key, first-refusal, first-refusal-in}
-use Rattle.tabulation.specs.Hash.{Family, tabulation-length, blank}
+use Rattle.tabulation.specs.Hash.{tabulation-length, blank, tables}
 use Rattle.tabulation.specs.Slots.{slot-0, slot-1}
 use Rattle.layout.specs.Layout.{shaped, sizes-in-range, slots-of, places-of, stash-count, stash-at, stash-part, key-at, words-length}
 use Rattle.layout.specs.declared.Found.{Found}
@@ -40,7 +40,7 @@ lookup-refusal tabulation ws key = first-refusal (lookup-refusals tabulation ws 
 -- "the number stands as a card number in its rack 0 place, its rack 1 place or one of the s drawer words"
 unfoldable pub stands : List ℕ → List ℕ → ℕ → Bool
 stands tabulation ws key =
-    let F : Family = record { tabulation = tabulation; slots = slots-of ws } in
+    let F = tables tabulation (slots-of ws) in
     eqb (getD ws (key-at (slot-0 F key)) 0) key || eqb (getD ws (key-at (slot-1 F key)) 0) key || member key (stash-part ws)
 
 unfoldable pub lookup-values : List ℕ → List ℕ → ℕ → List ℕ
@@ -89,10 +89,10 @@ fresh-answer-in len r s = first-refusal-in (fresh-refusals len r s)
 -- Those that the code's proofs use: `stands`, test by test.
 module _ (tabulation ws : List ℕ) (key : ℕ) where
   abbrev pub in-table-0 : Bool
-  in-table-0 = eqb (getD ws (key-at (slot-0 (record { tabulation = tabulation; slots = slots-of ws }) key)) 0) key
+  in-table-0 = eqb (getD ws (key-at (slot-0 (tables tabulation (slots-of ws)) key)) 0) key
 
   abbrev pub in-table-1 : Bool
-  in-table-1 = eqb (getD ws (key-at (slot-1 (record { tabulation = tabulation; slots = slots-of ws }) key)) 0) key
+  in-table-1 = eqb (getD ws (key-at (slot-1 (tables tabulation (slots-of ws)) key)) 0) key
 
   pub stands-first : in-table-0 ≡ true → stands tabulation ws key ≡ true
   unfolding stands

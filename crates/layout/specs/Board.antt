@@ -59,9 +59,9 @@ pub record Full (r s : ℕ) (S : List ℕ) : Type 0 where
   pub valid : ValidSet S
   pub unfit : fits (board r s) S ≡ false
 
-abbrev pub Holds : Row → Type 0
-Holds (shows r s S words) = Shown r s S words
-Holds (full r s S) = Full r s S
+abbrev pub RowHolds : Row → Type 0
+RowHolds (shows r s S words) = Shown r s S words
+RowHolds (full r s S) = Full r s S
 
 -- the test of a row
 
@@ -165,9 +165,9 @@ unfolding blank
 ready-is r s S e =
     let p = and-true (rises 0 S) (hashed (family (board r s)) S) e in
     let v = rises-valid 0 S (p .0) in
-    record { valid = record { asc = v .0; solid = λ c i. ne-eqb c 0 (omega (arith, v .1 c i)) }; known = hashed-known r s S (p .1) }
+    record { valid = record { asc = v .0; none-blank = λ c i. ne-eqb c 0 (omega (arith, v .1 c i)) }; known = hashed-known r s S (p .1) }
 
-holds : (R : Row) → follows R ≡ true → Holds R
+holds : (R : Row) → follows R ≡ true → RowHolds R
 holds (shows r s S words) e =
     let F = fits-by (plain-0 r) (plain-1 r) s S in
     let W = image-by (plain-0 r) (plain-1 r) r s S in
@@ -185,10 +185,10 @@ holds (full r s S) e =
     let d = ready-is r s S (p .0) in
     record { valid = d .valid; unfit = fits-known (board r s) (d .known) ∙ not-true F (p .1) }
 
-all-hold : (Rs : List Row) → all Rs ≡ true → (R : Row) → In R Rs → Holds R
+all-hold : (Rs : List Row) → all Rs ≡ true → (R : Row) → In R Rs → RowHolds R
 all-hold (R ∷ Rs) e Q (here q) = rw q (holds R (and-true (follows R) (all Rs) e .0))
 all-hold (R ∷ Rs) e Q (there i) = all-hold Rs (and-true (follows R) (all Rs) e .1) Q i
 
 -- Every row holds: K1 to K12 and the console listing follow from the image rule.
-pub board-rows : (R : Row) → In R rows → Holds R
+pub board-rows : (R : Row) → In R rows → RowHolds R
 board-rows = all-hold rows (T-true (all rows) rows-follow)

@@ -71,7 +71,7 @@ module _ (tabulation ws : List ℕ) where
     image-of-canonical {P} {S} t h =
         let p : P ≡ params-of tabulation ws = sym (image-of-params h) ∙ ap (λ (t : List ℕ). params-of t ws) t in
         let r : P .slots ≡ slots-of ws = ap (λ (Q : Params). Q .slots) p in
-        let some : 0 < P .slots = omega (arith, shape ws formed .sizes .some) in
+        let some : 0 < P .slots = omega (arith, shape ws formed .sizes .has-slots) in
         let s : S ≡ keys-in ws = sym (image-of-keys h some) in
         (p, s, true-canonical (rw (p, s) at h))
 

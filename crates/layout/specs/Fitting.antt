@@ -13,17 +13,17 @@ use Rattle.cuckoo.specs.Placement.{Placement, fits-placed, placed-fits, fits-bo
 use Rattle.tabulation.specs.Slots.{slot-0, slot-1, slot-0-lt, slot-1-lt}
 use Rattle.layout.specs.Layout.{Params, family, ValidSet, fits}
 use Rattle.layout.specs.Image.{fits-le, le-fits}
-use Rattle.layout.specs.Standing.{solid-zero}
+use Rattle.layout.specs.Standing.{zero-outside}
 
 pub without-valid : (c : ℕ) {S : List ℕ} → ValidSet S → ValidSet (without c S)
-without-valid c {S} valid = record { asc = asc-out c (valid .asc); solid = λ d i. valid .solid d (out-in c S i) }
+without-valid c {S} valid = record { asc = asc-out c (valid .asc); none-blank = λ d i. valid .none-blank d (out-in c S i) }
 
 module _ (P : Params) {S : List ℕ} (valid : ValidSet S) where
   -- A set fits exactly if its keys can be put, each into one of its two slots or into one of s places, no two together.
   pub fits-placement : (fits P S ≡ true) ↔ Placement (slot-0 (family P)) (slot-1 (family P)) (P .places) S
   fits-placement = (
     λ e. fits-placed (slot-0 (family P)) (slot-1 (family P)) (valid .asc) (fits-le P S e),
-    λ h. le-fits P S (placed-fits (slot-0 (family P)) (slot-1 (family P)) (valid .asc) (solid-zero valid) h),
+    λ h. le-fits P S (placed-fits (slot-0 (family P)) (slot-1 (family P)) (valid .asc) (zero-outside valid) h),
   )
 
   -- "Full drawer": no placement of the set exists.
@@ -36,7 +36,7 @@ module _ (P : Params) {S : List ℕ} (valid : ValidSet S) where
   -- A part of a set that fits, fits,
   pub part-fits : {R : List ℕ} → Asc R → Sub R S → fits P S ≡ true → fits P R ≡ true
   part-fits {R} asc sub e =
-      le-fits P R (omega (arith, fits-le P S e, subset-fits (slot-0 (family P)) (slot-1 (family P)) asc (valid .asc) (solid-zero valid) sub))
+      le-fits P R (omega (arith, fits-le P S e, subset-fits (slot-0 (family P)) (slot-1 (family P)) asc (valid .asc) (zero-outside valid) sub))
 
   -- also the set without a key.
   pub without-fits : (c : ℕ) → fits P S ≡ true → fits P (without c S) ≡ true

@@ -9,7 +9,7 @@ use lib.ListN.{length, getD, take, drop, replicate}
 use Rattle.basics.specs.Sets.{keep, Asc}
 use Rattle.cuckoo.specs.Graph.{stash, slot-key, slot-next}
 use Rattle.ordered.specs.Keys.{sorted, distinct}
-use Rattle.tabulation.specs.Hash.{Family, blank, slots-in-range}
+use Rattle.tabulation.specs.Hash.{Family, blank, slots-in-range, tables}
 use Rattle.tabulation.specs.Slots.{slot-0, slot-1}
 use Rattle.layout.specs.declared.Header.{Header}
 
@@ -20,12 +20,12 @@ pub record Params : Type 0 where
   pub places : ℕ
 
 abbrev pub family : Params → Family
-family P = record { tabulation = P .tabulation; slots = P .slots }
+family P = tables (P .tabulation) (P .slots)
 
 -- A set of keys: strictly ascending, and no key of it is blank.
 pub record ValidSet (S : List ℕ) : Type 0 where
   pub asc : Asc S
-  pub solid : (c : ℕ) → In c S → blank c ≡ false
+  pub none-blank : (c : ℕ) → In c S → blank c ≡ false
 
 -- the heading
 

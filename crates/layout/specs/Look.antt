@@ -83,17 +83,17 @@ module _ (P : Params) (S : List ℕ) (e : fits P S ≡ true) where
           (λ q. true-stands t ws key (image-in-stands (member-in key S q)))
 
   -- What a call of lookup answers on the image of a set: 5 for a blank key, and else 0 with 1 or 0.
-  module _ (full : length (P .tabulation) ≡ tabulation-length) (range : sizes-in-range (P .slots) (P .places) ≡ true) (key : ℕ) where
+  module _ (full-length : length (P .tabulation) ≡ tabulation-length) (range : sizes-in-range (P .slots) (P .places) ≡ true) (key : ℕ) where
     image-lookup-refusal : lookup-refusal (P .tabulation) (image P S) key ≡ cond (blank key) blank-key done
     unfolding lookup-refusal
-    image-lookup-refusal = rw (eq-eqb (length (P .tabulation)) tabulation-length full, image-shaped P S range e)
+    image-lookup-refusal = rw (eq-eqb (length (P .tabulation)) tabulation-length full-length, image-shaped P S range e)
 
     pub image-lookup-values : ValidSet S
         → lookup-values (P .tabulation) (image P S) key ≡ cond (blank key) [] (cond (member key S) 1 0 ∷ [])
     unfolding lookup-values
     image-lookup-values valid = elim (test (blank key)) [
       | inl b ↦ rw (image-lookup-refusal, b)
-      | inr b ↦ rw (image-lookup-refusal, b, image-stands valid (sized (P .slots) (P .places) range .some) key b)
+      | inr b ↦ rw (image-lookup-refusal, b, image-stands valid (sized (P .slots) (P .places) range .has-slots) key b)
     ]
 
   -- The stash view is never refused on the image of a set, and is the set's stash.

@@ -15,19 +15,19 @@ use Rattle.layout.specs.Answers.{view-refusal}
 
 -- r and s are in their ranges
 pub record Sized (r s : ℕ) : Type 0 where
-  pub some : 0 < r
-  pub most : r ≤ max-slots
-  pub few : s ≤ max-places
+  pub has-slots : 0 < r
+  pub slots-bound : r ≤ max-slots
+  pub places-bound : s ≤ max-places
 
 pub sized : (r s : ℕ) → sizes-in-range r s ≡ true → Sized r s
 unfolding sizes-in-range
 sized r s e =
     let p = and-true (slots-in-range r) _ e in
-    record { some = in-range-pos r (p .0); most = in-range-max r (p .0); few = leb-true s max-places (p .1) }
+    record { has-slots = in-range-pos r (p .0); slots-bound = in-range-max r (p .0); places-bound = leb-true s max-places (p .1) }
 
 pub sized-true : (r s : ℕ) → Sized r s → sizes-in-range r s ≡ true
 unfolding sizes-in-range
-sized-true r s z = rw (range-in r (z .some) (z .most)) (le-leb s max-places (z .few))
+sized-true r s z = rw (range-in r (z .has-slots) (z .slots-bound)) (le-leb s max-places (z .places-bound))
 
 -- the words have the length that their heading tells, and its sizes are in their ranges
 pub record Shaped (ws : List ℕ) : Type 0 where

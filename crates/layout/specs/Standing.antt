@@ -37,8 +37,8 @@ not-blank c e = eqb-false c 0 (sym (blank-zero c) ∙ e)
 blank-false : (c : ℕ) → (c ≡ 0 → ⊥) → blank c ≡ false
 blank-false c n = blank-zero c ∙ ne-eqb c 0 n
 
-pub solid-zero : {S : List ℕ} → ValidSet S → In 0 S → ⊥
-solid-zero h i = not-blank 0 (h .solid 0 i) refl
+pub zero-outside : {S : List ℕ} → ValidSet S → In 0 S → ⊥
+zero-outside h i = not-blank 0 (h .none-blank 0 i) refl
 
 -- the key words of any words
 
@@ -118,7 +118,7 @@ module _ (ws : List ℕ) where
 
   -- whatever the words, it is a set of keys
   pub keys-in-valid : ValidSet (keys-in ws)
-  keys-in-valid = record { asc = keys-in-asc; solid = λ c i. blank-false c (keys-in-key i .1) }
+  keys-in-valid = record { asc = keys-in-asc; none-blank = λ c i. blank-false c (keys-in-key i .1) }
 
   -- in words with the shape of a dictionary, the keys that are the key word of a slot or a word of the stash, but for 0
   pub keys-in-words : Shaped ws → (c : ℕ) → In c (keys-in ws) ↔ (KeyWord ws c × (c ≡ 0 → ⊥))
@@ -201,4 +201,4 @@ module _ (P : Params) (S : List ℕ) where
           let ws = image P S in
           asc-ext (keys-in ws) S (keys-in-asc ws) (valid .asc)
           (λ c i. let k = keys-in-key ws i in image-key-in (in-key-words ws (k .0)) (k .1))
-          (λ c i. key-keys-in ws (key-word-in ws (image-size P S e) (image-in-key some i)) (λ q. solid-zero valid (rw q at i)))
+          (λ c i. key-keys-in ws (key-word-in ws (image-size P S e) (image-in-key some i)) (λ q. zero-outside valid (rw q at i)))

@@ -10,21 +10,21 @@ use borrow.Author.Tests.{ne-eqb}
 use lib.Dec.{eqb}
 use lib.ListN.{length}
 use Rattle.lines.specs.Parted.{newline, lines-of, place-of, read-on, read-lines}
-use Rattle.lines.specs.Held.{Holds}
+use Rattle.lines.specs.Buffer.{Buffers}
 use Rattle.lines.specs.declared.Line.{Line}
 
--- what `feed` and `is_empty` promise of a line; `empty_line` promises `Holds line []`
+-- what `feed` and `is_empty` promise of a line; `empty_line` promises `Buffers line []`
 abbrev pub Fed : Line → ℕ → Line → Type 0
-Fed line byte r = (l : List ℕ) → Holds line l → Holds r (l ++ (byte ∷ []))
+Fed line byte r = (l : List ℕ) → Buffers line l → Buffers r (l ++ (byte ∷ []))
 
 abbrev pub Told : Line → Bool → Type 0
-Told line r = (l : List ℕ) → Holds line l → r ≡ eqb (length l) 0
+Told line r = (l : List ℕ) → Buffers line l → r ≡ eqb (length l) 0
 
 -- `Run line input handed`: with this line so far and this input to come, these lines are handed on. A newline hands the line on and an empty one
 -- begins; any other byte is fed; the end hands the line on unless it is empty.
 pub data Run : Line → List ℕ → List Line → Type 0 where
   ended : {line next : Line} {rest : List ℕ} {handed : List Line}
-      → Holds next [] → Run next rest handed
+      → Buffers next [] → Run next rest handed
       → Run line (newline ∷ rest) (line ∷ handed)
   fed : {line next : Line} {byte : ℕ} {rest : List ℕ} {handed : List Line}
       → (byte ≡ newline → ⊥) → Fed line byte next → Run next rest handed
@@ -36,10 +36,10 @@ pub data Run : Line → List ℕ → List Line → Type 0 where
 pub data Hold : List Line → List (List ℕ) → Type 0 where
   none : Hold [] []
   some : {line : Line} {l : List ℕ} {handed : List Line} {ls : List (List ℕ)}
-      → Holds line l → Hold handed ls
+      → Buffers line l → Hold handed ls
       → Hold (line ∷ handed) (l ∷ ls)
 
-run-read : {line : Line} {input : List ℕ} {handed : List Line} → Run line input handed → (l : List ℕ) → Holds line l
+run-read : {line : Line} {input : List ℕ} {handed : List Line} → Run line input handed → (l : List ℕ) → Buffers line l
     → Hold handed (read-on l input)
 unfolding read-on
 run-read (ended e r) l h = some h (run-read r [] e)
@@ -50,7 +50,7 @@ run-read (last t) [] h = absurd (false≢true (t [] h))
 run-read (last t) (b ∷ l) h = some h none
 
 -- from an empty line on, just the lines of the input are handed on: none is lost, none is made up, and they stay in order
-pub run-lines : {line : Line} {input : List ℕ} {handed : List Line} → Holds line [] → Run line input handed
+pub run-lines : {line : Line} {input : List ℕ} {handed : List Line} → Buffers line [] → Run line input handed
     → Hold handed (lines-of input)
 unfolding place-of
 run-lines {input = input} h r = rw (← read-lines input [] refl) (run-read r [] h)

@@ -1,6 +1,6 @@
 // The lines that the console reads: their grammar and numbers, and the line so far. Everything is bytes in lent slices
 // or in a line by value; nothing is read or allocated here. Every promise is equality with a definition of specs/, or
-// `Holds`.
+// `Buffers`.
 ghost use Prim.Native.Nat.{ℕ, _+_, min};
 ghost use mathlib.Core.Path.{_≡_};
 ghost use mathlib.Core.List.{List, [], _∷_, _++_};
@@ -9,7 +9,7 @@ ghost use lib.ListN.{length};
 ghost use Rattle.lines.specs.Number.{no-leading-zero, number-of};
 ghost use Rattle.lines.specs.Parted.{place-of};
 ghost use Rattle.lines.specs.Command.{sizes, sizes-of, by-letter, command, command-of};
-ghost use Rattle.lines.specs.Held.{Holds};
+ghost use Rattle.lines.specs.Buffer.{Buffers};
 
 // What ends a line, and what parts two fields.
 pub const NEWLINE: u8 = b'\n';
@@ -177,7 +177,7 @@ pub fn command_of(line: &[u8]) -> Command
 
 // A line of which nothing was read yet.
 pub fn empty_line() -> Line
-    ensures { λ r. ⌜ Holds r [] ⌝ }
+    ensures { λ r. ⌜ Buffers r [] ⌝ }
 {
     Line {
         bytes: [0; LONGEST],
@@ -187,7 +187,7 @@ pub fn empty_line() -> Line
 
 // One byte more of the line: any byte but a newline, which ends it.
 pub fn feed(line: Line, byte: u8) -> Line
-    ensures { λ r. ⌜ ((l : List ℕ) → Holds line l → Holds r (l ++ (byte ∷ []))) ⌝ }
+    ensures { λ r. ⌜ ((l : List ℕ) → Buffers line l → Buffers r (l ++ (byte ∷ []))) ⌝ }
 {
     let mut next = line;
     let count = line.count;
@@ -202,14 +202,14 @@ pub fn feed(line: Line, byte: u8) -> Line
 
 // Whether nothing of the line was read yet: at the end of the input, that there is no line.
 pub fn is_empty(line: Line) -> bool
-    ensures { λ r. ⌜ ((l : List ℕ) → Holds line l → r ≡ eqb (length l) 0) ⌝ }
+    ensures { λ r. ⌜ ((l : List ℕ) → Buffers line l → r ≡ eqb (length l) 0) ⌝ }
 {
     line.count == 0
 }
 
 // What the line says, however long it was.
 pub fn sizes_in(line: Line) -> Sizes
-    ensures { λ r. ⌜ ((l : List ℕ) → Holds line l → r ≡ sizes-of l) ⌝ }
+    ensures { λ r. ⌜ ((l : List ℕ) → Buffers line l → r ≡ sizes-of l) ⌝ }
 {
     let count = line.count;
     if LONGEST < count {
@@ -220,7 +220,7 @@ pub fn sizes_in(line: Line) -> Sizes
 }
 
 pub fn command_in(line: Line) -> Command
-    ensures { λ r. ⌜ ((l : List ℕ) → Holds line l → r ≡ command-of l) ⌝ }
+    ensures { λ r. ⌜ ((l : List ℕ) → Buffers line l → r ≡ command-of l) ⌝ }
 {
     let count = line.count;
     if LONGEST < count {

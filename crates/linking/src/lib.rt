@@ -4,17 +4,18 @@ ghost use mathlib.Core.Path.{_≡_};
 ghost use mathlib.Core.Bool.{cond};
 ghost use Prim.Native.Nat.{_+_, _*_, _≤_, _<_};
 ghost use lib.Dec.{ltb};
-ghost use Rattle.forest.specs.Held.{rerooted};
+ghost use Rattle.tabulation.specs.Hash.{tables};
+ghost use Rattle.forest.specs.HeldForest.{rerooted};
 ghost use Rattle.partition.specs.Words.{Representative, Mergeable, rep-of, size-of, united};
 ghost use Rattle.build.specs.Scratch.{parts, glue, with-held, with-sets};
-ghost use Rattle.build.specs.Access.{tables, Enough, Room};
+ghost use Rattle.build.specs.Access.{Enough, Room};
 ghost use Rattle.build.specs.Link.{unlinked};
-ghost use Rattle.build.specs.LinkCode.{Found, linking-in, relinked, first-keys, key-words, keys-words, linked-words};
+ghost use Rattle.build.specs.LinkCode.{Found, linking-in, relinked, first-keys, link-words, keys-words, linked-words};
 ghost use Rattle.build.specs.LinkCode.{label-words, Linkable, Solid};
 use parts::held_start;
 use parts::next_start;
 use parts::sets_start;
-use parts::stash_start;
+use parts::stashed_start;
 use words::wide;
 
 // The representative of a slot's set.
@@ -23,7 +24,7 @@ fn set_of(scratch: &[u32], r: u32, s: u32, slot: u32) -> u32
     ensures { λ w. ⌜ w ≡ rep-of (parts r s (now (scratch .entry)) .sets) slot ⌝ }
 {
     let start = sets_start(r, s);
-    let end = stash_start(r, s);
+    let end = stashed_start(r, s);
     partition::representative(&scratch[start..end], slot)
 }
 
@@ -33,7 +34,7 @@ fn set_size(scratch: &[u32], r: u32, s: u32, rep: u32) -> u32
     ensures { λ n. ⌜ n ≡ size-of (parts r s (now (scratch .entry)) .sets) rep ⌝ }
 {
     let start = sets_start(r, s);
-    let end = stash_start(r, s);
+    let end = stashed_start(r, s);
     partition::size(&scratch[start..end], rep)
 }
 
@@ -44,7 +45,7 @@ fn unite_sets(scratch: &mut [u32], r: u32, s: u32, first: u32, second: u32)
         (united (parts r s (now (scratch .entry)) .sets) first second)) ⌝ }
 {
     let start = sets_start(r, s);
-    let end = stash_start(r, s);
+    let end = stashed_start(r, s);
     partition::unite(&mut scratch[start..end], first, second);
 }
 
@@ -102,7 +103,7 @@ fn smaller_end(scratch: &[u32], r: u32, s: u32, ends: Ends) -> u32
 fn link_key(scratch: &mut [u32], tabulation: &[u16], r: u32, s: u32, key: u32)
     requires { ⌜ Room (now tabulation) r s (now scratch)
         × Linkable (tables (now tabulation) r) (linking-in r s (now scratch)) ⌝ }
-    ensures { λ _. ⌜ now (scratch .exit) ≡ key-words (tables (now (tabulation .entry)) r) s key (now (scratch .entry))
+    ensures { λ _. ⌜ now (scratch .exit) ≡ link-words (tables (now (tabulation .entry)) r) s key (now (scratch .entry))
         ⌝ }
 {
     let ends = ends_of(&*scratch, tabulation, r, s, key);
@@ -123,7 +124,7 @@ fn unlink(scratch: &mut [u32], r: u32, s: u32)
     let end = next_start(r, s);
     words::fill(&mut scratch[start..end], 0);
     let first = sets_start(r, s);
-    let last = stash_start(r, s);
+    let last = stashed_start(r, s);
     partition::singletons(&mut scratch[first..last]);
 }
 

@@ -2,11 +2,12 @@
 // that label is.
 ghost use mathlib.Core.Path.{_≡_};
 ghost use Prim.Native.Nat.{_*_, _<_};
+ghost use Rattle.tabulation.specs.Hash.{tables};
 ghost use Rattle.tabulation.specs.Slots.{slot-0};
-ghost use Rattle.forest.specs.Held.{holding};
+ghost use Rattle.forest.specs.HeldForest.{holding};
 ghost use Rattle.build.specs.Labels.{label-of};
 ghost use Rattle.build.specs.Scratch.{parts};
-ghost use Rattle.build.specs.Access.{tables, Room, Fit, NoteAt};
+ghost use Rattle.build.specs.Access.{Room, Fit, NoteAt};
 use parts::held_start;
 use parts::next_start;
 use parts::sets_start;

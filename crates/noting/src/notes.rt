@@ -2,16 +2,17 @@
 ghost use mathlib.Core.Path.{_≡_};
 ghost use Prim.Native.Nat.{_+_, _*_, _≤_};
 ghost use lib.ListN.{replicate};
+ghost use Rattle.tabulation.specs.Hash.{tables};
 ghost use Rattle.build.specs.Scratch.{parts, glue};
 ghost use Rattle.build.specs.Notes.{nothing-noted};
-ghost use Rattle.build.specs.Access.{tables, Enough, Room, Fit};
+ghost use Rattle.build.specs.Access.{Enough, Room, Fit};
 ghost use Rattle.build.specs.Passes.{with-noting, answer, noting-of, noted-parts, noted-held-parts};
 ghost use Rattle.build.specs.NotesCode.{noting-after, key-noted, held-key-noted};
 use crate::key::is_held;
 use crate::key::note_at;
 use build::StashCount;
 use parts::sets_start;
-use parts::stash_start;
+use parts::stashed_start;
 use words::fill;
 use words::wide;
 
@@ -22,7 +23,7 @@ fn clear_notes(scratch: &mut [u32], r: u32, s: u32)
         ≡ with-noting (parts r s (now (scratch .entry))) (nothing-noted (2 * r) (replicate s 0)) ⌝ }
 {
     let start = sets_start(r, s);
-    let middle = stash_start(r, s);
+    let middle = stashed_start(r, s);
     let end = middle + wide(s);
     fill(&mut scratch[start..middle], 0);
     fill(&mut scratch[middle..end], 0);
@@ -55,7 +56,7 @@ fn note_key(
     if s <= count {
         return StashCount::Overflow;
     }
-    let free = stash_start(r, s) + wide(count);
+    let free = stashed_start(r, s) + wide(count);
     scratch[free] = key;
     StashCount::Keys(count + 1)
 }

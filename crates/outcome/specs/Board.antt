@@ -48,7 +48,7 @@ row-in [] n l = absurd (omega arith)
 row-in (R ∷ Rs) zero l = here refl
 row-in (R ∷ Rs) (suc n) l = there (row-in Rs n (omega arith))
 
-row-holds : (n : ℕ) → n < length rows → Board.Holds (row rows n)
+row-holds : (n : ℕ) → n < length rows → Board.RowHolds (row rows n)
 row-holds n l = board-rows (row rows n) (row-in rows n l)
 
 -- r = 4, s = 1, and scratch that is long enough
@@ -92,12 +92,12 @@ pub k12 : (tabulation scratch : List ℕ) → length tabulation ≡ tabulation-l
     → (c d key : ℕ) → 0 < c → c < d → (key ≡ 0 → ⊥) → (key ≡ c → ⊥) → (key ≡ d → ⊥)
     → change-outcome Insert tabulation (1 ∷ 0 ∷ 2 ∷ 0 ∷ c ∷ d ∷ d ∷ c ∷ []) scratch key .answer ≡ 8
 unfolding blank sizes-in-range slots-in-range
-k12 tabulation scratch full room c d key z l n nc nd =
+k12 tabulation scratch full-length room c d key z l n nc nd =
     let P = smallest tabulation in
     let S : List ℕ = c ∷ d ∷ [] in
     let valid : ValidSet S = record {
       asc = some {c = c} {R = d ∷ []} (λ x i. elim i [ here q ↦ omega arith | there j ↦ elim j [ ] ]) (some {c = d} {R = []} (λ x i. elim i [ ]) none);
-      solid = λ x i. elim i [ here q ↦ ne-eqb x 0 (omega arith) | there j ↦ elim j [ here q ↦ ne-eqb x 0 (omega arith) | there k ↦ elim k [ ] ] ];
+      none-blank = λ x i. elim i [ here q ↦ ne-eqb x 0 (omega arith) | there j ↦ elim j [ here q ↦ ne-eqb x 0 (omega arith) | there k ↦ elim k [ ] ] ];
     } in
     let h : Holds P S (1 ∷ 0 ∷ 2 ∷ 0 ∷ c ∷ d ∷ d ∷ c ∷ []) = record {
       range = refl;
@@ -105,4 +105,4 @@ k12 tabulation scratch full room c d key z l n nc nd =
     } in
     let b = ne-eqb key 0 n in
     let m : member key S ≡ false = rw (ne-eqb key c nc, ne-eqb key d nd) in
-    held-new h full scratch room key b m ∙ (rw (one-too-many P key (omega arith) valid b m (omega arith)))
+    held-new h full-length scratch room key b m ∙ (rw (one-too-many P key (omega arith) valid b m (omega arith)))

@@ -38,7 +38,7 @@ pub record Holds (P : Params) (S ws : List ℕ) : Type 0 where
 
 module _ {P : Params} {S ws : List ℕ} (h : Holds P S ws) where
   pub held-some : 0 < P .slots
-  held-some = sized (P .slots) (P .places) (h .range) .some
+  held-some = sized (P .slots) (P .places) (h .range) .has-slots
 
   -- such words say r and s, and their set
   held-params : params-of (P .tabulation) ws ≡ P
@@ -72,7 +72,7 @@ removed-in key S d = (λ i. (out-in key S i, out-ne key S i), λ p. in-out key S
 with-valid : (key : ℕ) {S : List ℕ} → blank key ≡ false → ValidSet S → ValidSet (with-key key S)
 with-valid key {S} b valid = record {
   asc = asc-with key (valid .asc);
-  solid = λ d i. elim (with-cases key S i) [ inl e ↦ rw e b | inr k ↦ valid .solid d k ];
+  none-blank = λ d i. elim (with-cases key S i) [ inl e ↦ rw e b | inr k ↦ valid .none-blank d k ];
 }
 
 pub changed-valid : (kind : Change) (key : ℕ) {S : List ℕ} → blank key ≡ false → ValidSet S → ValidSet (changed kind key S)
@@ -121,7 +121,7 @@ accepts-fits : (kind : Change) (P : Params) (key : ℕ) {S : List ℕ} → Valid
 accepts-fits Insert P key {S} valid e a = let p = insert-accepts P key S a in (p .0, p .2)
 accepts-fits Remove P key {S} valid e a = let p = remove-accepts P key S a in (p .0, without-fits P valid key e)
 
-module _ {P : Params} {S ws : List ℕ} (h : Holds P S ws) (full : length (P .tabulation) ≡ tabulation-length) where
+module _ {P : Params} {S ws : List ℕ} (h : Holds P S ws) (full-length : length (P .tabulation) ≡ tabulation-length) where
   -- what a change of a dictionary that holds S answers: 2 and 4 never, and the rest with S as "the set"
   pub held-refusal : (kind : Change) (scratch : List ℕ) (key : ℕ)
       → change-refusal kind (P .tabulation) ws scratch key
@@ -130,7 +130,7 @@ module _ {P : Params} {S ws : List ℕ} (h : Holds P S ws) (full : length (P .ta
   unfolding change-refusal
   held-refusal kind scratch key =
       rw (
-        eq-eqb (length (P .tabulation)) tabulation-length full,
+        eq-eqb (length (P .tabulation)) tabulation-length full-length,
         held-shaped h,
         held-canonical h,
         held-scratch h,
@@ -143,7 +143,7 @@ module _ {P : Params} {S ws : List ℕ} (h : Holds P S ws) (full : length (P .ta
       ≡ first-refusal ((short-scratch, ltb (length scratch) (scratch-length (P .slots) (P .places))) ∷ [])
   unfolding check-outcome
   held-check scratch =
-      rw (eq-eqb (length (P .tabulation)) tabulation-length full, held-shaped h, held-canonical h, held-scratch h)
+      rw (eq-eqb (length (P .tabulation)) tabulation-length full-length, held-shaped h, held-canonical h, held-scratch h)
 
   module _ (scratch : List ℕ) (room : scratch-length (P .slots) (P .places) ≤ length scratch) (key : ℕ) where
     held-set : (kind : Change)
@@ -228,9 +228,9 @@ held-changed {P} {S} {ws} h kind scratch key e = rw (held-params h, held-keys h)
 -- On words that hold S a lookup with the same tabulation says yes exactly for the keys of S, whatever key is asked for: a blank one is refused, and is in no set.
 pub held-lookup : {P : Params} {S ws : List ℕ} → Holds P S ws → length (P .tabulation) ≡ tabulation-length → (c : ℕ)
     → (lookup-values (P .tabulation) ws c ≡ 1 ∷ []) ↔ In c S
-held-lookup {P} {S} {ws} h full c =
+held-lookup {P} {S} {ws} h full-length c =
     let e : lookup-values (P .tabulation) ws c ≡ cond (blank c) [] (cond (member c S) 1 0 ∷ []) =
-    ap (λ (us : List ℕ). lookup-values (P .tabulation) us c) (h .is .is) ∙ image-lookup-values P S (h .is .fit) full (h .range) c (h .is .valid) in (
+    ap (λ (us : List ℕ). lookup-values (P .tabulation) us c) (h .is .is) ∙ image-lookup-values P S (h .is .fit) full-length (h .range) c (h .is .valid) in (
       λ v. elim (test (blank c)) [
         | inl b ↦ absurd (let z : _≡_ {A = ℕ} 0 1 = cc (rw b at e) in omega arith)
         | inr b ↦ elim (test (member c S)) [
@@ -238,14 +238,14 @@ held-lookup {P} {S} {ws} h full c =
           | inr m ↦ absurd (let z : _≡_ {A = ℕ} 0 1 = cc (rw (b, m) at e) in omega arith)
         ]
       ],
-      λ i. e ∙ (rw (h .is .valid .solid c i, in-member i)),
+      λ i. e ∙ (rw (h .is .valid .none-blank c i, in-member i)),
     )
 
 -- Demand 2, "On such a list, with the same book, a look-up says yes exactly for the set's cards": after an accepted insert or remove, for the new set.
 pub change-lookup : (kind : Change) (tabulation ws scratch : List ℕ) (key : ℕ) → change-outcome kind tabulation ws scratch key .answer ≡ done → (c : ℕ)
     → (lookup-values tabulation (change-outcome kind tabulation ws scratch key .words) c ≡ 1 ∷ []) ↔ In c (changed kind key (keys-in ws))
 change-lookup kind tabulation ws scratch key e c =
-    held-lookup (change-accepted kind tabulation ws scratch key e) (change-passed tabulation ws scratch kind key (inl e) .0 .full) c
+    held-lookup (change-accepted kind tabulation ws scratch key e) (change-passed tabulation ws scratch kind key (inl e) .0 .full-length) c
 
 -- placement
 
@@ -267,7 +267,7 @@ pub held-eight : {P : Params} {S ws : List ℕ} → Holds P S ws → (scratch : 
     ↔ (Placement (slot-0 (family P)) (slot-1 (family P)) (P .places) (with-key key S) → ⊥)
 held-eight h scratch key d =
     let p = held-tried h scratch key d in
-    held-full h (p .0 .full) scratch (rw (held-scratch h) at (p .0 .room)) key (p .1) (p .2)
+    held-full h (p .0 .full-length) scratch (rw (held-scratch h) at (p .0 .room)) key (p .1) (p .2)
 
 -- on whatever words.
 pub insert-eight : (tabulation ws scratch : List ℕ) (key : ℕ)
@@ -283,9 +283,9 @@ pub held-undone : {P : Params} {S ws : List ℕ} → Holds P S ws → length (P 
     → change-outcome Insert (P .tabulation) ws scratch key .answer ≡ done → scratch-length (P .slots) (P .places) ≤ length scratch′
     → (change-outcome Remove (P .tabulation) (change-outcome Insert (P .tabulation) ws scratch key .words) scratch′ key .answer ≡ done)
     × (change-outcome Remove (P .tabulation) (change-outcome Insert (P .tabulation) ws scratch key .words) scratch′ key .words ≡ ws)
-held-undone {P} {S} {ws} h full scratch scratch′ key e room =
+held-undone {P} {S} {ws} h full-length scratch scratch′ key e room =
     let n = held-tried h scratch key (inl e) in
     let g = held-changed h Insert scratch key e in
-    let d = held-remove g full scratch′ room key (n .1) (in-member (with-here key S)) in
+    let d = held-remove g full-length scratch′ room key (n .1) (in-member (with-here key S)) in
     let back = without-with key S (h .is .valid .asc) (λ i. true≢false (sym (in-member i) ∙ n .2)) in
     (d, held-changed g Remove scratch′ key d .is .is ∙ ap (image P) back ∙ sym (h .is .is))

@@ -107,7 +107,7 @@ not-late n (inr l) h = omega arith
 module _ (tabulation ws scratch : List ℕ) where
   -- none of 1 to 3 applies
   pub record Ready : Type 0 where
-    pub full : length tabulation ≡ tabulation-length
+    pub full-length : length tabulation ≡ tabulation-length
     pub shape : shaped ws ≡ true
     pub room : scratch-length (slots-of ws) (places-of ws) ≤ length scratch
 
@@ -129,7 +129,7 @@ module _ (tabulation ws scratch : List ℕ) where
     head-ready : Ready → head ≡ cond (not (canonical tabulation ws)) not-canonical (first-refusal rest)
     head-ready h =
         rw (
-          eq-eqb (length tabulation) tabulation-length (h .full),
+          eq-eqb (length tabulation) tabulation-length (h .full-length),
           h .shape,
           le-ltb (length scratch) (scratch-length (slots-of ws) (places-of ws)) (h .room),
         )
@@ -144,7 +144,7 @@ module _ (tabulation ws scratch : List ℕ) where
         let b = passed-over (not (shaped ws)) (a .1) (λ q. not-late head late (omega arith)) in
         let c = passed-over (ltb l L) (b .1) (λ q. not-late head late (omega arith)) in
         let d = passed-over (not (canonical tabulation ws)) (c .1) (λ q. not-late head late (omega arith)) in (
-          record { full = eqb-true (length tabulation) tabulation-length (not-false _ (a .0)); shape = not-false _ (b .0); room = ltb-false l L (c .0) },
+          record { full-length = eqb-true (length tabulation) tabulation-length (not-false _ (a .0)); shape = not-false _ (b .0); room = ltb-false l L (c .0) },
           not-false _ (d .0),
         )
 

@@ -34,7 +34,7 @@ module _ (a b : ℕ → ℕ) where
   pub record Partition (R : List ℕ) (n : ℕ) (words : List ℕ) : Type 0 where
     -- a word for each slot of the two tables
     pub long : length words ≡ n
-    pub few : n ≤ max-points
+    pub points-bound : n ≤ max-points
     -- each slot's parents lead to a representative, in few steps
     pub reached : (v : ℕ) → v < n → Reached words v
     -- the size that stands with a representative is the number of its slots
@@ -76,7 +76,7 @@ module _ {a b : ℕ → ℕ} {R : List ℕ} {n : ℕ} {words : List ℕ} (P : Pa
   is-rep v l = chain-rep (P .reached v l .chain) (omega (arith, P .long))
 
   pub rep-is : (v : ℕ) (l : v < n) → rep-of words v ≡ P .reached v l .rep
-  rep-is v l = reached-rep (P .reached v l) (omega (arith, size-le (is-rep v l), P .few))
+  rep-is v l = reached-rep (P .reached v l) (omega (arith, size-le (is-rep v l), P .points-bound))
 
   pub rep-marked : (v : ℕ) → v < n → Representative words (rep-of words v)
   rep-marked v l = rw (rep-is v l) (is-rep v l)
@@ -97,7 +97,7 @@ module _ {a b : ℕ → ℕ} {R : List ℕ} {n : ℕ} {words : List ℕ} (P : Pa
   pub add-within : (c : ℕ) → a c < n → b c < n → rep-of words (a c) ≡ rep-of words (b c) → Partition a b (c ∷ R) n words
   add-within c la lb e = record {
     long = P .long;
-    few = P .few;
+    points-bound = P .points-bound;
     reached = P .reached;
     honest = P .honest;
     law = λ u v lu lv. (
@@ -127,7 +127,7 @@ module _ (n : ℕ) where
   unfolding label
   start few = record {
     long = length-singletons;
-    few = few;
+    points-bound = few;
     reached = λ v l. record { steps = 0; rep = v; chain = top {v = v} (omega (arith, length-singletons, word v l)); short = omega (arith, one-slot v l) };
     honest = λ r h.
         let l : r < n = omega (arith, h .inside, length-singletons) in

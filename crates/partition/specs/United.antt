@@ -75,7 +75,7 @@ module _
     rep-linked v l =
         let h = reached-linked (P .reached v l) in
         let k : Representative (linked words child parent) (h .0 .rep) = chain-rep (h .0 .chain) (omega (arith, linked-length two, P .long)) in
-        reached-rep (h .0) (omega (arith, linked-size-le k, P .few)) ∙ h .1 ∙ ap (moved child parent) (sym (rep-is P v l))
+        reached-rep (h .0) (omega (arith, linked-size-le k, P .points-bound)) ∙ h .1 ∙ ap (moved child parent) (sym (rep-is P v l))
 
     members-linked : (r : ℕ) → members (linked words child parent) r ≡ tally (λ v. moved child parent (rep-of words v)) r (length words)
     members-linked r =
@@ -102,7 +102,7 @@ module _
         → moved child parent (rep-of words (a c)) ≡ moved child parent (rep-of words (b c)) → Partition a b (c ∷ R) n (linked words child parent)
     add-linked c x y la lb lx ly ex ey j e = record {
       long = linked-length two ∙ P .long;
-      few = P .few;
+      points-bound = P .points-bound;
       reached = λ v l. reached-linked (P .reached v l) .0;
       honest = honest-linked;
       law = λ u v lu lv. (

@@ -2,7 +2,7 @@
 ghost use mathlib.Core.Path.{_≡_};
 ghost use Prim.Native.Nat.{_≤_};
 ghost use Rattle.tabulation.specs.Hash.{max-slots};
-ghost use Rattle.build.specs.Scratch.{held-at, next-at, sets-at, stash-at};
+ghost use Rattle.build.specs.Scratch.{held-at, next-at, sets-at, stashed-at};
 use words::wide;
 
 pub fn held_start(r: u32, s: u32) -> usize
@@ -26,9 +26,9 @@ pub fn sets_start(r: u32, s: u32) -> usize
     wide(6 * r + s)
 }
 
-pub fn stash_start(r: u32, s: u32) -> usize
+pub fn stashed_start(r: u32, s: u32) -> usize
     requires { ⌜ (r ≤ max-slots) × (s ≤ 64) ⌝ }
-    ensures { λ n. ⌜ n ≡ stash-at r s ⌝ }
+    ensures { λ n. ⌜ n ≡ stashed-at r s ⌝ }
 {
     wide(8 * r + s)
 }

@@ -3,6 +3,7 @@
 // out-parameters. What these hold after a refusal is part of each promise.
 ghost use mathlib.Core.Path.{_≡_};
 ghost use lib.ListN.{length};
+ghost use Rattle.tabulation.specs.Hash.{tables};
 ghost use Rattle.tabulation.specs.Answer.{hashes-refusal, written};
 ghost use Rattle.layout.specs.Answers.{lookup-refusal, view-refusal, fresh-refusal, fresh-words};
 ghost use Rattle.outcome.specs.Outcome.{change-outcome, check-outcome};
@@ -150,11 +151,11 @@ pub extern "C" fn pinorange_hashes(
     first: &mut u32,
     second: &mut u32,
 ) -> u32
-    ensures numbered { λ n. ⌜ n ≡ hashes-refusal (record { tabulation = now (tabulation .entry); slots = r }) key ⌝ }
-    ensures first_hash { λ n. ⌜ now (first .exit) ≡ written
-        (record { tabulation = now (tabulation .entry); slots = r }) key 0 (now (first .entry)) ⌝ }
+    ensures numbered { λ n. ⌜ n ≡ hashes-refusal (tables (now (tabulation .entry)) r) key ⌝ }
+    ensures first_hash { λ n. ⌜ now (first .exit)
+        ≡ written (tables (now (tabulation .entry)) r) key 0 (now (first .entry)) ⌝ }
     ensures second_hash { λ n. ⌜ now (second .exit)
-        ≡ written (record { tabulation = now (tabulation .entry); slots = r }) key 1 (now (second .entry)) ⌝ }
+        ≡ written (tables (now (tabulation .entry)) r) key 1 (now (second .entry)) ⌝ }
 {
     tabulation::pinorange_hashes(tabulation, r, key, first, second)
 }

@@ -24,14 +24,14 @@ pub record Parted (r s : ℕ) (scratch : List ℕ) : Type 0 where
   pub room : used r s ≤ length scratch
 
 -- such scratch, and words that have the shape of a dictionary with r and s
-pub record Comparable (r s : ℕ) (ws scratch : List ℕ) : Type 0 where
+pub record PartsComparable (r s : ℕ) (ws scratch : List ℕ) : Type 0 where
   pub shape : Shaped ws
   pub slots : slots-of ws ≡ r
   pub places : places-of ws ≡ s
   pub room : used r s ≤ length scratch
 
 -- such scratch, and words of the length of a dictionary with r and s, whatever they are
-pub record Writable (r s : ℕ) (ws scratch : List ℕ) : Type 0 where
+pub record PartsWritable (r s : ℕ) (ws scratch : List ℕ) : Type 0 where
   pub parted : Parted r s scratch
   pub size : length ws ≡ words-length r s
 
@@ -48,9 +48,9 @@ module _ (r s : ℕ) (scratch : List ℕ) {a e : ℕ} where
   unfolding parts
   next-lent start end = stretch-lent (Scratch.next-at r s) (2 * r) start (omega arith)
 
-  pub stash-lent : {n : ℕ} → a ≡ Scratch.stash-at r s → n ≡ s → e ≡ a + n → midOf a (e - a) scratch ≡ parts r s scratch .stash
+  pub stash-lent : {n : ℕ} → a ≡ Scratch.stashed-at r s → n ≡ s → e ≡ a + n → midOf a (e - a) scratch ≡ parts r s scratch .stash
   unfolding parts
-  stash-lent start size end = stretch-lent (Scratch.stash-at r s) s start (omega arith)
+  stash-lent start size end = stretch-lent (Scratch.stashed-at r s) s start (omega arith)
 
 -- the parts that the definitions give for a set assemble to its image
 

@@ -11,7 +11,7 @@ use lib.ListN.{length, take}
 use lib.Seq.{take-take, length-take-le}
 use Rattle.basics.specs.Lists.{same}
 use Rattle.refusals.specs.Refusal.{done, wrong-tabulation, wrong-shape, short-scratch, not-canonical, stash-full, first-refusal, passed-over}
-use Rattle.tabulation.specs.Hash.{tabulation-length}
+use Rattle.tabulation.specs.Hash.{tabulation-length, tables}
 use Rattle.layout.specs.Layout.{Params, ValidSet, family, params-of, slots-of, places-of, scratch-length, shaped, stash-of, fits, image, keys-in, fits-by}
 use Rattle.layout.specs.Canonical.{canonical}
 use Rattle.layout.specs.Shape.{shape}
@@ -22,7 +22,7 @@ use Rattle.build.specs.Outcome.{Standing, full, made, Build, Built, Buildable}
 use Rattle.build.specs.declared.StashCount.{StashCount}
 use Rattle.build.specs.declared.StashCount.the-variants.{Keys as StashKeys, Overflow}
 use Rattle.outcome.specs.Laws.{Ready}
-use Rattle.renewal.specs.Parts.{Comparable, assembled-in, assembled-image}
+use Rattle.renewal.specs.Parts.{PartsComparable, assembled-in, assembled-image}
 use Rattle.renewal.specs.declared.Reading.{Reading}
 use Rattle.renewal.specs.declared.Reading.the-variants.{Keys, NotCanonical}
 
@@ -67,7 +67,7 @@ early-none tabulation ws scratch e =
     let a = passed-over (not (eqb (length tabulation) tabulation-length)) e (λ q. omega arith) in
     let b = passed-over (not (shaped ws)) (a .1) (λ q. omega arith) in
     let c = passed-over (ltb (length scratch) (scratch-length (slots-of ws) (places-of ws))) (b .1) (λ q. omega arith) in
-    record { full = eqb-true _ _ (not-false _ (a .0)); shape = not-false _ (b .0); room = ltb-false _ _ (c .0) }
+    record { full-length = eqb-true _ _ (not-false _ (a .0)); shape = not-false _ (b .0); room = ltb-false _ _ (c .0) }
 
 pub early-ready : (tabulation ws scratch : List ℕ) {n : ℕ} → n ≡ early-refusal tabulation ws (length scratch) → n ≡ 0 → Ready tabulation ws scratch
 early-ready tabulation ws scratch e z = early-none tabulation ws scratch (sym e ∙ z)
@@ -89,14 +89,12 @@ pub set-buildable : (tabulation ws scratch mid : List ℕ) (n : ℕ) {S : List �
 set-buildable tabulation ws scratch mid n ready same-room few front valid =
     let h = shape ws (ready .shape) in
     record {
-      full-tabulation = ready .full;
-      some = h .sizes .some;
-      most = h .sizes .most;
-      few = h .sizes .few;
+      hashing = record { full-length = ready .full-length; has-slots = h .sizes .has-slots; slots-bound = h .sizes .slots-bound };
+      places-bound = h .sizes .places-bound;
       room = omega (arith, ready .room);
       keys = few;
       asc = rw front (valid .asc);
-      solid = λ c i. not-blank c (valid .solid c (rw front at i));
+      nonzero = λ c i. not-blank c (valid .none-blank c (rw front at i));
     }
 
 -- Reading words as a set. First the keys that stand in them are collected: n of them, at the front of `mid`, which is scratch then.
@@ -116,7 +114,7 @@ module _ {tabulation ws scratch mid : List ℕ} {n : ℕ} (R : Collected tabulat
   pub collected-buildable : Buildable (slots-of ws) (places-of ws) n tabulation mid
   collected-buildable = set-buildable tabulation ws scratch mid n (R .ready) (R .same-room) collected-few (R .front) (keys-in-valid ws)
 
-  pub collected-comparable : {after : List ℕ} → length after ≡ length mid → Comparable (slots-of ws) (places-of ws) ws after
+  pub collected-comparable : {after : List ℕ} → length after ≡ length mid → PartsComparable (slots-of ws) (places-of ws) ws after
   collected-comparable l = record { shape = shape ws (R .ready .shape); slots = refl; places = refl; room = omega (arith, R .ready .room, R .same-room) }
 
   -- Then they are built: scratch is `after` then, and the words are compared with what stands there.
@@ -213,11 +211,11 @@ module _ {r r′ s s′ : ℕ} (e : r ≡ r′) (f : s ≡ s′) where
   buildable-as B = rw (e, f) B
 
   pub built-as : {tabulation S before after : List ℕ} {count : StashCount}
-      → Built (record { tabulation = tabulation; slots = r }) s S before after count
-      → Built (record { tabulation = tabulation; slots = r′ }) s′ S before after count
+      → Built (tables tabulation r) s S before after count
+      → Built (tables tabulation r′) s′ S before after count
   built-as B = rw (← e, ← f) B
 
-  pub comparable-as : {ws scratch : List ℕ} → Comparable r′ s′ ws scratch → Comparable r s ws scratch
+  pub comparable-as : {ws scratch : List ℕ} → PartsComparable r′ s′ ws scratch → PartsComparable r s ws scratch
   comparable-as C = rw (e, f) C
 
   pub assembled-as : (keys stashed : ℕ) (scratch : List ℕ) → assembled-in r s keys stashed scratch ≡ assembled-in r′ s′ keys stashed scratch

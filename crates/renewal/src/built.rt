@@ -5,11 +5,11 @@ ghost use Prim.Native.Nat.{_*_, _≤_};
 ghost use lib.ListN.{length};
 ghost use Rattle.basics.specs.Lists.{same};
 ghost use Rattle.build.specs.Scratch.{parts};
-ghost use Rattle.renewal.specs.Parts.{Parted, Comparable, Writable, assembled-in};
+ghost use Rattle.renewal.specs.Parts.{Parted, PartsComparable, PartsWritable, assembled-in};
 use parts::held_start;
 use parts::next_start;
 use parts::sets_start;
-use parts::stash_start;
+use parts::stashed_start;
 use words::wide;
 
 // The parts of scratch that the image is made of.
@@ -38,7 +38,7 @@ fn stash_part(scratch: &[u32], r: u32, s: u32) -> &[u32]
     ensures part { λ p. ⌜ now p ≡ parts r s (now (scratch .entry)) .stash ⌝ }
     ensures sized { λ p. ⌜ length (now p) ≡ s ⌝ }
 {
-    let start = stash_start(r, s);
+    let start = stashed_start(r, s);
     let end = start + wide(s);
     &scratch[start..end]
 }
@@ -52,7 +52,7 @@ pub fn matches_built(
     keys: usize,
     stashed: u32,
 ) -> bool
-    requires { ⌜ Comparable r s (now words) (now scratch) ⌝ }
+    requires { ⌜ PartsComparable r s (now words) (now scratch) ⌝ }
     ensures { λ b. ⌜ b ≡ same (now (words .entry)) (assembled-in r s keys stashed (now (scratch .entry))) ⌝ }
 {
     let held = held_part(scratch, r, s);
@@ -63,7 +63,7 @@ pub fn matches_built(
 
 // Writes the image that stands in scratch over all of the words, whatever they were.
 pub fn write_built(words: &mut [u32], scratch: &[u32], r: u32, s: u32, keys: usize, stashed: u32)
-    requires { ⌜ Writable r s (now words) (now scratch) × (keys ≤ 4294967295) ⌝ }
+    requires { ⌜ PartsWritable r s (now words) (now scratch) × (keys ≤ 4294967295) ⌝ }
     ensures { λ _. ⌜ now (words .exit) ≡ assembled-in r s keys stashed (now (scratch .entry)) ⌝ }
 {
     let held = held_part(scratch, r, s);

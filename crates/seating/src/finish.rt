@@ -1,8 +1,9 @@
 // Step 4: each component, told by its label, is brought to its seats from the key that is noted there.
 ghost use mathlib.Core.Path.{_≡_};
 ghost use Prim.Native.Nat.{_*_, _<_};
+ghost use Rattle.tabulation.specs.Hash.{tables};
 ghost use Rattle.build.specs.Scratch.{parts, glue};
-ghost use Rattle.build.specs.Access.{tables, Room};
+ghost use Rattle.build.specs.Access.{Room};
 ghost use Rattle.build.specs.Passes.{finished-parts};
 ghost use Rattle.build.specs.FinishCode.{label-finished};
 use noting::key::is_held;

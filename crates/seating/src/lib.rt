@@ -3,6 +3,7 @@
 ghost use mathlib.Core.Path.{_≡_};
 ghost use Prim.Native.Nat.{_+_, _*_, _≤_};
 ghost use lib.ListN.{take};
+ghost use Rattle.tabulation.specs.Hash.{tables};
 ghost use Rattle.build.specs.Scratch.{parts, glue};
 ghost use Rattle.build.specs.Access.{Room};
 ghost use Rattle.build.specs.Passes.{answer};
@@ -19,9 +20,9 @@ mod next;
 fn prepare(scratch: &mut [u32], tabulation: &[u16], r: u32, s: u32, n: usize) -> StashCount
     requires { ⌜ Buildable r s n (now tabulation) (now scratch) ⌝ }
     ensures prepared { λ _. ⌜ now (scratch .exit) ≡ glue
-        (noted-from (record { tabulation = now (tabulation .entry); slots = r }) s n
+        (noted-from (tables (now (tabulation .entry)) r) s n
         (parts r s (now (scratch .entry)))) ⌝ }
-    ensures counted { λ k. ⌜ k ≡ answer (whole-noting (record { tabulation = now (tabulation .entry); slots = r }) s n
+    ensures counted { λ k. ⌜ k ≡ answer (whole-noting (tables (now (tabulation .entry)) r) s n
         (parts r s (now (scratch .entry)))) ⌝ }
 {
     linking::link_keys(&mut *scratch, tabulation, r, s, n);
@@ -32,9 +33,9 @@ fn prepare(scratch: &mut [u32], tabulation: &[u16], r: u32, s: u32, n: usize) ->
 // Steps 3 to 5: the trees' notes, every component brought to its seats, the next numbers.
 fn seat(scratch: &mut [u32], tabulation: &[u16], r: u32, s: u32, n: usize)
     requires { ⌜ Room (now tabulation) r s (now scratch) × (n ≤ 2 * r + s)
-        × Chainable (record { tabulation = now tabulation; slots = r }) n (parts r s (now scratch)) ⌝ }
+        × Chainable (tables (now tabulation) r) n (parts r s (now scratch)) ⌝ }
     ensures { λ _. ⌜ now (scratch .exit) ≡ glue (seated-from
-        (record { tabulation = now (tabulation .entry); slots = r }) n (parts r s (now (scratch .entry)))) ⌝ }
+        (tables (now (tabulation .entry)) r) n (parts r s (now (scratch .entry)))) ⌝ }
 {
     notes::note_held_keys(&mut *scratch, tabulation, r, s, n);
     finish::finish_labels(&mut *scratch, tabulation, r, s);
@@ -47,7 +48,7 @@ fn seat(scratch: &mut [u32], tabulation: &[u16], r: u32, s: u32, n: usize)
 // words of the keys stay.
 pub fn build(scratch: &mut [u32], tabulation: &[u16], r: u32, s: u32, n: usize) -> StashCount
     requires { ⌜ Buildable r s n (now tabulation) (now scratch) ⌝ }
-    ensures { λ k. ⌜ Built (record { tabulation = now (tabulation .entry); slots = r }) s
+    ensures { λ k. ⌜ Built (tables (now (tabulation .entry)) r) s
         (take n (now (scratch .entry))) (now (scratch .entry)) (now (scratch .exit)) k ⌝ }
 {
     let count = prepare(&mut *scratch, tabulation, r, s, n);

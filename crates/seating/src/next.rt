@@ -3,8 +3,9 @@
 // overwritten. At the end a slot without a key gets 0.
 ghost use mathlib.Core.Path.{_≡_};
 ghost use Prim.Native.Nat.{_+_, _*_, _<_, _≤_};
+ghost use Rattle.tabulation.specs.Hash.{tables};
 ghost use Rattle.build.specs.Scratch.{parts, glue};
-ghost use Rattle.build.specs.Access.{tables, Enough, Room, Fit};
+ghost use Rattle.build.specs.Access.{Enough, Room, Fit};
 ghost use Rattle.build.specs.Passes.{last-seen-parts, chained-parts, blanked-parts};
 ghost use Rattle.build.specs.NextCode.{seat-in, label-at, Readable, Chainable, key-seen, slot-put, key-put};
 ghost use Rattle.build.specs.NextCode.{key-chained};

@@ -7,7 +7,7 @@ use mathlib.Core.List.{List}
 use native.Mathlib.Nat.{mod-lt}
 use borrow.Author.Tests.{leb-true, le-leb}
 use lib.Dec.{eqb, leb}
-use lib.ListN.{getD}
+use lib.ListN.{length, getD}
 use Rattle.basics.specs.Tests.{and-true}
 
 -- the tabulation (document 01's 'spread book') is 2,048 numbers
@@ -29,6 +29,16 @@ blank key = eqb key 0
 pub record Family : Type 0 where
   pub tabulation : List ℕ
   pub slots : ℕ
+
+-- the family of a tabulation, with r slots to a table
+abbrev pub tables : List ℕ → ℕ → Family
+tables tabulation r = record { tabulation = tabulation; slots = r }
+
+-- what hashing needs: a tabulation of its length, and r in its range
+pub record Hashing (tabulation : List ℕ) (r : ℕ) : Type 0 where
+  pub full-length : length tabulation ≡ tabulation-length
+  pub has-slots : 0 < r
+  pub slots-bound : r ≤ max-slots
 
 -- byte i of a key, b0 the lowest
 abbrev pub byte : ℕ → ℕ → ℕ
@@ -58,6 +68,10 @@ in-range-max r e = leb-true r max-slots (and-true (leb 1 r) (leb r max-slots) e 
 pub range-in : (r : ℕ) → 0 < r → r ≤ max-slots → slots-in-range r ≡ true
 unfolding slots-in-range
 range-in r some most = rw (le-leb 1 r some) (le-leb r max-slots most)
+
+-- so hashing has what it needs where neither 1 nor 2 applies
+pub hashing : {tabulation : List ℕ} {r : ℕ} → length tabulation ≡ tabulation-length → slots-in-range r ≡ true → Hashing tabulation r
+hashing {tabulation} {r} e range = record { full-length = e; has-slots = in-range-pos r range; slots-bound = in-range-max r range }
 
 -- a hash is a slot of its table
 pub hash-lt : (F : Family) (table key : ℕ) → 0 < F .slots → hash F table key < F .slots

@@ -5,7 +5,7 @@ ghost use mathlib.Core.Path.{_≡_};
 ghost use Prim.Native.Nat.{_+_, _*_, _≤_, _<_};
 ghost use lib.ListN.{length};
 ghost use Rattle.tabulation.specs.Slots.{slot-0, slot-1};
-ghost use Rattle.tabulation.specs.Hash.{tabulation-length, max-slots, slots-in-range, blank, entry, hash};
+ghost use Rattle.tabulation.specs.Hash.{tabulation-length, slots-in-range, tables, Hashing, blank, entry, hash};
 ghost use Rattle.tabulation.specs.Answer.{number, values, hashes-refusal, hashes-values, written};
 use refusals::BLANK_KEY;
 use refusals::WRONG_SHAPE;
@@ -52,8 +52,8 @@ fn entry_at(tabulation: &[u16], table: usize, i: usize, b: u32) -> u32
 
 // The hash of a key in a table of r slots.
 pub fn hash_in(tabulation: &[u16], table: usize, r: u32, key: u32) -> u32
-    requires { ⌜ (length (now tabulation) ≡ tabulation-length) × (table < 2) × (0 < r) ⌝ }
-    ensures { λ h. ⌜ h ≡ hash (record { tabulation = now (tabulation .entry); slots = r }) table key ⌝ }
+    requires { ⌜ Hashing (now tabulation) r × (table < 2) ⌝ }
+    ensures { λ h. ⌜ h ≡ hash (tables (now (tabulation .entry)) r) table key ⌝ }
 {
     let mut sum: u32 = 0;
     let mut rest = key;
@@ -68,9 +68,8 @@ pub fn hash_in(tabulation: &[u16], table: usize, r: u32, key: u32) -> u32
 
 // Both hashes of a key, or 1, 2 or 5: for every tabulation, r and key.
 pub fn hashes(tabulation: &[u16], r: u32, key: u32) -> Hashed
-    ensures numbered { λ h. ⌜ number h ≡ hashes-refusal (record { tabulation = now (tabulation .entry); slots = r })
-        key ⌝ }
-    ensures valued { λ h. ⌜ values h ≡ hashes-values (record { tabulation = now (tabulation .entry); slots = r }) key ⌝ }
+    ensures numbered { λ h. ⌜ number h ≡ hashes-refusal (tables (now (tabulation .entry)) r) key ⌝ }
+    ensures valued { λ h. ⌜ values h ≡ hashes-values (tables (now (tabulation .entry)) r) key ⌝ }
 {
     if tabulation.len() != TABULATION_LENGTH {
         return Hashed::Refused(WRONG_TABULATION);
@@ -97,11 +96,11 @@ pub extern "C" fn pinorange_hashes(
     first: &mut u32,
     second: &mut u32,
 ) -> u32
-    ensures numbered { λ n. ⌜ n ≡ hashes-refusal (record { tabulation = now (tabulation .entry); slots = r }) key ⌝ }
-    ensures first_hash { λ n. ⌜ now (first .exit) ≡ written
-        (record { tabulation = now (tabulation .entry); slots = r }) key 0 (now (first .entry)) ⌝ }
+    ensures numbered { λ n. ⌜ n ≡ hashes-refusal (tables (now (tabulation .entry)) r) key ⌝ }
+    ensures first_hash { λ n. ⌜ now (first .exit)
+        ≡ written (tables (now (tabulation .entry)) r) key 0 (now (first .entry)) ⌝ }
     ensures second_hash { λ n. ⌜ now (second .exit)
-        ≡ written (record { tabulation = now (tabulation .entry); slots = r }) key 1 (now (second .entry)) ⌝ }
+        ≡ written (tables (now (tabulation .entry)) r) key 1 (now (second .entry)) ⌝ }
 {
     let h = hashes(tabulation, r, key);
     match h {
@@ -116,15 +115,15 @@ pub extern "C" fn pinorange_hashes(
 
 // The slot of a key in a table, in the row of both tables' slots: table 1's come after the r of table 0.
 pub fn first_slot(tabulation: &[u16], r: u32, key: u32) -> u32
-    requires { ⌜ (length (now tabulation) ≡ tabulation-length) × (0 < r) ⌝ }
-    ensures { λ v. ⌜ v ≡ slot-0 (record { tabulation = now (tabulation .entry); slots = r }) key ⌝ }
+    requires { ⌜ Hashing (now tabulation) r ⌝ }
+    ensures { λ v. ⌜ v ≡ slot-0 (tables (now (tabulation .entry)) r) key ⌝ }
 {
     hash_in(tabulation, 0, r, key)
 }
 
 pub fn second_slot(tabulation: &[u16], r: u32, key: u32) -> u32
-    requires { ⌜ (length (now tabulation) ≡ tabulation-length) × (0 < r) × (r ≤ max-slots) ⌝ }
-    ensures { λ v. ⌜ v ≡ slot-1 (record { tabulation = now (tabulation .entry); slots = r }) key ⌝ }
+    requires { ⌜ Hashing (now tabulation) r ⌝ }
+    ensures { λ v. ⌜ v ≡ slot-1 (tables (now (tabulation .entry)) r) key ⌝ }
 {
     r + hash_in(tabulation, 1, r, key)
 }

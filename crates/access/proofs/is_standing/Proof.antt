@@ -2,7 +2,7 @@
 use mathlib.Core.Path.{sym, _∙_}
 use native.Mathlib.Nat.{add-sub-cancel-left}
 use native.Mathlib.Omega.{arith}
-use Rattle.tabulation.specs.Hash.{Family}
+use Rattle.tabulation.specs.Hash.{tables}
 use Rattle.tabulation.specs.Slots.{slot-0-lt, slot-1-lt}
 use Rattle.layout.specs.Layout.{slots-of}
 use Rattle.layout.specs.Answers.{stands-first, stands-second, stands-stash}
@@ -19,8 +19,8 @@ first-slot-requires c κs = search needs
 in-slot-requires : tie.Need-in-slot-requires
 in-slot-requires c κs =
     let d = c .before .before .before .before in
-    let F : Family = record { tabulation = d .args .tabulation .now; slots = slots-of (d .args .words .now) } in
-    let l = slot-0-lt F (d .pre .1 .sizes .some) (d .args .key) in
+    let F = tables (d .args .tabulation .now) (slots-of (d .args .words .now)) in
+    let l = slot-0-lt F (d .pre .1 .sizes .has-slots) (d .args .key) in
     let e = c .first-slot .ensures in
     (omega arith, omega arith)
 
@@ -35,8 +35,8 @@ second-slot-requires c κs = search needs
 in-slot-requires-2 : tie.Need-in-slot-requires-2
 in-slot-requires-2 c κs =
     let d = c .before .before .before .before .before .before .before in
-    let F : Family = record { tabulation = d .args .tabulation .now; slots = slots-of (d .args .words .now) } in
-    let l = slot-1-lt F (d .pre .1 .sizes .some) (d .args .key) in
+    let F = tables (d .args .tabulation .now) (slots-of (d .args .words .now)) in
+    let l = slot-1-lt F (d .pre .1 .sizes .has-slots) (d .args .key) in
     let e = c .second-slot .ensures in
     (omega arith, omega arith)
 

@@ -29,7 +29,7 @@ shared-slice-read-stash-start : tie.Need-shared-slice-read-stash-start
 shared-slice-read-stash-start c = omega (arith, viewed _ (sym (c .before .before .stash-refusal .ensures) ∙ c .before .if1 .left))
 
 stash-start-requires : tie.Need-stash-start-requires
-stash-start-requires c κs = (viewed _ (sym (c .before .before .stash-refusal .ensures) ∙ c .before .if1 .left)) .shape .sizes .most
+stash-start-requires c κs = (viewed _ (sym (c .before .before .stash-refusal .ensures) ∙ c .before .if1 .left)) .shape .sizes .slots-bound
 
 shared-slice-read-wide : tie.Need-shared-slice-read-wide
 shared-slice-read-wide c = omega (arith, viewed _ (sym (c .before .before .before .before .stash-refusal .ensures) ∙ c .before .before .before .if1 .left))

@@ -3,8 +3,8 @@ use mathlib.Core.Path.{_∙_}
 use native.Mathlib.Omega.{arith}
 use lib.ListN.{getD, length-set}
 use borrow.Author.Needs.{needs}
-use Rattle.tabulation.specs.Hash.{Family}
-use Rattle.forest.specs.Held.{slots-fit}
+use Rattle.tabulation.specs.Hash.{tables}
+use Rattle.forest.specs.HeldForest.{slots-fit}
 use Rattle.forest.specs.Finish.{exchange}
 use Rattle.forest.proofs.exchange.Statement.{statement}
 use Rattle.forest.proofs.exchange.Tie as tie
@@ -27,8 +27,8 @@ second-slot-requires c κs = search needs
 reroot-requires : tie.Need-reroot-requires
 reroot-requires c κs =
     let a = c .before .before .before .before .before .args in
-    let F : Family = record { tabulation = a .tabulation .now; slots = a .r } in
-    (search needs, search needs, search needs, search needs, omega (arith, c .before .second-slot .ensures, slots-fit F (omega arith) (a .key) .1))
+    let F = tables (a .tabulation .now) (a .r) in
+    (search needs, search needs, omega (arith, c .before .second-slot .ensures, slots-fit F (omega arith) (a .key) .1))
 
 first-slot-requires : tie.Need-first-slot-requires
 first-slot-requires c κs = search needs
@@ -36,11 +36,9 @@ first-slot-requires c κs = search needs
 reroot-requires-2 : tie.Need-reroot-requires-2
 reroot-requires-2 c κs =
     let a = c .before .before .before .before .before .before .before .before .before .before .args in
-    let F : Family = record { tabulation = a .tabulation .now; slots = a .r } in (
+    let F = tables (a .tabulation .now) (a .r) in (
+      search needs,
       omega (arith, simp length-set at (c .before .before .before .before .reroot .kept .0)),
-      search needs,
-      search needs,
-      search needs,
       omega (arith, c .before .first-slot .ensures, slots-fit F (omega arith) (getD (a .held .now) (a .low) 0) .0),
     )
 

@@ -1,8 +1,8 @@
 -- `forest::finish_cycle` meets its contract: the calls one after the other, on as many words.
 use native.Mathlib.Omega.{arith}
 use borrow.Author.Needs.{needs}
-use Rattle.tabulation.specs.Hash.{Family}
-use Rattle.forest.specs.Held.{slots-fit}
+use Rattle.tabulation.specs.Hash.{tables}
+use Rattle.forest.specs.HeldForest.{slots-fit}
 use Rattle.forest.specs.Finish.{finish-cycle}
 use Rattle.forest.proofs.finish_cycle.Statement.{statement}
 use Rattle.forest.proofs.finish_cycle.Tie as tie
@@ -13,8 +13,8 @@ first-slot-requires c κs = search needs
 reroot-requires : tie.Need-reroot-requires
 reroot-requires c κs =
     let a = c .before .before .before .before .args in
-    let F : Family = record { tabulation = a .tabulation .now; slots = a .r } in
-    (search needs, search needs, search needs, search needs, omega (arith, c .before .first-slot .ensures, slots-fit F (omega arith) (a .key) .0))
+    let F = tables (a .tabulation .now) (a .r) in
+    (search needs, search needs, omega (arith, c .before .first-slot .ensures, slots-fit F (omega arith) (a .key) .0))
 
 second-slot-requires : tie.Need-second-slot-requires
 second-slot-requires c κs = search needs
@@ -22,8 +22,8 @@ second-slot-requires c κs = search needs
 lowest-slot-requires : tie.Need-lowest-slot-requires
 lowest-slot-requires c κs =
     let a = c .before .before .before .before .before .before .before .before .before .args in
-    let F : Family = record { tabulation = a .tabulation .now; slots = a .r } in
-    (search needs, search needs, search needs, search needs, omega (arith, c .before .second-slot .ensures, slots-fit F (omega arith) (a .key) .1))
+    let F = tables (a .tabulation .now) (a .r) in
+    (search needs, search needs, omega (arith, c .before .second-slot .ensures, slots-fit F (omega arith) (a .key) .1))
 
 exchange-requires : tie.Need-exchange-requires
 exchange-requires c κs = search needs

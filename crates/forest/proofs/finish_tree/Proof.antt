@@ -1,8 +1,8 @@
 -- `forest::finish_tree` meets its contract, which is that of the one call.
 use native.Mathlib.Omega.{arith}
 use borrow.Author.Needs.{needs}
-use Rattle.tabulation.specs.Hash.{Family}
-use Rattle.forest.specs.Held.{slots-fit}
+use Rattle.tabulation.specs.Hash.{tables}
+use Rattle.forest.specs.HeldForest.{slots-fit}
 use Rattle.forest.specs.Finish.{finish-tree}
 use Rattle.forest.proofs.finish_tree.Statement.{statement}
 use Rattle.forest.proofs.finish_tree.Tie as tie
@@ -13,8 +13,8 @@ first-slot-requires c κs = search needs
 reroot-requires : tie.Need-reroot-requires
 reroot-requires c κs =
     let a = c .before .before .before .before .args in
-    let F : Family = record { tabulation = a .tabulation .now; slots = a .r } in
-    (search needs, search needs, search needs, search needs, omega (arith, c .before .first-slot .ensures, slots-fit F (omega arith) (a .key) .0))
+    let F = tables (a .tabulation .now) (a .r) in
+    (search needs, search needs, omega (arith, c .before .first-slot .ensures, slots-fit F (omega arith) (a .key) .0))
 
 same-length : tie.Need-same-length
 same-length c = search needs

@@ -3,9 +3,9 @@ use native.Mathlib.Omega.{arith}
 use lib.ListN.{getD}
 use borrow.Author.Tests.{eq-eqb, ne-eqb}
 use borrow.Author.Needs.{needs}
-use Rattle.tabulation.specs.Hash.{Family}
+use Rattle.tabulation.specs.Hash.{tables}
 use Rattle.forest.specs.Oriented.{standing}
-use Rattle.forest.specs.Held.{slots-fit}
+use Rattle.forest.specs.HeldForest.{slots-fit}
 use Rattle.forest.proofs.holds.Statement.{statement}
 use Rattle.forest.proofs.holds.Tie as tie
 
@@ -24,7 +24,7 @@ mul-if1 c = search needs
 shared-slice-read-if1 : tie.Need-shared-slice-read-if1
 shared-slice-read-if1 c =
     let a = c .before .before .before .before .before .args in
-    let F : Family = record { tabulation = a .tabulation .now; slots = a .r } in
+    let F = tables (a .tabulation .now) (a .r) in
     omega (arith, c .before .before .first-slot .ensures, slots-fit F (omega arith) (a .key) .0)
 
 cast-result : tie.Need-cast-result
@@ -36,7 +36,7 @@ mul-result c = search needs
 shared-slice-read-result : tie.Need-shared-slice-read-result
 shared-slice-read-result c =
     let a = c .before .before .before .before .before .before .before .args in
-    let F : Family = record { tabulation = a .tabulation .now; slots = a .r } in
+    let F = tables (a .tabulation .now) (a .r) in
     omega (arith, c .before .before .before .second-slot .ensures, slots-fit F (omega arith) (a .key) .1)
 
 returns : tie.Need-returns

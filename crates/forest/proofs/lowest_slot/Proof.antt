@@ -9,9 +9,9 @@ use lib.Dec.{ltb}
 use lib.ListN.{getD}
 use borrow.Author.Tests.{lt-ltb, le-ltb}
 use borrow.Author.Needs.{needs}
-use Rattle.tabulation.specs.Hash.{Family}
+use Rattle.tabulation.specs.Hash.{tables}
 use Rattle.forest.specs.Way.{lowest-slot, lowest-none, lowest-stop, lowest-step}
-use Rattle.forest.specs.Held.{other, lowest}
+use Rattle.forest.specs.HeldForest.{other, lowest}
 use Rattle.forest.proofs.lowest_slot.Statement.{statement}
 use Rattle.forest.proofs.lowest_slot.Tie as tie
 
@@ -19,8 +19,8 @@ abbrev Inv-loop : tie.InvT-loop
 Inv-loop held tabulation r slot at₀ low₀ left₀ at low left =
     (at < 2 * r)
     × (low < 2 * r)
-    × (lowest (record { tabulation = tabulation; slots = r }) held slot
-    ≡ lowest-slot (other (record { tabulation = tabulation; slots = r })) left held at low)
+    × (lowest (tables tabulation r) held slot
+    ≡ lowest-slot (other (tables tabulation r)) left held at low)
 
 abbrev μ-loop : tie.MeasureT-loop
 μ-loop held tabulation r slot at₀ low₀ left₀ at low left = left
@@ -48,7 +48,7 @@ returns : tie.Need-returns Inv-loop μ-loop
 returns c =
     let l = c .before .before .before .loop in
     let a = c .before .before .before .before .before .before .args in
-    let F : Family = record { tabulation = a .tabulation .now; slots = a .r } in
+    let F = tables (a .tabulation .now) (a .r) in
     (cc (l .inv .2, lowest-stop (other F) (l .left) (a .held .now) (l .at) (l .low) (c .if1 .taken)), search needs)
 
 cast-if2 : tie.Need-cast-if2 Inv-loop μ-loop
@@ -73,7 +73,7 @@ loop-again : tie.Need-loop-again Inv-loop μ-loop
 loop-again c =
     let l = c .before .before .before .before .before .before .loop in
     let a = c .before .before .before .before .before .before .before .before .before .args in
-    let F : Family = record { tabulation = a .tabulation .now; slots = a .r } in
+    let F = tables (a .tabulation .now) (a .r) in
     let x = getD (a .held .now) (l .at) 0 in
     let y = getD (a .held .now) (l .low) 0 in
     let e : l .left ≡ suc (l .left - 1) = omega arith in
@@ -90,7 +90,7 @@ returns-2 : tie.Need-returns-2 Inv-loop μ-loop
 returns-2 c =
     let l = c .before .loop in
     let a = c .before .before .before .before .args in
-    let F : Family = record { tabulation = a .tabulation .now; slots = a .r } in
+    let F = tables (a .tabulation .now) (a .r) in
     let z : l .left ≡ 0 = omega arith in
     (cc (l .inv .2, z, lowest-none (other F) (a .held .now) (l .at) (l .low)), search needs)
 

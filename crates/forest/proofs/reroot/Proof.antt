@@ -5,9 +5,9 @@ use native.Mathlib.Omega.{arith}
 use native.Mathlib.Numerals.{add-one}
 use lib.ListN.{length}
 use borrow.Author.Needs.{needs}
-use Rattle.tabulation.specs.Hash.{Family}
+use Rattle.tabulation.specs.Hash.{tables}
 use Rattle.forest.specs.Reroot.{reroot, reroot-none, reroot-stop, reroot-step}
-use Rattle.forest.specs.Held.{other, rerooted}
+use Rattle.forest.specs.HeldForest.{other, rerooted}
 use Rattle.forest.proofs.reroot.Statement.{statement}
 use Rattle.forest.proofs.reroot.Tie as tie
 
@@ -15,8 +15,8 @@ abbrev Inv-loop : tie.InvT-loop
 Inv-loop held₀ tabulation r slot carry at₀ moving₀ left₀ held at moving left =
     (length held ≡ length held₀)
     × (at < 2 * r)
-    × (rerooted (record { tabulation = tabulation; slots = r }) held₀ carry slot
-    ≡ reroot (other (record { tabulation = tabulation; slots = r })) left held moving at)
+    × (rerooted (tables tabulation r) held₀ carry slot
+    ≡ reroot (other (tables tabulation r)) left held moving at)
 
 abbrev μ-loop : tie.MeasureT-loop
 μ-loop held₀ tabulation r slot carry at₀ moving₀ left₀ held at moving left = left
@@ -56,7 +56,7 @@ returns : tie.Need-returns Inv-loop μ-loop
 returns c =
     let l = c .before .before .before .loop in
     let a = c .before .before .before .before .before .before .args in
-    let F : Family = record { tabulation = a .tabulation .now; slots = a .r } in
+    let F = tables (a .tabulation .now) (a .r) in
     let e : l .left ≡ suc (l .left - 1) = omega arith in
     cc (l .inv .2, e, reroot-stop (other F) (l .left - 1) (l .held) (l .moving) (l .at) (c .if1 .taken))
 
@@ -73,7 +73,7 @@ loop-again : tie.Need-loop-again Inv-loop μ-loop
 loop-again c =
     let l = c .before .before .before .before .loop in
     let a = c .before .before .before .before .before .before .before .args in
-    let F : Family = record { tabulation = a .tabulation .now; slots = a .r } in
+    let F = tables (a .tabulation .now) (a .r) in
     let e : l .left ≡ suc (l .left - 1) = omega arith in (
       search needs,
       search needs,
@@ -87,7 +87,7 @@ returns-2 : tie.Need-returns-2 Inv-loop μ-loop
 returns-2 c =
     let l = c .before .loop in
     let a = c .before .before .before .before .args in
-    let F : Family = record { tabulation = a .tabulation .now; slots = a .r } in
+    let F = tables (a .tabulation .now) (a .r) in
     let z : l .left ≡ 0 = omega arith in
     cc (l .inv .2, z, reroot-none (other F) (l .held) (l .moving) (l .at))
 

@@ -4,7 +4,7 @@ use native.Mathlib.Omega.{arith}
 use lib.ListN.{length}
 use lib.Seq.{length-take-le}
 use Rattle.lines.specs.Command.{sizes-of, sizes-long}
-use Rattle.lines.specs.Held.{held, too-many}
+use Rattle.lines.specs.Buffer.{held, too-many}
 use borrow.Author.Needs.{needs}
 use Rattle.lines.proofs.sizes_in.Statement.{statement}
 use Rattle.lines.proofs.sizes_in.Tie as tie

@@ -1,8 +1,8 @@
 -- `linking::ends_of` meets its contract: the slots of a key are slots.
 use native.Mathlib.Omega.{arith}
 use borrow.Author.Needs.{needs}
-use Rattle.build.specs.Access.{tables}
-use Rattle.forest.specs.Held.{slots-fit}
+use Rattle.tabulation.specs.Hash.{tables}
+use Rattle.forest.specs.HeldForest.{slots-fit}
 use Rattle.linking.proofs.ends_of.Statement.{statement}
 use Rattle.linking.proofs.ends_of.Tie as tie
 

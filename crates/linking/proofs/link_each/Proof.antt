@@ -4,7 +4,7 @@ use mathlib.Core.Path.{_≡_, _∙_}
 use native.Mathlib.Omega.{arith}
 use lib.ListN.{length}
 use borrow.Author.Needs.{needs}
-use Rattle.build.specs.Access.{tables}
+use Rattle.tabulation.specs.Hash.{tables}
 use Rattle.build.specs.LinkCode.{after-keys, after-none, after-sound, after-more, after-all}
 use Rattle.linking.proofs.link_each.Statement.{statement}
 use Rattle.linking.proofs.link_each.Tie as tie

@@ -21,12 +21,12 @@ smaller-end-requires c κs =
     let d = c .before .before .before in
     let E = d .ends-of .ensures in
     let p = d .before .before .before .before .pre in
-    (search needs, one-marked E (p .0 .some) (p .1), two-marked E (p .0 .some) (p .1))
+    (search needs, one-marked E (p .0 .hashing .has-slots) (p .1), two-marked E (p .0 .hashing .has-slots) (p .1))
 
 reroot-held-requires : tie.Need-reroot-held-requires
 reroot-held-requires c κs =
     let d = c .before .before .before .before .before in
-    (search needs, end-fits (d .ends-of .ensures) _ (c .before .smaller-end .ensures) (d .before .before .before .before .pre .0 .some))
+    (search needs, end-fits (d .ends-of .ensures) _ (c .before .smaller-end .ensures) (d .before .before .before .before .pre .0 .hashing .has-slots))
 
 unite-sets-requires : tie.Need-unite-sets-requires
 unite-sets-requires c κs =
@@ -34,7 +34,7 @@ unite-sets-requires c κs =
     let E = d .ends-of .ensures in
     let p = d .before .before .before .before .pre in
     let same = turned-sets (p .0) E _ (c .before .before .before .reroot-held .ensures) in
-    (search needs, rw same (ends-merge E (p .0 .some) (p .1) (c .before .before .before .before .before .before .before .if1 .left)))
+    (search needs, rw same (ends-merge E (p .0 .hashing .has-slots) (p .1) (c .before .before .before .before .before .before .before .if1 .left)))
 
 same-length-2 : tie.Need-same-length-2
 same-length-2 c = search needs

@@ -1,7 +1,8 @@
 -- `linking::reroot_held` meets its contract: the held words are lent whole, and come back re-rooted.
 use borrow.Author.Needs.{needs}
-use Rattle.forest.specs.Held.{rerooted}
-use Rattle.build.specs.Access.{tables, held-part, part-changed}
+use Rattle.tabulation.specs.Hash.{tables}
+use Rattle.forest.specs.HeldForest.{rerooted}
+use Rattle.build.specs.Access.{held-part, part-changed}
 use Rattle.linking.proofs.reroot_held.Statement.{statement}
 use Rattle.linking.proofs.reroot_held.Tie as tie
 

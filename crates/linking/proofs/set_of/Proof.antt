@@ -7,8 +7,8 @@ use Rattle.linking.proofs.set_of.Tie as tie
 sets-start-requires : tie.Need-sets-start-requires
 sets-start-requires c κs = search needs
 
-stash-start-requires : tie.Need-stash-start-requires
-stash-start-requires c κs = search needs
+stashed-start-requires : tie.Need-stashed-start-requires
+stashed-start-requires c κs = search needs
 
 mul-representative : tie.Need-mul-representative
 mul-representative c = search needs
@@ -29,14 +29,14 @@ returns : tie.Need-returns
 returns c =
     let d = c .before .before in
     let p = d .before .before .before in
-    cc (c .representative .ensures, part-lent (sets-part (p .pre .0)) (d .before .sets-start .ensures) (d .stash-start .ensures))
+    cc (c .representative .ensures, part-lent (sets-part (p .pre .0)) (d .before .sets-start .ensures) (d .stashed-start .ensures))
 
 pub set-of-spec : {M : Type 1} → statement M
 set-of-spec =
     tie.close
     (tie.spec
     sets-start-requires
-    stash-start-requires
+    stashed-start-requires
     mul-representative
     sub-representative
     part-representative-start

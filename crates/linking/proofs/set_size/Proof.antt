@@ -7,8 +7,8 @@ use Rattle.linking.proofs.set_size.Tie as tie
 sets-start-requires : tie.Need-sets-start-requires
 sets-start-requires c κs = search needs
 
-stash-start-requires : tie.Need-stash-start-requires
-stash-start-requires c κs = search needs
+stashed-start-requires : tie.Need-stashed-start-requires
+stashed-start-requires c κs = search needs
 
 mul-size : tie.Need-mul-size
 mul-size c = search needs
@@ -26,20 +26,20 @@ size-requires : tie.Need-size-requires
 size-requires c κs =
     let d = c .before in
     let p = d .before .before .before in
-    (search needs, rw (part-lent (sets-part (p .pre .0)) (d .before .sets-start .ensures) (d .stash-start .ensures)) (p .pre .1))
+    (search needs, rw (part-lent (sets-part (p .pre .0)) (d .before .sets-start .ensures) (d .stashed-start .ensures)) (p .pre .1))
 
 returns : tie.Need-returns
 returns c =
     let d = c .before .before in
     let p = d .before .before .before in
-    cc (c .size .ensures, part-lent (sets-part (p .pre .0)) (d .before .sets-start .ensures) (d .stash-start .ensures))
+    cc (c .size .ensures, part-lent (sets-part (p .pre .0)) (d .before .sets-start .ensures) (d .stashed-start .ensures))
 
 pub set-size-spec : {M : Type 1} → statement M
 set-size-spec =
     tie.close
     (tie.spec
     sets-start-requires
-    stash-start-requires
+    stashed-start-requires
     mul-size
     sub-size
     part-size-start

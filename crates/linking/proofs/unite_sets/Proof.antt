@@ -8,8 +8,8 @@ use Rattle.linking.proofs.unite_sets.Tie as tie
 sets-start-requires : tie.Need-sets-start-requires
 sets-start-requires c κs = search needs
 
-stash-start-requires : tie.Need-stash-start-requires
-stash-start-requires c κs = search needs
+stashed-start-requires : tie.Need-stashed-start-requires
+stashed-start-requires c κs = search needs
 
 mul-unite : tie.Need-mul-unite
 mul-unite c = search needs
@@ -27,7 +27,7 @@ unite-requires : tie.Need-unite-requires
 unite-requires c κs =
     let d = c .before in
     let p = d .before .before .before in
-    (search needs, rw (part-lent (sets-part (p .pre .0)) (d .before .sets-start .ensures) (d .stash-start .ensures)) (p .pre .1))
+    (search needs, rw (part-lent (sets-part (p .pre .0)) (d .before .sets-start .ensures) (d .stashed-start .ensures)) (p .pre .1))
 
 same-length : tie.Need-same-length
 same-length c = search needs
@@ -36,7 +36,7 @@ returns : tie.Need-returns
 returns c =
     let d = c .before .before .before .before in
     let p = d .before .before .before in
-    part-changed (sets-part (p .pre .0)) (d .before .sets-start .ensures) (d .stash-start .ensures)
+    part-changed (sets-part (p .pre .0)) (d .before .sets-start .ensures) (d .stashed-start .ensures)
     (λ sets. united sets (p .args .first) (p .args .second)) (c .before .before .unite .ensures)
 
 pub unite-sets-spec : {M : Type 1} → statement M
@@ -44,7 +44,7 @@ unite-sets-spec =
     tie.close
     (tie.spec
     sets-start-requires
-    stash-start-requires
+    stashed-start-requires
     mul-unite
     sub-unite
     part-unite-start

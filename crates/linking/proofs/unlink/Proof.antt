@@ -35,8 +35,8 @@ fill-requires c κs = search needs
 sets-start-requires : tie.Need-sets-start-requires
 sets-start-requires c κs = search needs
 
-stash-start-requires : tie.Need-stash-start-requires
-stash-start-requires c κs = search needs
+stashed-start-requires : tie.Need-stashed-start-requires
+stashed-start-requires c κs = search needs
 
 mul-singletons : tie.Need-mul-singletons
 mul-singletons c = search needs
@@ -68,7 +68,7 @@ returns c =
     let zeros = d8 .fill .last .0 in
     let E₁ : Enough (p .args .r) (p .args .s) (putMid (x .result) (y .result - x .result) (p .args .scratch .now) zeros) = enough-kept E (omega arith) in
     let u = d4 .before .sets-start .ensures in
-    let v = d4 .stash-start .ensures in
+    let v = d4 .stashed-start .ensures in
     part-back (sets-part E₁) u v (c .before .before .singletons .last .0)
     ∙ start-words E (part-back (held-part E) (x .ensures) (y .ensures) zeros)
     (d8 .fill .ensures ∙ ap (λ (n : ℕ). replicate n 0) (part-long (held-part E) (x .ensures) (y .ensures)))
@@ -86,7 +86,7 @@ unlink-spec =
     part-fill-end
     fill-requires
     sets-start-requires
-    stash-start-requires
+    stashed-start-requires
     mul-singletons
     sub-singletons
     part-singletons-start

@@ -1,13 +1,13 @@
 -- `seating::prepare` meets its contract: the three passes one after the other.
 use mathlib.Core.Path.{_∙_}
 use Rattle.build.specs.Access.{room-kept}
-use Rattle.build.specs.Whole.{solid-of, room-of, labels-found, noted-words, noted-answer}
+use Rattle.build.specs.Whole.{nonzero-of, room-of, labels-found, noted-words, noted-answer}
 use borrow.Author.Needs.{needs}
 use Rattle.seating.proofs.prepare.Statement.{statement}
 use Rattle.seating.proofs.prepare.Tie as tie
 
 link-keys-requires : tie.Need-link-keys-requires
-link-keys-requires c κs = let B = c .before .before .before .pre in (room-of B, B .keys, solid-of B)
+link-keys-requires c κs = let B = c .before .before .before .pre in (room-of B, B .keys, nonzero-of B)
 
 label-slots-requires : tie.Need-label-slots-requires
 label-slots-requires c κs = search needs

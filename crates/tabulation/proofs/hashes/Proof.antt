@@ -2,7 +2,7 @@
 use borrow.Author.Tests.{eq-eqb, ne-eqb, not-true, not-false}
 use mathlib.Core.Path.{_∙_, sym}
 use native.Mathlib.Omega.{arith}
-use Rattle.tabulation.specs.Hash.{in-range-pos}
+use Rattle.tabulation.specs.Hash.{Hashing, hashing}
 use Rattle.tabulation.specs.Answer.{hashes-refusal, hashes-values}
 use borrow.Author.Needs.{needs}
 use Rattle.tabulation.proofs.hashes.Statement.{statement}
@@ -33,15 +33,23 @@ returns-3 c =
     let v = sym (c .before .is-blank .ensures) ∙ c .if3 .taken in
     (simp (t, u, v), simp (t, u, v))
 
+-- neither 1 nor 2 applies
+abbrev ranged : tie.Else3 → tie.Else2
+ranged e = e .before .before
+
+abbrev start : tie.Else3 → tie.Start
+start e = ranged e .before .before .before .before
+
+can-hash : (e : tie.Else3) → Hashing (start e .args .tabulation .now) (start e .args .r)
+can-hash e =
+    let t = ranged e .before in
+    hashing (t .before .if1 .left) (sym (t .in-range .ensures) ∙ not-false _ (ranged e .if2 .left))
+
 hash-in-requires : tie.Need-hash-in-requires
-hash-in-requires c κs =
-    let p = in-range-pos _ (sym (c .before .before .before .in-range .ensures) ∙ not-false _ (c .before .before .if2 .left)) in
-    (search needs, search needs, omega arith)
+hash-in-requires c κs = (can-hash c, search needs)
 
 hash-in-requires-2 : tie.Need-hash-in-requires-2
-hash-in-requires-2 c κs =
-    let p = in-range-pos _ (sym (c .before .before .before .before .in-range .ensures) ∙ not-false _ (c .before .before .before .if2 .left)) in
-    (search needs, search needs, omega arith)
+hash-in-requires-2 c κs = (can-hash (c .before), search needs)
 
 returns-4 : tie.Need-returns-4
 unfolding hashes-refusal hashes-values

@@ -1,6 +1,6 @@
 -- `tabulation::second_slot` meets its contract: r and a hash below it are small.
 use native.Mathlib.Omega.{arith}
-use Rattle.tabulation.specs.Hash.{hash-lt}
+use Rattle.tabulation.specs.Hash.{tables, hash-lt}
 use borrow.Author.Needs.{needs}
 use Rattle.tabulation.proofs.second_slot.Statement.{statement}
 use Rattle.tabulation.proofs.second_slot.Tie as tie
@@ -9,7 +9,10 @@ hash-in-requires : tie.Need-hash-in-requires
 hash-in-requires c κs = search needs
 
 add-result : tie.Need-add-result
-add-result c = omega (arith, hash-lt (record { tabulation = c .before .before .args .tabulation .now; slots = c .before .before .args .r }) 1 (c .before .before .args .key) (c .before .before .pre .1), c .hash-in .ensures)
+add-result c =
+    let start = c .before .before in
+    let a = start .args in
+    omega (arith, start .pre, hash-lt (tables (a .tabulation .now) (a .r)) 1 (a .key) (start .pre .has-slots), c .hash-in .ensures)
 
 returns : tie.Need-returns
 returns c = search needs

@@ -3,10 +3,11 @@ use Prim.Native.Nat.{_+_, _*_, _<_}
 use mathlib.Core.Path.{_≡_, _∙_}
 use native.Mathlib.Omega.{arith}
 use lib.ListN.{getD}
+use Rattle.tabulation.specs.Hash.{tables}
 use Rattle.tabulation.specs.Slots.{slot-0}
-use Rattle.forest.specs.Held.{slots-fit}
+use Rattle.forest.specs.HeldForest.{slots-fit}
 use Rattle.build.specs.Scratch.{parts, next-at}
-use Rattle.build.specs.Access.{tables, next-part, part-word}
+use Rattle.build.specs.Access.{next-part, part-word}
 use borrow.Author.Needs.{needs}
 use Rattle.noting.proofs.key.label.Statement.{statement}
 use Rattle.noting.proofs.key.label.Tie as tie

@@ -13,8 +13,8 @@ use Rattle.noting.proofs.notes.clear_notes.Tie as tie
 sets-start-requires : tie.Need-sets-start-requires
 sets-start-requires c κs = search needs
 
-stash-start-requires : tie.Need-stash-start-requires
-stash-start-requires c κs = search needs
+stashed-start-requires : tie.Need-stashed-start-requires
+stashed-start-requires c κs = search needs
 
 wide-requires : tie.Need-wide-requires
 wide-requires c κs = search needs
@@ -63,7 +63,7 @@ returns c =
     let r = p .args .r in
     let s = p .args .s in
     let x = d8 .before .before .sets-start in
-    let y = d8 .before .stash-start in
+    let y = d8 .before .stashed-start in
     let E = p .pre in
     let ys = d6 .fill .last .0 in
     let zs = c .before .before .fill2 .last .0 in
@@ -80,7 +80,7 @@ clear-notes-spec =
     tie.close
     (tie.spec
     sets-start-requires
-    stash-start-requires
+    stashed-start-requires
     wide-requires
     add-end
     mul-fill

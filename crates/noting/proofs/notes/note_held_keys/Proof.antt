@@ -4,8 +4,9 @@ use mathlib.Core.Path.{_≡_, refl}
 use native.Mathlib.Omega.{arith}
 use lib.ListN.{length}
 use borrow.Author.Needs.{needs}
+use Rattle.tabulation.specs.Hash.{tables}
 use Rattle.build.specs.Scratch.{parts}
-use Rattle.build.specs.Access.{tables, enough-kept, room-kept}
+use Rattle.build.specs.Access.{enough-kept, room-kept}
 use Rattle.build.specs.NotesCode.{NotesAt, notes-begin, notes-fit, notes-again, notes-end}
 use Rattle.noting.proofs.notes.note_held_keys.Statement.{statement}
 use Rattle.noting.proofs.notes.note_held_keys.Tie as tie

@@ -3,7 +3,7 @@ use Prim.Native.Nat.{_+_}
 use mathlib.Core.Path.{_≡_, sym, _∙_}
 use native.Mathlib.Omega.{arith}
 use borrow.Author.Needs.{needs}
-use Rattle.build.specs.Scratch.{stash-at}
+use Rattle.build.specs.Scratch.{stashed-at}
 use Rattle.build.specs.NotesCode.{key-held, key-first, key-full, key-stashed}
 use Rattle.noting.proofs.notes.note_key.Statement.{statement}
 use Rattle.noting.proofs.notes.note_key.Tie as tie
@@ -55,8 +55,8 @@ returns-3 c =
     let t = sym (d5 .before .is-held .ensures) ∙ d5 .if1 .left in
     key-full (p .pre .0) (p .args .count) (p .args .key) t (d3 .note-at .ensures) (c .before .if2 .left) (omega arith)
 
-stash-start-requires : tie.Need-stash-start-requires
-stash-start-requires c κs = search needs
+stashed-start-requires : tie.Need-stashed-start-requires
+stashed-start-requires c κs = search needs
 
 wide-requires : tie.Need-wide-requires
 wide-requires c κs = search needs
@@ -83,7 +83,7 @@ returns-4 c =
     let p = d7 .before .before .before .before .before in
     let a = p .args in
     let t = sym (d7 .before .is-held .ensures) ∙ d7 .if1 .left in
-    let at : c .before .stash-start .result + c .wide .result ≡ stash-at (a .r) (a .s) + a .count = rw (c .before .stash-start .ensures, c .wide .ensures) in
+    let at : c .before .stashed-start .result + c .wide .result ≡ stashed-at (a .r) (a .s) + a .count = rw (c .before .stashed-start .ensures, c .wide .ensures) in
     key-stashed (p .pre .0) (a .count) (a .key) t (d3 .before .before .note-at .ensures) (d3 .if2 .left) at (omega arith)
 
 pub note-key-spec : {M : Type 1} → statement M
@@ -102,7 +102,7 @@ note-key-spec =
     returns-2
     same-length-3
     returns-3
-    stash-start-requires
+    stashed-start-requires
     wide-requires
     add-free
     mul-scratch-2

@@ -4,8 +4,9 @@ use mathlib.Core.Path.{_≡_, sym, _∙_}
 use native.Mathlib.Omega.{arith}
 use lib.ListN.{length}
 use borrow.Author.Needs.{needs}
+use Rattle.tabulation.specs.Hash.{tables}
 use Rattle.build.specs.Scratch.{parts}
-use Rattle.build.specs.Access.{Enough, tables, enough-kept, room-kept}
+use Rattle.build.specs.Access.{Enough, enough-kept, room-kept}
 use Rattle.build.specs.NotesCode.{NotingAt, noting-begins, noting-fit, noting-ends, noting-again, noting-stops}
 use Rattle.noting.proofs.notes.note_keys.Statement.{statement}
 use Rattle.noting.proofs.notes.note_keys.Tie as tie

@@ -5,8 +5,8 @@ use borrow.Author.Needs.{needs}
 use Rattle.renewal.proofs.built.stash_part.Statement.{statement}
 use Rattle.renewal.proofs.built.stash_part.Tie as tie
 
-stash-start-requires : tie.Need-stash-start-requires
-stash-start-requires c κs = search needs
+stashed-start-requires : tie.Need-stashed-start-requires
+stashed-start-requires c κs = search needs
 
 wide-requires : tie.Need-wide-requires
 wide-requires c κs = search needs
@@ -27,13 +27,13 @@ part-result-end : tie.Need-part-result-end
 part-result-end c = search needs
 
 returns : tie.Need-returns
-returns c = (stash-lent _ _ _ (c .before .before .stash-start .ensures) (c .before .wide .ensures) refl, search needs)
+returns c = (stash-lent _ _ _ (c .before .before .stashed-start .ensures) (c .before .wide .ensures) refl, search needs)
 
 pub stash-part-spec : {M : Type 1} → statement M
 stash-part-spec =
     tie.close
     (tie.spec
-    stash-start-requires
+    stashed-start-requires
     wide-requires
     add-end
     mul-result

@@ -4,8 +4,9 @@ use mathlib.Core.Path.{_≡_, refl}
 use native.Mathlib.Omega.{arith}
 use lib.ListN.{length}
 use borrow.Author.Needs.{needs}
+use Rattle.tabulation.specs.Hash.{tables}
 use Rattle.build.specs.Scratch.{parts}
-use Rattle.build.specs.Access.{tables, enough-kept, room-kept, is-glue}
+use Rattle.build.specs.Access.{enough-kept, room-kept, is-glue}
 use Rattle.build.specs.FinishCode.{FinishedTo, finish-start, finish-turn, finish-done}
 use Rattle.seating.proofs.finish.finish_labels.Statement.{statement}
 use Rattle.seating.proofs.finish.finish_labels.Tie as tie

@@ -4,8 +4,9 @@ use mathlib.Core.Path.{sym, _∙_}
 use lib.ListN.{length-set}
 use borrow.Author.Tests.{not-true, not-false}
 use borrow.Author.Needs.{needs}
+use Rattle.tabulation.specs.Hash.{tables}
 use Rattle.build.specs.Scratch.{parts}
-use Rattle.build.specs.Access.{tables, NoteAt, note-from}
+use Rattle.build.specs.Access.{NoteAt, note-from}
 use Rattle.build.specs.NextCode.{label-at, chain-passed, chain-held}
 use Rattle.seating.proofs.next.chain_key.Statement.{statement}
 use Rattle.seating.proofs.next.chain_key.Tie as tie

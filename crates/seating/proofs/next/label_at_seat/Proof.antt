@@ -2,8 +2,9 @@
 use mathlib.Core.Path.{_≡_, _∙_}
 use native.Mathlib.Omega.{arith}
 use lib.ListN.{getD}
+use Rattle.tabulation.specs.Hash.{tables}
 use Rattle.build.specs.Scratch.{parts}
-use Rattle.build.specs.Access.{tables, next-part, part-word}
+use Rattle.build.specs.Access.{next-part, part-word}
 use Rattle.build.specs.NextCode.{label-at}
 use borrow.Author.Needs.{needs}
 use Rattle.seating.proofs.next.label_at_seat.Statement.{statement}

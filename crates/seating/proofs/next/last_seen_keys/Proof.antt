@@ -4,8 +4,9 @@ use mathlib.Core.Path.{_≡_, refl, _∙_, ap}
 use native.Mathlib.Omega.{arith}
 use lib.ListN.{length}
 use borrow.Author.Needs.{needs}
+use Rattle.tabulation.specs.Hash.{tables}
 use Rattle.build.specs.Scratch.{parts}
-use Rattle.build.specs.Access.{tables, enough-kept, room-kept, is-glue}
+use Rattle.build.specs.Access.{enough-kept, room-kept, is-glue}
 use Rattle.build.specs.NextCode.{seen-from, seen-start, seen-again}
 use Rattle.seating.proofs.next.last_seen_keys.Statement.{statement}
 use Rattle.seating.proofs.next.last_seen_keys.Tie as tie

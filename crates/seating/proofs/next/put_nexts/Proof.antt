@@ -1,12 +1,12 @@
 -- `next::put_nexts` meets its contract: the two calls one after the other are those of `put-next`.
 use mathlib.Core.Path.{_≡_, _∙_, ap}
 use native.Mathlib.Omega.{arith}
+use Rattle.tabulation.specs.Hash.{tables}
 use Rattle.tabulation.specs.Slots.{slot-0, slot-1}
-use Rattle.forest.specs.Held.{slots-fit}
+use Rattle.forest.specs.HeldForest.{slots-fit}
 use Rattle.build.specs.Next.{put-at, put-next}
 use Rattle.build.specs.Scratch.{Parts, parts, with-next}
 use borrow.Author.Needs.{needs}
-use Rattle.build.specs.Access.{tables}
 use Rattle.seating.proofs.next.put_nexts.Statement.{statement}
 use Rattle.seating.proofs.next.put_nexts.Tie as tie
 

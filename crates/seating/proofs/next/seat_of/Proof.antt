@@ -2,8 +2,8 @@
 use mathlib.Core.Path.{_∙_}
 use native.Mathlib.Omega.{arith}
 use borrow.Author.Needs.{needs}
-use Rattle.forest.specs.Held.{slots-fit}
-use Rattle.build.specs.Access.{tables}
+use Rattle.tabulation.specs.Hash.{tables}
+use Rattle.forest.specs.HeldForest.{slots-fit}
 use Rattle.build.specs.NextCode.{seat-first, seat-second}
 use Rattle.seating.proofs.next.seat_of.Statement.{statement}
 use Rattle.seating.proofs.next.seat_of.Tie as tie

@@ -15,11 +15,11 @@ use Rattle.lines.specs.Command.{longest}
 use Rattle.lines.specs.declared.Line.{Line}
 
 -- after the bytes l of a line: how many they are, up to one more than the longest line of a known form, and which, if they are not more than that
-pub record Holds (line : Line) (l : List ℕ) : Type 0 where
+pub record Buffers (line : Line) (l : List ℕ) : Type 0 where
   pub counted : line .count ≡ min (length l) (suc longest)
   pub kept : length l ≤ longest → take (length l) (line .bytes) ≡ l
 
-module _ (line : Line) (l : List ℕ) (h : Holds line l) where
+module _ (line : Line) (l : List ℕ) (h : Buffers line l) where
   -- the bytes, and that there are too many
   pub held : line .count ≤ longest → take (line .count) (line .bytes) ≡ l
   held k = let e : line .count ≡ length l = omega (arith, h .counted) in rw e (h .kept (omega (arith, h .counted)))
@@ -29,7 +29,7 @@ module _ (line : Line) (l : List ℕ) (h : Holds line l) where
 
   -- one byte more, where there is room and where there is none
   pub holds-more : (b : ℕ) → length (line .bytes) ≡ longest → line .count < longest
-      → Holds (record { bytes = set (line .bytes) (line .count) b; count = line .count + 1 }) (l ++ (b ∷ []))
+      → Buffers (record { bytes = set (line .bytes) (line .count) b; count = line .count + 1 }) (l ++ (b ∷ []))
   holds-more b f k =
       let e : line .count ≡ length l = omega (arith, h .counted) in
       let n : length l < length (line .bytes) = omega arith in
@@ -38,7 +38,7 @@ module _ (line : Line) (l : List ℕ) (h : Holds line l) where
         kept = λ _. rw (length-append, e, add-one, take-suc-set) (ap (λ (p : List ℕ). p ++ (b ∷ [])) (h .kept (omega arith)));
       }
 
-  pub holds-over : (b : ℕ) → longest ≤ line .count → Holds (record { bytes = line .bytes; count = 22 }) (l ++ (b ∷ []))
+  pub holds-over : (b : ℕ) → longest ≤ line .count → Buffers (record { bytes = line .bytes; count = 22 }) (l ++ (b ∷ []))
   holds-over b k = record {
     counted = rw length-append (omega (arith, h .counted));
     kept = λ m. absurd (omega (arith, h .counted, length-append l (b ∷ [])));
