@@ -1,7 +1,7 @@
 -- The steps of insert, remove and check as definitions: what a set that was read leads to. The contracts of the inner functions cite them, and the laws at the
 -- end put them together with reading and renewing to the outcomes. Assumes nothing.
 use Prim.Native.Nat.{ℕ, _+_, _*_, _≤_, _<_}
-use mathlib.Core.Path.{_≡_, refl, sym, _∙_}
+use mathlib.Core.Path.{_≡_, refl, sym, _∙_, ap}
 use mathlib.Core.Bool.{Bool, true, false, not, cond, false≢true}
 use mathlib.Core.Logic.{inl, inr}
 use mathlib.Core.List.{List, [], _∷_, _++_}
@@ -13,7 +13,7 @@ use lib.Seq.{length-take-le}
 use Rattle.basics.specs.Tests.{eq?}
 use Rattle.basics.specs.Sets.{member, without, Asc}
 use Rattle.ordered.specs.Keys.{with-key}
-use Rattle.refusals.specs.Refusal.{done, wrong-tabulation, wrong-shape, short-scratch, not-canonical, blank-key, key-present, key-absent, stash-full, first-refusal, front-applies}
+use Rattle.refusals.specs.Refusal.{done, not-canonical, blank-key, key-present, key-absent, stash-full, first-refusal, front-applies}
 use Rattle.tabulation.specs.Hash.{tabulation-length, blank}
 use Rattle.layout.specs.Layout.{ValidSet, params-of, slots-of, places-of, scratch-length, shaped, fits, image, keys-in}
 use Rattle.layout.specs.Canonical.{canonical, canonical-true}
@@ -24,12 +24,12 @@ use Rattle.codec.specs.Collect.{keys-in-few}
 use Rattle.build.specs.Outcome.{Buildable}
 use Rattle.outcome.specs.declared.Change.{Change}
 use Rattle.outcome.specs.declared.Change.the-variants.{Insert, Remove}
-use Rattle.outcome.specs.Outcome.{changed, set-refusals, change-refusal, change-outcome, check-outcome}
-use Rattle.outcome.specs.Laws.{Ready, change-refused}
+use Rattle.outcome.specs.Outcome.{early-refusals, changed, set-refusals, change-refusal, change-outcome, check-outcome}
+use Rattle.outcome.specs.Laws.{Ready, change-refused, check-ready, change-ready, change-set}
 use Rattle.outcome.specs.Held.{one-too-many, changed-valid}
 use Rattle.renewal.specs.declared.Reading.{Reading}
 use Rattle.renewal.specs.declared.Reading.the-variants.{Keys, NotCanonical}
-use Rattle.renewal.specs.Reading.{early-refusals, early-refusal, number, values, reading-refusal, reading-values, new-answer, new-words, set-buildable, told-tampered, told-keys}
+use Rattle.renewal.specs.Reading.{early-refusal, number, values, reading-refusal, reading-values, new-answer, new-words, set-buildable, told-tampered, told-keys}
 
 -- The words can be read, they are canonical, their n keys stand at the front of scratch, and the key is not blank.
 pub record Settable (tabulation ws scratch : List ℕ) (n key : ℕ) : Type 0 where
@@ -141,31 +141,14 @@ module _ (tabulation ws scratch : List ℕ) where
         sym (front-applies (early-refusals tabulation ws (length scratch))
         ((not-canonical, not (canonical tabulation ws)) ∷ (blank-key, blank key) ∷ set-refusals kind (params-of tabulation ws) key (keys-in ws)) early)
 
-  -- and where none does
-  module _ (ready : Ready tabulation ws scratch) where
-    full-test : eqb (length tabulation) tabulation-length ≡ true
-    full-test = eq-eqb _ _ (ready .full-length)
-
-    room-test : ltb (length scratch) (scratch-length (slots-of ws) (places-of ws)) ≡ false
-    room-test = le-ltb _ _ (ready .room)
-
-    check-ready : cond (not (canonical tabulation ws)) not-canonical done ≡ check-outcome tabulation ws scratch .answer
-    unfolding check-outcome
-    check-ready = rw (full-test, ready .shape, room-test)
-
-    change-ready : (kind : Change) (key : ℕ)
-        → cond (not (canonical tabulation ws)) not-canonical (cond (blank key) blank-key (set-answer kind tabulation ws key))
-        ≡ change-outcome kind tabulation ws scratch key .answer
-    unfolding change-outcome change-refusal
-    change-ready kind key = rw (full-test, ready .shape, room-test)
-
 -- check, once its words are read
 module _ {tabulation ws scratch : List ℕ} (ready : Ready tabulation ws scratch) {l : Reading} where
   pub checked-tampered : number l ≡ reading-refusal tabulation ws → l ≡ NotCanonical → not-canonical ≡ check-outcome tabulation ws scratch .answer
-  checked-tampered numbered e = rw (told-tampered tabulation ws numbered e) at (check-ready tabulation ws scratch ready)
+  checked-tampered numbered e =
+      sym (check-ready tabulation ws scratch ready ∙ (rw (told-tampered tabulation ws numbered e)))
 
   pub checked-keys : values l ≡ reading-values tabulation ws → {n : ℕ} → l ≡ Keys n → done ≡ check-outcome tabulation ws scratch .answer
-  checked-keys valued e = rw (told-keys tabulation ws valued e .0) at (check-ready tabulation ws scratch ready)
+  checked-keys valued e = sym (check-ready tabulation ws scratch ready ∙ (rw (told-keys tabulation ws valued e .0)))
 
 -- the set of the words can be changed
 pub settable : {tabulation ws before scratch : List ℕ} {n key : ℕ} {l : Reading} {b : Bool}
@@ -200,12 +183,14 @@ module _ (tabulation ws scratch : List ℕ) (kind : Change) (key : ℕ) where
     -- 4
     pub left-tampered : number l ≡ reading-refusal tabulation ws → l ≡ NotCanonical → Left not-canonical ws
     left-tampered numbered e =
-        left-refused (rw (told-tampered tabulation ws numbered e) at (change-ready tabulation ws scratch ready kind key)) (λ q. omega arith)
+        left-refused (sym (change-ready tabulation ws scratch kind key ready ∙ (rw (told-tampered tabulation ws numbered e))))
+        (λ q. omega arith)
 
     -- 5
     pub left-blank : values l ≡ reading-values tabulation ws → {n : ℕ} {b : Bool} → l ≡ Keys n → b ≡ true → b ≡ blank key → Left blank-key ws
     left-blank valued e t test =
-        left-refused (rw (told-keys tabulation ws valued e .0, sym test ∙ t) at (change-ready tabulation ws scratch ready kind key)) (λ q. omega arith)
+        left-refused (sym (change-set tabulation ws scratch kind key ready (told-keys tabulation ws valued e .0) ∙ (rw (sym test ∙ t))))
+        (λ q. omega arith)
 
   -- what the set decides
   pub left-set : {mid : List ℕ} {n a : ℕ} {us : List ℕ} → Ready tabulation ws scratch → Settable tabulation ws mid n key
@@ -213,5 +198,5 @@ module _ (tabulation ws scratch : List ℕ) (kind : Change) (key : ℕ) where
   unfolding change-outcome
   left-set ready Z e =
       let r : set-answer kind tabulation ws key ≡ change-refusal kind tabulation ws scratch key =
-      rw (Z .image, Z .not-blank) at (change-ready tabulation ws scratch ready kind key) in
+      rw (Z .not-blank) at (sym (change-set tabulation ws scratch kind key ready (Z .image))) in
       (e .0 ∙ r, rw (← r) (e .1))

@@ -4,7 +4,7 @@
 -- of History.antt; the proofs stand below them. Assumes nothing.
 use Prim.Native.Nat.{ℕ, _≤_}
 use mathlib.Core.Path.{_≡_, refl, sym, _∙_, ap}
-use mathlib.Core.Bool.{false, not, cond, true≢false}
+use mathlib.Core.Bool.{Bool, false, not, cond, true≢false}
 use mathlib.Core.Logic.{_⊎_, inl, inr, _↔_}
 use mathlib.Core.List.{List, [], _∷_, _++_}
 use native.Mathlib.Omega.{arith}
@@ -14,7 +14,7 @@ use Rattle.basics.specs.Tests.{test}
 use Rattle.basics.specs.Sets.{member}
 use Rattle.cuckoo.specs.Placement.{Placement}
 use Rattle.ordered.specs.Keys.{with-key}
-use Rattle.refusals.specs.Refusal.{done, stash-full, first-refusal, passed-over}
+use Rattle.refusals.specs.Refusal.{done, wrong-tabulation, short-scratch, blank-key, key-present, stash-full, first-refusal, none, and, front-passes, front-none}
 use Rattle.tabulation.specs.Hash.{blank}
 use Rattle.tabulation.specs.Slots.{slot-0, slot-1}
 use Rattle.layout.specs.Layout.{Params, family, scratch-length, fits, image}
@@ -161,20 +161,25 @@ module _ {P : Params} {ws : List ℕ} {cs : List Call} (q : Sequence P ws cs)
   unfolding step
   insert-number = change-number (history q .final) (q .full-length) Insert l scratch key
 
-  come : ComesToFull P S l (length scratch) key → answer ≡ cond (not (fits P (with-key key S))) stash-full done
-  come h = insert-number ∙ (rw (h .right-length, h .long-enough, h .not-blank, h .absent))
+  -- its refusals before 8, and 8
+  abbrev before-full : List (ℕ × Bool)
+  before-full =
+      (wrong-tabulation, wrong-length P l) ∷ (short-scratch, too-short P (length scratch)) ∷ (blank-key, blank key)
+      ∷ (key-present, member key S) ∷ []
+
+  abbrev full-test : List (ℕ × Bool)
+  full-test = (stash-full, not (fits P (with-key key S))) ∷ []
+
+  come : ComesToFull P S l (length scratch) key → answer ≡ first-refusal full-test
+  come h =
+      insert-number
+      ∙ front-passes before-full full-test (and (h .right-length) (and (h .long-enough) (and (h .not-blank) (and (h .absent) none))))
 
   came : (answer ≡ done) ⊎ (answer ≡ stash-full) → ComesToFull P S l (length scratch) key
   came d =
-      let not-1 : answer ≡ 1 → ⊥ = λ z. elim d [ inl e ↦ omega arith | inr e ↦ omega arith ] in
-      let not-3 : answer ≡ 3 → ⊥ = λ z. elim d [ inl e ↦ omega arith | inr e ↦ omega arith ] in
-      let not-5 : answer ≡ 5 → ⊥ = λ z. elim d [ inl e ↦ omega arith | inr e ↦ omega arith ] in
-      let not-6 : answer ≡ 6 → ⊥ = λ z. elim d [ inl e ↦ omega arith | inr e ↦ omega arith ] in
-      let a = passed-over (wrong-length P l) (sym insert-number) not-1 in
-      let b = passed-over (too-short P (length scratch)) (a .1) not-3 in
-      let c = passed-over (blank key) (b .1) not-5 in
-      let m = passed-over (member key S) (c .1) not-6 in
-      record { right-length = a .0; long-enough = b .0; not-blank = c .0; absent = m .0 }
+      elim (front-none before-full full-test (sym insert-number) (elim d [ inl e ↦ rw e | inr e ↦ rw e ])) [
+        | and a (and b (and c (and m none))) ↦ record { right-length = a; long-enough = b; not-blank = c; absent = m }
+      ]
 
   -- An insert comes to the test of 8 exactly if it answers 0 or 8: if none of the refusals before 8 is given.
   pub comes-answers : ComesToFull P S l (length scratch) key ↔ ((answer ≡ done) ⊎ (answer ≡ stash-full))

@@ -1,17 +1,17 @@
 -- What the shape of words means, as facts about numbers: for callers, which use these laws and not the text of `shaped`.
 use Prim.Native.Nat.{ℕ, _≤_, _<_}
-use mathlib.Core.Path.{_≡_}
+use mathlib.Core.Path.{_≡_, refl}
 use mathlib.Core.Bool.{true, not, _&&_}
-use mathlib.Core.List.{List}
+use mathlib.Core.List.{List, []}
 use native.Mathlib.Omega.{arith}
 use borrow.Author.Tests.{leb-true, eqb-true, le-leb, eq-eqb, ltb-false, not-false}
 use lib.Dec.{leb, ltb}
 use lib.ListN.{length}
 use Rattle.basics.specs.Tests.{and-true}
-use Rattle.refusals.specs.Refusal.{passed-over}
+use Rattle.refusals.specs.Refusal.{none, and, front-none}
 use Rattle.tabulation.specs.Hash.{slots-in-range, max-slots, in-range-pos, in-range-max, range-in}
 use Rattle.layout.specs.Layout.{header-length, slots-of, places-of, stash-count, max-places, sizes-in-range, shaped, words-length}
-use Rattle.layout.specs.Answers.{view-refusal}
+use Rattle.layout.specs.Answers.{view-refusals, view-refusal}
 
 -- r and s are in their ranges
 pub record Sized (r s : ℕ) : Type 0 where
@@ -55,6 +55,4 @@ pub record Viewed (ws : List ℕ) : Type 0 where
 pub viewed : (ws : List ℕ) → view-refusal ws ≡ 0 → Viewed ws
 unfolding view-refusal
 viewed ws e =
-    let a = passed-over (not (shaped ws)) e (λ q. omega arith) in
-    let b = passed-over (ltb (places-of ws) (stash-count ws)) (a .1) (λ q. omega arith) in
-    record { shape = shape ws (not-false _ (a .0)); filled = ltb-false _ _ (b .0) }
+    elim (front-none (view-refusals ws) [] e refl) [ and a (and b none) ↦ record { shape = shape ws (not-false _ a); filled = ltb-false _ _ b } ]

@@ -15,7 +15,7 @@ use Rattle.basics.specs.Sets.{member, member-in, in-member, out-in, out-ne, in-
 use Rattle.cuckoo.specs.Placement.{Placement}
 use Rattle.ordered.specs.Keys.{with-key}
 use Rattle.ordered.specs.Place.{with-cases, with-here, with-there, asc-with, with-same, without-with, length-with}
-use Rattle.refusals.specs.Refusal.{done, short-scratch, blank-key, key-present, key-absent, stash-full, first-refusal, passed-over}
+use Rattle.refusals.specs.Refusal.{done, short-scratch, blank-key, key-present, key-absent, stash-full, first-refusal, none, and, front-none}
 use Rattle.tabulation.specs.Hash.{tabulation-length, blank}
 use Rattle.tabulation.specs.Slots.{slot-0, slot-1}
 use Rattle.layout.specs.Layout.{Params, ValidSet, family, params-of, slots-of, places-of, scratch-length, sizes-in-range, shaped, fits, image, keys-in}
@@ -29,7 +29,7 @@ use Rattle.layout.specs.Fitting.{without-valid, without-fits, fits-length, fits
 use Rattle.outcome.specs.declared.Change.{Change}
 use Rattle.outcome.specs.declared.Change.the-variants.{Insert, Remove}
 use Rattle.outcome.specs.Outcome.{changed, set-refusals, change-refusal, change-outcome, check-outcome}
-use Rattle.outcome.specs.Laws.{Ready, change-answer, change-done, change-set, change-passed}
+use Rattle.outcome.specs.Laws.{Ready, change-done, change-set, change-passed}
 
 -- The words are a dictionary that holds S: r and s are in their ranges, and the words are the image of S, a set that fits.
 pub record Holds (P : Params) (S ws : List ℕ) : Type 0 where
@@ -96,24 +96,18 @@ one-too-many P key {S} some valid b m l = elim (test (fits P (with-key key S))) 
 -- what is known where no refusal of the set is given, or 8
 module _ (P : Params) (key : ℕ) (S : List ℕ) where
   insert-tried : {n : ℕ} → first-refusal ((blank-key, blank key) ∷ set-refusals Insert P key S) ≡ n → (n ≡ done) ⊎ (n ≡ stash-full)
-      → (blank key ≡ false) × (member key S ≡ false) × (cond (not (fits P (with-key key S))) stash-full done ≡ n)
+      → (blank key ≡ false) × (member key S ≡ false)
   insert-tried e d =
-      let a = passed-over (blank key) e (λ q. elim d [ inl z ↦ omega arith | inr z ↦ omega arith ]) in
-      let b = passed-over (member key S) (a .1) (λ q. elim d [ inl z ↦ omega arith | inr z ↦ omega arith ]) in
-      (a .0, b .0, b .1)
+      elim (front-none ((blank-key, blank key) ∷ (key-present, member key S) ∷ []) ((stash-full, not (fits P (with-key key S))) ∷ []) e
+      (elim d [ inl z ↦ rw z | inr z ↦ rw z ])) [ and b (and m none) ↦ (b, m) ]
 
   insert-accepts : first-refusal ((blank-key, blank key) ∷ set-refusals Insert P key S) ≡ done
       → (blank key ≡ false) × (member key S ≡ false) × (fits P (with-key key S) ≡ true)
   insert-accepts e =
-      let a = insert-tried e (inl refl) in
-      let b = passed-over (not (fits P (with-key key S))) (a .2) (λ q. omega arith) in
-      (a .0, a .1, not-false _ (b .0))
+      elim (front-none ((blank-key, blank key) ∷ set-refusals Insert P key S) [] e refl) [ and b (and m (and f none)) ↦ (b, m, not-false _ f) ]
 
   remove-accepts : first-refusal ((blank-key, blank key) ∷ set-refusals Remove P key S) ≡ done → (blank key ≡ false) × (member key S ≡ true)
-  remove-accepts e =
-      let a = passed-over (blank key) e (λ q. omega arith) in
-      let b = passed-over (not (member key S)) (a .1) (λ q. omega arith) in
-      (a .0, not-false _ (b .0))
+  remove-accepts e = elim (front-none ((blank-key, blank key) ∷ set-refusals Remove P key S) [] e refl) [ and b (and m none) ↦ (b, not-false _ m) ]
 
 -- A change that is not refused leads to a set that fits: an insert since 8 was tried, a removal in any case.
 accepts-fits : (kind : Change) (P : Params) (key : ℕ) {S : List ℕ} → ValidSet S → fits P S ≡ true
@@ -210,8 +204,8 @@ change-accepted kind tabulation ws scratch key e =
     let P = params-of tabulation ws in
     let p = change-passed tabulation ws scratch kind key (inl e) in
     let held = passed-holds tabulation ws (p .0 .shape) (p .1) in
-    let none = sym (change-set tabulation ws scratch kind key (p .0) (p .1)) ∙ (sym (change-answer tabulation ws scratch kind key) ∙ e) in
-    let a = accepts-fits kind P key (keys-in-valid ws) (held .is .fit) none in
+    let passed = sym (change-set tabulation ws scratch kind key (p .0) (p .1)) ∙ e in
+    let a = accepts-fits kind P key (keys-in-valid ws) (held .is .fit) passed in
     record {
       range = held .range;
       is = record { valid = changed-valid kind key (a .0) (keys-in-valid ws); fit = a .1; is = change-done tabulation ws scratch kind key e };
@@ -256,7 +250,7 @@ held-tried : {P : Params} {S ws : List ℕ} → Holds P S ws → (scratch : List
 held-tried {P} {S} {ws} h scratch key d =
     let t = P .tabulation in
     let p = change-passed t ws scratch Insert key (elim d [ inl e ↦ inl e | inr e ↦ inr (omega arith) ]) in
-    let e = sym (change-set t ws scratch Insert key (p .0) (p .1)) ∙ sym (change-answer t ws scratch Insert key) in
+    let e = sym (change-set t ws scratch Insert key (p .0) (p .1)) in
     let q = insert-tried (params-of t ws) key (keys-in ws) e d in
     (p .0, q .0, rw (held-keys h) at (q .1))
 

@@ -2,7 +2,7 @@
 -- refusal leaves, and that the scratch matters by its length alone. Assumes nothing.
 use Prim.Native.Nat.{ℕ, _≤_, _<_}
 use mathlib.Core.Path.{_≡_, refl, sym, _∙_, ap}
-use mathlib.Core.Bool.{Bool, true, false, not, cond}
+use mathlib.Core.Bool.{Bool, true, false, not, cond, true≢false}
 use mathlib.Core.Logic.{_⊎_, inl, inr, _↔_}
 use mathlib.Core.List.{List, [], _∷_, _++_, List·Memᴰ as In, List·Memᴰ·head as here, List·Memᴰ·tail as there}
 use native.Mathlib.Omega.{arith}
@@ -10,13 +10,14 @@ use borrow.Author.Tests.{eqb-true, eq-eqb, ne-eqb, ltb-false, lt-ltb, le-ltb, no
 use lib.Dec.{eqb, ltb}
 use lib.ListN.{length, replicate}
 use Rattle.basics.specs.Tests.{test}
-use Rattle.refusals.specs.Refusal.{done, wrong-tabulation, wrong-shape, short-scratch, not-canonical, blank-key, first-refusal, numbers, first-refusal-in, passed-over}
+use Rattle.basics.specs.Sets.{member}
+use Rattle.refusals.specs.Refusal.{done, wrong-tabulation, wrong-shape, short-scratch, not-canonical, blank-key, first-refusal, None, none, and, numbers, first-refusal-in, front-passes, none-applies, front-none}
 use Rattle.tabulation.specs.Hash.{tabulation-length, blank}
 use Rattle.layout.specs.Layout.{Params, params-of, slots-of, places-of, scratch-length, shaped, image, keys-in}
 use Rattle.layout.specs.Canonical.{canonical, ImageOf, canonical-iff, not-canonical-iff}
 use Rattle.outcome.specs.declared.Change.{Change}
 use Rattle.outcome.specs.declared.Change.the-variants.{Insert, Remove}
-use Rattle.outcome.specs.Outcome.{Outcome, changed, set-refusals, first-refusals, change-refusal, change-outcome, check-outcome}
+use Rattle.outcome.specs.Outcome.{Outcome, changed, set-refusals, early-refusals, first-refusals, change-refusal, change-outcome, check-outcome}
 
 -- the numbers
 
@@ -100,9 +101,9 @@ module _ (tabulation ws scratch scratch′ : List ℕ) (same : length scratch �
 abbrev pub Late : ℕ → Type 0
 Late n = (n ≡ done) ⊎ (not-canonical < n)
 
-not-late : (n : ℕ) → Late n → (0 < n) × (n ≤ not-canonical) → ⊥
-not-late n (inl e) h = omega arith
-not-late n (inr l) h = omega arith
+late-other : {n : ℕ} → Late n → member n (wrong-tabulation ∷ wrong-shape ∷ short-scratch ∷ not-canonical ∷ []) ≡ false
+late-other (inl e) = rw e
+late-other {n} (inr l) = rw (ne-eqb n 1 (omega arith), ne-eqb n 2 (omega arith), ne-eqb n 3 (omega arith), ne-eqb n 4 (omega arith))
 
 module _ (tabulation ws scratch : List ℕ) where
   -- none of 1 to 3 applies
@@ -111,6 +112,20 @@ module _ (tabulation ws scratch : List ℕ) where
     pub shape : shaped ws ≡ true
     pub room : scratch-length (slots-of ws) (places-of ws) ≤ length scratch
 
+  pub ready-none : Ready → None (early-refusals tabulation ws (length scratch))
+  ready-none h = and (ap not (eq-eqb _ _ (h .full-length))) (and (ap not (h .shape)) (and (le-ltb _ _ (h .room)) none))
+
+  pub none-ready : None (early-refusals tabulation ws (length scratch)) → Ready
+  none-ready (and a (and b (and c none))) = record { full-length = eqb-true _ _ (not-false _ a); shape = not-false _ b; room = ltb-false _ _ c }
+
+  -- nor does 4
+  none-canonical : None (first-refusals tabulation ws scratch) → Ready × (canonical tabulation ws ≡ true)
+  none-canonical (and a (and b (and c (and d none)))) = (none-ready (and a (and b (and c none))), not-false _ d)
+
+  canonical-none : Ready → canonical tabulation ws ≡ true → None (first-refusals tabulation ws scratch)
+  canonical-none h c = elim (ready-none h) [ and x (and y (and z none)) ↦ and x (and y (and z (and (ap not c) none))) ]
+
+  -- 1 to 3, and what comes after them, where `rest` comes after 4
   module _ (rest : List (ℕ × Bool)) where
     abbrev head : ℕ
     head = first-refusal (first-refusals tabulation ws scratch ++ rest)
@@ -126,27 +141,13 @@ module _ (tabulation ws scratch : List ℕ) where
     head-scratch e f l =
         rw (eq-eqb (length tabulation) tabulation-length e, f, lt-ltb (length scratch) (scratch-length (slots-of ws) (places-of ws)) l)
 
-    head-ready : Ready → head ≡ cond (not (canonical tabulation ws)) not-canonical (first-refusal rest)
+    head-ready : Ready → head ≡ first-refusal ((not-canonical, not (canonical tabulation ws)) ∷ rest)
     head-ready h =
-        rw (
-          eq-eqb (length tabulation) tabulation-length (h .full-length),
-          h .shape,
-          le-ltb (length scratch) (scratch-length (slots-of ws) (places-of ws)) (h .room),
-        )
+        front-passes (early-refusals tabulation ws (length scratch)) ((not-canonical, not (canonical tabulation ws)) ∷ rest) (ready-none h)
 
     -- where none of 1 to 4 is given, none of them applies
     head-passed : Late head → Ready × (canonical tabulation ws ≡ true)
-    head-passed late =
-        let l = length scratch in
-        let L = scratch-length (slots-of ws) (places-of ws) in
-        let e : head ≡ head = refl in
-        let a = passed-over (not (eqb (length tabulation) tabulation-length)) e (λ q. not-late head late (omega arith)) in
-        let b = passed-over (not (shaped ws)) (a .1) (λ q. not-late head late (omega arith)) in
-        let c = passed-over (ltb l L) (b .1) (λ q. not-late head late (omega arith)) in
-        let d = passed-over (not (canonical tabulation ws)) (c .1) (λ q. not-late head late (omega arith)) in (
-          record { full-length = eqb-true (length tabulation) tabulation-length (not-false _ (a .0)); shape = not-false _ (b .0); room = ltb-false l L (c .0) },
-          not-false _ (d .0),
-        )
+    head-passed late = none-canonical (front-none (first-refusals tabulation ws scratch) rest refl (late-other late))
 
 -- none of 1 to 4 is among the refusals of a change that come after them
 late-first : (rs : List (ℕ × Bool)) → ((n : ℕ) → In n (numbers rs) → not-canonical < n) → Late (first-refusal rs)
@@ -185,11 +186,16 @@ module _ (tabulation ws scratch : List ℕ) where
     unfolding change-outcome change-refusal
     change-short = head-scratch tabulation ws scratch rest
 
-    -- the other rows look at the set
+    -- then 4 is tried,
+    pub change-ready : Ready tabulation ws scratch
+        → change-outcome kind tabulation ws scratch key .answer ≡ first-refusal ((not-canonical, not (canonical tabulation ws)) ∷ later-refusals kind tabulation ws key)
+    unfolding change-outcome change-refusal
+    change-ready = head-ready tabulation ws scratch rest
+
+    -- and the other rows look at the set
     pub change-set : Ready tabulation ws scratch → canonical tabulation ws ≡ true
-        → change-refusal kind tabulation ws scratch key ≡ first-refusal (later-refusals kind tabulation ws key)
-    unfolding change-refusal
-    change-set h c = head-ready tabulation ws scratch rest h ∙ (rw c)
+        → change-outcome kind tabulation ws scratch key .answer ≡ first-refusal (later-refusals kind tabulation ws key)
+    change-set h c = change-ready h ∙ (rw c)
 
     -- and then the words have passed
     pub change-passed : Late (change-outcome kind tabulation ws scratch key .answer) → Ready tabulation ws scratch × (canonical tabulation ws ≡ true)
@@ -197,15 +203,12 @@ module _ (tabulation ws scratch : List ℕ) where
     change-passed = head-passed tabulation ws scratch rest
 
     pub change-tampered : Ready tabulation ws scratch → (change-outcome kind tabulation ws scratch key .answer ≡ not-canonical) ↔ Tampered
-    unfolding change-outcome change-refusal
     change-tampered h = (
       λ e. not-canonical-iff tabulation ws (h .shape) .0 (elim (test (canonical tabulation ws)) [
-        | inl c ↦
-            let late = rw (← change-set h c, change-answer tabulation ws scratch kind key, e) at (rest-late kind (params-of tabulation ws) key (keys-in ws)) in
-            absurd (not-late not-canonical late (omega arith))
+        | inl c ↦ absurd (true≢false (late-other (rw (← change-set h c, e) at (rest-late kind (params-of tabulation ws) key (keys-in ws)))))
         | inr c ↦ c
       ]),
-      λ n. let c = not-canonical-iff tabulation ws (h .shape) .1 n in head-ready tabulation ws scratch rest h ∙ (rw c),
+      λ n. let c = not-canonical-iff tabulation ws (h .shape) .1 n in change-ready h ∙ (rw c),
     )
 
   -- rows 1 to 4 of check, and its 0
@@ -222,17 +225,17 @@ module _ (tabulation ws scratch : List ℕ) where
   unfolding check-outcome
   check-short = head-scratch tabulation ws scratch []
 
-  check-canonical : Ready tabulation ws scratch → check-outcome tabulation ws scratch .answer ≡ cond (not (canonical tabulation ws)) not-canonical done
+  pub check-ready : Ready tabulation ws scratch → check-outcome tabulation ws scratch .answer ≡ first-refusal ((not-canonical, not (canonical tabulation ws)) ∷ [])
   unfolding check-outcome
-  check-canonical = head-ready tabulation ws scratch []
+  check-ready = head-ready tabulation ws scratch []
 
   pub check-tampered : Ready tabulation ws scratch → (check-outcome tabulation ws scratch .answer ≡ not-canonical) ↔ Tampered
   check-tampered h = (
     λ e. not-canonical-iff tabulation ws (h .shape) .0 (elim (test (canonical tabulation ws)) [
-      | inl c ↦ absurd (let z = rw c at (sym (check-canonical h) ∙ e) in omega arith)
+      | inl c ↦ absurd (let z = rw c at (sym (check-ready h) ∙ e) in omega arith)
       | inr c ↦ c
     ]),
-    λ n. let c = not-canonical-iff tabulation ws (h .shape) .1 n in check-canonical h ∙ (rw c),
+    λ n. let c = not-canonical-iff tabulation ws (h .shape) .1 n in check-ready h ∙ (rw c),
   )
 
   pub check-done : (check-outcome tabulation ws scratch .answer ≡ done)
@@ -240,5 +243,5 @@ module _ (tabulation ws scratch : List ℕ) where
   unfolding check-outcome
   check-done = (
     λ e. let p = head-passed tabulation ws scratch [] (inl e) in (p .0, canonical-iff tabulation ws (p .0 .shape) .0 (p .1)),
-    λ h. let c = canonical-iff tabulation ws (h .0 .shape) .1 (h .1) in head-ready tabulation ws scratch [] (h .0) ∙ (rw c),
+    λ h. let c = canonical-iff tabulation ws (h .0 .shape) .1 (h .1) in none-applies (first-refusals tabulation ws scratch) (canonical-none tabulation ws scratch (h .0) c),
   )

@@ -29,14 +29,18 @@ abbrev pub set-refusals : Change → Params → ℕ → List ℕ → List (ℕ �
 set-refusals Insert P key S = (key-present, member key S) ∷ (stash-full, not (fits P (with-key key S))) ∷ []
 set-refusals Remove P key S = (key-absent, not (member key S)) ∷ []
 
--- the refusals that insert, remove and check have in common: "wrong book", "wrong shape", "short sheet", "tampered"
-abbrev pub first-refusals : List ℕ → List ℕ → List ℕ → List (ℕ × Bool)
-first-refusals tabulation ws scratch =
+-- the refusals that need no set: "wrong book", "wrong shape", and "short sheet", of scratch of n words
+abbrev pub early-refusals : List ℕ → List ℕ → ℕ → List (ℕ × Bool)
+early-refusals tabulation ws n =
     (wrong-tabulation, not (eqb (length tabulation) tabulation-length))
     ∷ (wrong-shape, not (shaped ws))
-    ∷ (short-scratch, ltb (length scratch) (scratch-length (slots-of ws) (places-of ws)))
-    ∷ (not-canonical, not (canonical tabulation ws))
+    ∷ (short-scratch, ltb n (scratch-length (slots-of ws) (places-of ws)))
     ∷ []
+
+-- those that insert, remove and check have in common: these, and "tampered"
+abbrev pub first-refusals : List ℕ → List ℕ → List ℕ → List (ℕ × Bool)
+first-refusals tabulation ws scratch =
+    early-refusals tabulation ws (length scratch) ++ ((not-canonical, not (canonical tabulation ws)) ∷ [])
 
 -- "the set": the keys that stand in the words. Where it is looked at, the words are its image (the law `canonical-iff` of layout).
 unfoldable pub change-refusal : Change → List ℕ → List ℕ → List ℕ → ℕ → ℕ

@@ -1,9 +1,12 @@
 -- Refusals, document 01's "What a call gives back": the numbers of the table, and that "they are tried in this order". Every call lists
 -- its refusals as pairs of a number and a test; what it answers is the first of them that applies. Assumes nothing.
 use Prim.Native.Nat.{ℕ}
-use mathlib.Core.Path.{_≡_, refl, sym}
-use mathlib.Core.Bool.{Bool, true, false, cond}
+use mathlib.Core.Path.{_≡_, refl, sym, _∙_}
+use mathlib.Core.Bool.{Bool, true, false, cond, true≢false}
+use mathlib.Core.Logic.{inl, inr}
 use mathlib.Core.List.{List, [], _∷_, _++_, map, List·Memᴰ as In, List·Memᴰ·head as here, List·Memᴰ·tail as there}
+use Rattle.basics.specs.Tests.{test}
+use Rattle.basics.specs.Sets.{member, member-in, in-member}
 
 -- 0, "done": accepted
 abbrev pub done : ℕ
@@ -56,11 +59,11 @@ pub table : done ∷ wrong-tabulation ∷ wrong-shape ∷ short-scratch ∷ not-
     ≡ 0 ∷ 1 ∷ 2 ∷ 3 ∷ 4 ∷ 5 ∷ 6 ∷ 7 ∷ 8 ∷ []
 table = refl
 
--- the first applies
+-- The first that applies is given: the first of the list, if its test holds,
 pub first-applies : {t : Bool} (n : ℕ) (rs : List (ℕ × Bool)) → t ≡ true → first-refusal ((n, t) ∷ rs) ≡ n
 first-applies n rs e = rw e
 
--- the first does not
+-- and one of the others, if it does not
 pub first-passes : {t : Bool} (n : ℕ) (rs : List (ℕ × Bool)) → t ≡ false → first-refusal ((n, t) ∷ rs) ≡ first-refusal rs
 first-passes n rs e = rw e
 
@@ -76,11 +79,6 @@ first-refusal-in (r ∷ rs) = go (r .1) (first-refusal-in rs)
     go true i = there (here refl)
     go false (here q) = here q
     go false (there i) = there (there i)
-
--- a refusal whose number is not the answer was passed over: its test did not hold
-pub passed-over : {k m n : ℕ} (t : Bool) → cond t k m ≡ n → (n ≡ k → ⊥) → (t ≡ false) × (m ≡ n)
-passed-over true e ne = absurd (ne (sym e))
-passed-over false e ne = (refl, e)
 
 -- a list of refusals in front of others: the first that applies there,
 pub front-applies : (rs ts : List (ℕ × Bool)) → (first-refusal rs ≡ done → ⊥) → first-refusal (rs ++ ts) ≡ first-refusal rs
@@ -102,9 +100,13 @@ pub none-applies : (rs : List (ℕ × Bool)) → None rs → first-refusal rs �
 none-applies [] none = refl
 none-applies (r ∷ rs) (and e h) = rw e (none-applies rs h)
 
--- and where 0 is answered none did, for numbers that are not 0
-pub done-none : (rs : List (ℕ × Bool)) → (In done (numbers rs) → ⊥) → first-refusal rs ≡ done → None rs
-done-none [] n e = none
-done-none (r ∷ rs) n e =
-    let p = passed-over (r .1) e (λ q. n (here q)) in
-    and (p .0) (done-none rs (λ i. n (there i)) (p .1))
+-- and where the answer is none of their numbers, none of the front did
+pub front-none : (rs ts : List (ℕ × Bool)) {n : ℕ} → first-refusal (rs ++ ts) ≡ n → member n (numbers rs) ≡ false → None rs
+front-none [] ts e m = none
+front-none (r ∷ rs) ts {n} e m = elim (test (r .1)) [
+  | inl t ↦ let here-is : In n (numbers (r ∷ rs)) = here (sym (rw t at e)) in absurd (true≢false (sym (in-member here-is) ∙ m))
+  | inr f ↦ and f (front-none rs ts (rw f at e) (elim (test (member n (numbers rs))) [
+    | inl i ↦ let later : In n (numbers (r ∷ rs)) = there (member-in n (numbers rs) i) in absurd (true≢false (sym (in-member later) ∙ m))
+    | inr o ↦ o
+  ]))
+]

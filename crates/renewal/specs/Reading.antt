@@ -5,13 +5,13 @@ use mathlib.Core.Path.{_≡_, refl, sym, _∙_, ap}
 use mathlib.Core.Bool.{Bool, true, false, not, cond}
 use mathlib.Core.List.{List, [], _∷_}
 use native.Mathlib.Omega.{arith}
-use borrow.Author.Tests.{eqb-true, ltb-false, lt-leb, not-false}
+use borrow.Author.Tests.{lt-leb, not-false}
 use lib.Dec.{eqb, ltb}
 use lib.ListN.{length, take}
 use lib.Seq.{take-take, length-take-le}
 use Rattle.basics.specs.Lists.{same}
-use Rattle.refusals.specs.Refusal.{done, wrong-tabulation, wrong-shape, short-scratch, not-canonical, stash-full, first-refusal, passed-over}
-use Rattle.tabulation.specs.Hash.{tabulation-length, tables}
+use Rattle.refusals.specs.Refusal.{done, not-canonical, stash-full, first-refusal, front-none}
+use Rattle.tabulation.specs.Hash.{tables}
 use Rattle.layout.specs.Layout.{Params, ValidSet, family, params-of, slots-of, places-of, scratch-length, shaped, stash-of, fits, image, keys-in, fits-by}
 use Rattle.layout.specs.Canonical.{canonical}
 use Rattle.layout.specs.Shape.{shape}
@@ -21,19 +21,13 @@ use Rattle.codec.specs.Collect.{keys-in-few}
 use Rattle.build.specs.Outcome.{Standing, full, made, Build, Built, Buildable}
 use Rattle.build.specs.declared.StashCount.{StashCount}
 use Rattle.build.specs.declared.StashCount.the-variants.{Keys as StashKeys, Overflow}
-use Rattle.outcome.specs.Laws.{Ready}
+use Rattle.outcome.specs.Outcome.{early-refusals}
+use Rattle.outcome.specs.Laws.{Ready, none-ready}
 use Rattle.renewal.specs.Parts.{PartsComparable, assembled-in, assembled-image}
 use Rattle.renewal.specs.declared.Reading.{Reading}
 use Rattle.renewal.specs.declared.Reading.the-variants.{Keys, NotCanonical}
 
 -- 1, 2 and 3, which need no set
-abbrev pub early-refusals : List ℕ → List ℕ → ℕ → List (ℕ × Bool)
-early-refusals tabulation ws len =
-    (wrong-tabulation, not (eqb (length tabulation) tabulation-length))
-    ∷ (wrong-shape, not (shaped ws))
-    ∷ (short-scratch, ltb len (scratch-length (slots-of ws) (places-of ws)))
-    ∷ []
-
 unfoldable pub early-refusal : List ℕ → List ℕ → ℕ → ℕ
 early-refusal tabulation ws len = first-refusal (early-refusals tabulation ws len)
 
@@ -64,10 +58,7 @@ new-words P S ws = cond (fits P S) (image P S) ws
 early-none : (tabulation ws scratch : List ℕ) → early-refusal tabulation ws (length scratch) ≡ done → Ready tabulation ws scratch
 unfolding early-refusal
 early-none tabulation ws scratch e =
-    let a = passed-over (not (eqb (length tabulation) tabulation-length)) e (λ q. omega arith) in
-    let b = passed-over (not (shaped ws)) (a .1) (λ q. omega arith) in
-    let c = passed-over (ltb (length scratch) (scratch-length (slots-of ws) (places-of ws))) (b .1) (λ q. omega arith) in
-    record { full-length = eqb-true _ _ (not-false _ (a .0)); shape = not-false _ (b .0); room = ltb-false _ _ (c .0) }
+    none-ready tabulation ws scratch (front-none (early-refusals tabulation ws (length scratch)) [] e refl)
 
 pub early-ready : (tabulation ws scratch : List ℕ) {n : ℕ} → n ≡ early-refusal tabulation ws (length scratch) → n ≡ 0 → Ready tabulation ws scratch
 early-ready tabulation ws scratch e z = early-none tabulation ws scratch (sym e ∙ z)
