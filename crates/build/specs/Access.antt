@@ -8,7 +8,7 @@ use lib.ListN.{length, getD, set, length-set}
 use lib.Seq.{getD-take}
 use borrow.Rule.Slice.PartMut.{midOf, putMid}
 use Rattle.tabulation.specs.Hash.{max-slots, Hashing}
-use Rattle.build.specs.Scratch.{Parts, glue, parts, held-at, next-at, sets-at, stashed-at, used, Sized, Place, place-word, place-part, place-put, place-set}
+use Rattle.build.specs.Scratch.{Parts, glue, parts, held-at, next-at, sets-at, stashed-at, used, PartsSized, PartAt, place-word, place-part, place-put, place-set}
 use Rattle.build.specs.Scratch.{with-held, with-next, with-sets, with-stash, held-place, next-place, sets-place, stash-place}
 use Rattle.build.specs.Scratch.{parts-sized, glue-parts, parts-glue}
 
@@ -35,32 +35,32 @@ pub record Fit (m : ℕ) (labels : List ℕ) : Type 0 where
   pub fit : (v : ℕ) → v < m → getD labels v 0 < m
 
 -- the sizes with another part in the place of one
-module _ {r s : ℕ} {P : Parts} (Z : Sized r s P) (ys : List ℕ) where
-  pub held-sized : length ys ≡ 2 * r → Sized r s (with-held P ys)
+module _ {r s : ℕ} {P : Parts} (Z : PartsSized r s P) (ys : List ℕ) where
+  pub held-sized : length ys ≡ 2 * r → PartsSized r s (with-held P ys)
   held-sized e = record { keys-size = Z .keys-size; held-size = e; next-size = Z .next-size; sets-size = Z .sets-size; stash-size = Z .stash-size }
 
-  pub next-sized : length ys ≡ 2 * r → Sized r s (with-next P ys)
+  pub next-sized : length ys ≡ 2 * r → PartsSized r s (with-next P ys)
   next-sized e = record { keys-size = Z .keys-size; held-size = Z .held-size; next-size = e; sets-size = Z .sets-size; stash-size = Z .stash-size }
 
-  pub sets-sized : length ys ≡ 2 * r → Sized r s (with-sets P ys)
+  pub sets-sized : length ys ≡ 2 * r → PartsSized r s (with-sets P ys)
   sets-sized e = record { keys-size = Z .keys-size; held-size = Z .held-size; next-size = Z .next-size; sets-size = e; stash-size = Z .stash-size }
 
-  pub stash-sized : length ys ≡ s → Sized r s (with-stash P ys)
+  pub stash-sized : length ys ≡ s → PartsSized r s (with-stash P ys)
   stash-sized e = record { keys-size = Z .keys-size; held-size = Z .held-size; next-size = Z .next-size; sets-size = Z .sets-size; stash-size = e }
 
 -- a part of the words xs: n words X, from `at` to `end`; `new ys` are the parts of scratch with ys in its place
 pub record Part (r s : ℕ) (xs : List ℕ) (at end n : ℕ) (X : List ℕ) (new : List ℕ → Parts) : Type 0 where
-  pub place : Place at (λ ys. glue (new ys))
+  pub place : PartAt at (λ ys. glue (new ys))
   pub whole : glue (new X) ≡ xs
   pub size : length X ≡ n
   pub ends : end ≡ at + n
-  pub sized : (ys : List ℕ) → length ys ≡ n → Sized r s (new ys)
+  pub sized : (ys : List ℕ) → length ys ≡ n → PartsSized r s (new ys)
 
 module _ {r s : ℕ} {xs : List ℕ} (E : Enough r s xs) where
   abbrev P : Parts
   P = parts r s xs
 
-  pub parts-fit : Sized r s P
+  pub parts-fit : PartsSized r s P
   parts-fit = parts-sized r s xs (E .long)
 
   pub parts-whole : glue P ≡ xs

@@ -55,11 +55,11 @@ module _ (a b : ℕ → ℕ) (held : List ℕ) where
       cond (standing a b held c) (record { last = set (Q .last) l c; next = put-next (Q .next) c (getD (Q .last) l 0) }) Q
 
 -- At the end a slot that holds no key gets 0, in place of its label: for each of the m slots, ascending.
-abbrev pub blank : List ℕ → ℕ → ℕ → ℕ
-blank held v x = cond (eqb (getD held v 0) 0) 0 x
+abbrev pub blank-at : List ℕ → ℕ → ℕ → ℕ
+blank-at held v x = cond (eqb (getD held v 0) 0) 0 x
 
 unfoldable pub blanked : List ℕ → ℕ → List ℕ → List ℕ
-blanked held m words = each-slot (blank held) m 0 words
+blanked held m words = each-slot (blank-at held) m 0 words
 
 module _ (held : List ℕ) where
   put-at-length : (words : List ℕ) (c u x : ℕ) → length (put-at held words c u x) ≡ length words
@@ -293,7 +293,7 @@ module _ {a b : ℕ → ℕ} (m : ℕ) (fits : (c : ℕ) → (a c < m) × (b c <
     next-all =
         let P = chained a b held S (record { last = lows; next = labels }) in
         let Q = chain-all S asc (λ x i. i) (λ x y i j l. j) in
-        let f = blank held in (
+        let f = blank-at held in (
           each-slot-length f m 0 (P .next) ∙ Q .long,
           λ v l. all-slots-at f m (P .next) (Q .long) v l ∙ rw (← O .is v l) (elim (eq? (getD held v 0) 0) [
             | inl z ↦ rw (eq-eqb (getD held v 0) 0 z)

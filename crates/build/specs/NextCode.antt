@@ -16,7 +16,7 @@ use Rattle.forest.specs.HeldForest.{holding, slot-count, slots-fit}
 use Rattle.build.specs.Seat.{seat}
 use Rattle.build.specs.Slots.{each-slot, each-slot-none, each-slot-step}
 use Rattle.build.specs.Labels.{Labels, label-of, label-fit}
-use Rattle.build.specs.Next.{Passing, last-seen, put-at, put-next, chained, blank, blanked, label-read}
+use Rattle.build.specs.Next.{Passing, last-seen, put-at, put-next, chained, blank-at, blanked, label-read}
 use Rattle.build.specs.Scratch.{Parts, parts, held-at, with-sets, with-next}
 use Rattle.build.specs.Access.{Enough, Room, NoteAt, parts-fit, read-key, held-part, part-word, note-word, note-set}
 use Rattle.build.specs.Passes.{with-passing, blanked-parts}
@@ -232,16 +232,16 @@ module _ {T : List ℕ} {r s : ℕ} {x₀ : List ℕ} (R : Room T r s x₀) (n :
 
 -- one slot of the last loop: it holds no key, or it holds one
 module _ (held : List ℕ) (n v : ℕ) (words : List ℕ) where
-  blank-empty : getD held v 0 ≡ 0 → each-slot (blank held) (suc n) v words ≡ each-slot (blank held) n (suc v) (set words v 0)
-  blank-empty e = rw (each-slot-step (blank held) n v words, eq-eqb (getD held v 0) 0 e)
+  blank-empty : getD held v 0 ≡ 0 → each-slot (blank-at held) (suc n) v words ≡ each-slot (blank-at held) n (suc v) (set words v 0)
+  blank-empty e = rw (each-slot-step (blank-at held) n v words, eq-eqb (getD held v 0) 0 e)
 
-  blank-filled : (getD held v 0 ≡ 0 → ⊥) → each-slot (blank held) (suc n) v words ≡ each-slot (blank held) n (suc v) words
-  blank-filled e = rw (each-slot-step (blank held) n v words, ne-eqb (getD held v 0) 0 e, set-getD words v 0)
+  blank-filled : (getD held v 0 ≡ 0 → ⊥) → each-slot (blank-at held) (suc n) v words ≡ each-slot (blank-at held) n (suc v) words
+  blank-filled e = rw (each-slot-step (blank-at held) n v words, ne-eqb (getD held v 0) 0 e, set-getD words v 0)
 
 -- the slots below v are blanked where they hold no key
 module _ (m : ℕ) (P₀ : Parts) where
   abbrev blank-ahead : ℕ → List ℕ → List ℕ
-  blank-ahead v words = each-slot (blank (P₀ .held)) (m - v) v words
+  blank-ahead v words = each-slot (blank-at (P₀ .held)) (m - v) v words
 
   pub record BlankedTo (P : Parts) (v : ℕ) : Type 0 where
     pub kept : P ≡ with-next P₀ (P .next)
@@ -256,17 +256,17 @@ module _ (m : ℕ) (P₀ : Parts) where
     blank-done l =
         let z : m - v ≡ 0 = omega arith in
         let all : m - 0 ≡ m = omega arith in
-        K .kept ∙ ap (with-next P₀) (sym (rw (all, z) at (K .same) ∙ each-slot-none (blank (P₀ .held)) v (P .next)))
+        K .kept ∙ ap (with-next P₀) (sym (rw (all, z) at (K .same) ∙ each-slot-none (blank-at (P₀ .held)) v (P .next)))
 
     step : v < m → {Q : Parts} (words : List ℕ) → Q ≡ with-next P words
-        → each-slot (blank (P₀ .held)) (suc (m - (v + 1))) v (P .next) ≡ each-slot (blank (P₀ .held)) (m - (v + 1)) (suc v) words → BlankedTo Q (v + 1)
+        → each-slot (blank-at (P₀ .held)) (suc (m - (v + 1))) v (P .next) ≡ each-slot (blank-at (P₀ .held)) (m - (v + 1)) (suc v) words → BlankedTo Q (v + 1)
     step l {Q} words turn on =
         let e : m - v ≡ suc (m - (v + 1)) = omega arith in
         let one : suc v ≡ v + 1 = omega arith in
         let new : Q .next ≡ words = ap (λ (Z : Parts). Z .next) turn in
         record {
           kept = turn ∙ ap (λ (Z : Parts). with-next Z words) (K .kept) ∙ ap (with-next P₀) (sym new);
-          same = K .same ∙ ap (λ (n : ℕ). each-slot (blank (P₀ .held)) n v (P .next)) e ∙ on ∙ rw (one, new);
+          same = K .same ∙ ap (λ (n : ℕ). each-slot (blank-at (P₀ .held)) n v (P .next)) e ∙ on ∙ rw (one, new);
         }
 
     still : getD (P .held) v 0 ≡ getD (P₀ .held) v 0

@@ -16,8 +16,8 @@ use Rattle.build.specs.Labels.{Labels, label-of}
 use Rattle.build.specs.Notes.{Noting, nothing-noted, note-at, stash-key, noted, noted-held}
 use Rattle.build.specs.Finish.{finish-label, finished, finish-label-length}
 use Rattle.build.specs.Slots.{each-slot-length}
-use Rattle.build.specs.Next.{Passing, last-seen, chained, blank, blanked, last-seen-length, chained-length}
-use Rattle.build.specs.Scratch.{Parts, Sized, with-held, with-next, with-sets, with-stash}
+use Rattle.build.specs.Next.{Passing, last-seen, chained, blank-at, blanked, last-seen-length, chained-length}
+use Rattle.build.specs.Scratch.{Parts, PartsSized, with-held, with-next, with-sets, with-stash}
 use Rattle.build.specs.Access.{Fit, held-sized, next-sized, sets-sized, stash-sized}
 use Rattle.build.specs.declared.StashCount.{StashCount}
 use Rattle.build.specs.declared.StashCount.the-variants.{Keys, Overflow}
@@ -97,33 +97,33 @@ finished-size a b turn fuel notes zero l held = refl
 finished-size a b turn fuel notes (suc n) l held =
     finished-size a b turn fuel notes n (suc l) (finish-label a b turn fuel notes l held) ∙ finish-label-length a b turn fuel notes l held
 
-module _ (F : Family) {s : ℕ} {P : Parts} (Z : Sized (F .slots) s P) where
-  pub noted-sized : (n : ℕ) → Sized (F .slots) s (noted-parts F P s n)
+module _ (F : Family) {s : ℕ} {P : Parts} (Z : PartsSized (F .slots) s P) where
+  pub noted-sized : (n : ℕ) → PartsSized (F .slots) s (noted-parts F P s n)
   noted-sized n =
       let h = noted-size (slot-0 F) (slot-1 F) (P .held) (P .next) (take n (P .keys)) (nothing-noted (slot-count F) (replicate s 0)) in
       sets-sized (stash-sized Z (noting-of F P s n .stash) (h .1 ∙ length-replicate s 0)) (noting-of F P s n .notes) (h .0 ∙ length-replicate (slot-count F) 0)
 
-  pub noted-held-sized : (n : ℕ) → Sized (F .slots) s (noted-held-parts F P n)
+  pub noted-held-sized : (n : ℕ) → PartsSized (F .slots) s (noted-held-parts F P n)
   noted-held-sized n =
       sets-sized Z (noted-held-parts F P n .sets) (noted-held-size (slot-0 F) (slot-1 F) (P .held) (P .next) (take n (P .keys)) (P .sets) ∙ Z .sets-size)
 
-  pub finished-sized : Sized (F .slots) s (finished-parts F P)
+  pub finished-sized : PartsSized (F .slots) s (finished-parts F P)
   finished-sized =
       held-sized Z (finished-parts F P .held)
       (finished-size (slot-0 F) (slot-1 F) (other F) (budget F) (P .sets) (slot-count F) 0 (P .held) ∙ Z .held-size)
 
-  pub last-seen-sized : (n : ℕ) → Sized (F .slots) s (last-seen-parts F P n)
+  pub last-seen-sized : (n : ℕ) → PartsSized (F .slots) s (last-seen-parts F P n)
   last-seen-sized n =
       sets-sized Z (last-seen-parts F P n .sets) (last-seen-length (slot-0 F) (slot-1 F) (P .held) (P .next) (take n (P .keys)) (P .sets) ∙ Z .sets-size)
 
-  pub chained-sized : (n : ℕ) → Sized (F .slots) s (chained-parts F P n)
+  pub chained-sized : (n : ℕ) → PartsSized (F .slots) s (chained-parts F P n)
   chained-sized n =
       let h = chained-length (slot-0 F) (slot-1 F) (P .held) (take n (P .keys)) (record { last = P .sets; next = P .next }) in
       sets-sized (next-sized Z (chained-parts F P n .next) (h .1 ∙ Z .next-size)) (chained-parts F P n .sets) (h .0 ∙ Z .sets-size)
 
-  pub blanked-sized : Sized (F .slots) s (blanked-parts (slot-count F) P)
+  pub blanked-sized : PartsSized (F .slots) s (blanked-parts (slot-count F) P)
   unfolding blanked
-  blanked-sized = next-sized Z (blanked-parts (slot-count F) P .next) (each-slot-length (blank (P .held)) (slot-count F) 0 (P .next) ∙ Z .next-size)
+  blanked-sized = next-sized Z (blanked-parts (slot-count F) P .next) (each-slot-length (blank-at (P .held)) (slot-count F) 0 (P .next) ∙ Z .next-size)
 
 -- labels that tell components are labels
 pub labels-fit : {a b : ℕ → ℕ} {S : List ℕ} {m : ℕ} {labels : List ℕ} → Labels a b S m labels → Fit m labels

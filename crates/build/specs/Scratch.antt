@@ -36,7 +36,7 @@ stashed-at r s = 8 * r + s
 abbrev pub used : ℕ → ℕ → ℕ
 used r s = 8 * r + 2 * s
 
-pub record Sized (r s : ℕ) (P : Parts) : Type 0 where
+pub record PartsSized (r s : ℕ) (P : Parts) : Type 0 where
   pub keys-size : length (P .keys) ≡ 2 * r + s
   pub held-size : length (P .held) ≡ 2 * r
   pub next-size : length (P .next) ≡ 2 * r
@@ -56,13 +56,13 @@ parts r s xs =
     }
 
 -- a part of n words from `at` on: `of ys` are the words with ys in its place
-pub record Place (at : ℕ) (of : List ℕ → List ℕ) : Type 0 where
+pub record PartAt (at : ℕ) (of : List ℕ → List ℕ) : Type 0 where
   pub front : List ℕ
   pub back : List ℕ
   pub long : length front ≡ at
   pub is : (ys : List ℕ) → of ys ≡ front ++ (ys ++ back)
 
-module _ {at : ℕ} {of : List ℕ → List ℕ} (L : Place at of) (X : List ℕ) where
+module _ {at : ℕ} {of : List ℕ → List ℕ} (L : PartAt at of) (X : List ℕ) where
   -- a word of the part
   pub place-word : (v : ℕ) → v < length X → getD (of X) (at + v) 0 ≡ getD X v 0
   place-word v l =
@@ -97,11 +97,11 @@ abbrev pub with-stash : Parts → List ℕ → Parts
 with-stash P ys = record { keys = P .keys; held = P .held; next = P .next; sets = P .sets; stash = ys; rest = P .rest }
 
 -- the place of each of these
-module _ {r s : ℕ} {P : Parts} (Z : Sized r s P) where
-  pub held-place : Place (held-at r s) (λ ys. glue (with-held P ys))
+module _ {r s : ℕ} {P : Parts} (Z : PartsSized r s P) where
+  pub held-place : PartAt (held-at r s) (λ ys. glue (with-held P ys))
   held-place = record { front = P .keys; back = P .next ++ (P .sets ++ (P .stash ++ P .rest)); long = Z .keys-size; is = λ ys. refl }
 
-  pub next-place : Place (next-at r s) (λ ys. glue (with-next P ys))
+  pub next-place : PartAt (next-at r s) (λ ys. glue (with-next P ys))
   next-place = record {
     front = P .keys ++ P .held;
     back = P .sets ++ (P .stash ++ P .rest);
@@ -109,7 +109,7 @@ module _ {r s : ℕ} {P : Parts} (Z : Sized r s P) where
     is = λ ys. simp append-assoc;
   }
 
-  pub sets-place : Place (sets-at r s) (λ ys. glue (with-sets P ys))
+  pub sets-place : PartAt (sets-at r s) (λ ys. glue (with-sets P ys))
   sets-place = record {
     front = P .keys ++ (P .held ++ P .next);
     back = P .stash ++ P .rest;
@@ -117,7 +117,7 @@ module _ {r s : ℕ} {P : Parts} (Z : Sized r s P) where
     is = λ ys. simp append-assoc;
   }
 
-  pub stash-place : Place (stashed-at r s) (λ ys. glue (with-stash P ys))
+  pub stash-place : PartAt (stashed-at r s) (λ ys. glue (with-stash P ys))
   stash-place = record {
     front = P .keys ++ (P .held ++ (P .next ++ P .sets));
     back = P .rest;
@@ -130,7 +130,7 @@ part-length : (n at : ℕ) (xs : List ℕ) → at + n ≤ length xs → length (
 part-length n at xs h = simp (length-take, length-drop) (omega arith)
 
 module _ (r s : ℕ) (xs : List ℕ) (long : used r s ≤ length xs) where
-  pub parts-sized : Sized r s (parts r s xs)
+  pub parts-sized : PartsSized r s (parts r s xs)
   unfolding parts
   parts-sized = record {
     keys-size = part-length (2 * r + s) 0 xs (omega arith);
@@ -156,7 +156,7 @@ module _ (r s : ℕ) (xs : List ℕ) (long : used r s ≤ length xs) where
       (take-append-drop (2 * r + s) xs)
 
 -- and parts of these sizes are the parts of their words
-module _ {r s : ℕ} {P : Parts} (Z : Sized r s P) where
+module _ {r s : ℕ} {P : Parts} (Z : PartsSized r s P) where
   rest-place : drop (used r s) (glue P) ≡ P .rest
   rest-place =
       let front = P .keys ++ (P .held ++ (P .next ++ (P .sets ++ P .stash))) in

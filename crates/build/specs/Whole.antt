@@ -22,7 +22,7 @@ use Rattle.build.specs.NextCode.{Chainable}
 use Rattle.build.specs.Notes.{Noting}
 use Rattle.build.specs.Built as Passes-of
 use Rattle.build.specs.Built.{linking, labels, noting, notes, held, nexts, built, canonical-parts, linking-is, labels-is, built-tables}
-use Rattle.build.specs.Scratch.{Parts, Sized, parts, glue, with-next, parts-sized, parts-glue}
+use Rattle.build.specs.Scratch.{Parts, PartsSized, parts, glue, with-next, parts-sized, parts-glue}
 use Rattle.build.specs.Access.{Room, Fit, parts-fit, held-sized, next-sized, sets-sized}
 use Rattle.build.specs.Passes.{answer, noting-of, noted-parts, noted-held-parts, finished-parts, last-seen-parts, chained-parts, blanked-parts}
 use Rattle.build.specs.Passes.{noted-sized, noted-held-sized, finished-sized, last-seen-sized, chained-sized, blanked-sized, labels-fit}
@@ -77,7 +77,7 @@ module _ {r s n : ℕ} {tabulation scratch : List ℕ} (B : Buildable r s n tabu
   abbrev S : List ℕ
   S = take n (P .keys)
 
-  parts-of : Sized r s P
+  parts-of : PartsSized r s P
   parts-of = parts-sized r s scratch (B .room)
 
   first-words : S ≡ take n scratch
@@ -115,18 +115,18 @@ module _ {r s n : ℕ} {tabulation scratch : List ℕ} (B : Buildable r s n tabu
   decided = verdict (whole-noting F s n P .overflow) (ltb s (length (stash-keys F S))) refl whole
 
   -- the sizes stay
-  linked-sized : Sized r s (linked-from F s n P)
+  linked-sized : PartsSized r s (linked-from F s n P)
   linked-sized =
       let L = linking-is (other-end F (B .hashing .has-slots)) (omega (arith, B .hashing .slots-bound)) (slots-fit F (B .hashing .has-slots)) asc-of nonzero-of in
       sets-sized (held-sized parts-of (linked-from F s n P .held) (L .size)) (linked-from F s n P .sets) (L .parts .long)
 
-  labelled-sized : Sized r s (labelled-from F s n P)
+  labelled-sized : PartsSized r s (labelled-from F s n P)
   labelled-sized = next-sized linked-sized (labelled-from F s n P .next) (labels-of .size)
 
-  noted-from-sized : Sized r s (noted-from F s n P)
+  noted-from-sized : PartsSized r s (noted-from F s n P)
   noted-from-sized = noted-sized F labelled-sized n
 
-  seated-from-sized : Sized r s (seated-from F n (noted-from F s n P))
+  seated-from-sized : PartsSized r s (seated-from F n (noted-from F s n P))
   seated-from-sized = blanked-sized F (chained-sized F (last-seen-sized F (finished-sized F (noted-held-sized F noted-from-sized n)) n) n)
 
   -- the keys stay at the front of scratch
@@ -166,7 +166,7 @@ module _ {r s n : ℕ} {tabulation scratch : List ℕ} (B : Buildable r s n tabu
   }
 
 -- From call to call: what one leaves is what the next finds.
-module _ {r s : ℕ} {Q : Parts} (Z : Sized r s Q) {xs : List ℕ} (e : xs ≡ glue Q) where
+module _ {r s : ℕ} {Q : Parts} (Z : PartsSized r s Q) {xs : List ℕ} (e : xs ≡ glue Q) where
   found : parts r s xs ≡ Q
   found = rw e (parts-glue Z)
 
@@ -208,7 +208,7 @@ module _ {tabulation : List ℕ} {r s : ℕ} {x0 : List ℕ} (R : Room tabulatio
   abbrev Q3 : Parts
   Q3 = last-seen-parts T Q2 n
 
-  Z1 : Sized r s Q1
+  Z1 : PartsSized r s Q1
   Z1 = noted-held-sized T (parts-fit (R .enough)) n
 
   module _ {x1 x2 : List ℕ} (e1 : x1 ≡ glue Q1) (e2 : x2 ≡ glue (finished-parts T (parts r s x1))) where
@@ -222,7 +222,7 @@ module _ {tabulation : List ℕ} {r s : ℕ} {x0 : List ℕ} (R : Room tabulatio
       seen-words : x3 ≡ glue Q3
       seen-words = passed (finished-sized T Z1) finished-words (λ Q. last-seen-parts T Q n) e3
 
-      Z3 : Sized r s Q3
+      Z3 : PartsSized r s Q3
       Z3 = last-seen-sized T (finished-sized T Z1) n
 
       pub chainable-still : Chainable T n (parts r s x3)

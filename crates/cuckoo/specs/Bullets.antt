@@ -34,8 +34,8 @@ module _ (a b : ℕ → ℕ) (T : List ℕ) where
     pub low : (d : ℕ) → OnCycle a b T d → Joined a b T (a z) (a d) → z ≤ d
 
   -- a slot is empty, or the key in it is of T and the slot one of its two
-  abbrev pub Holds : (ℕ → ℕ) → Type 0
-  Holds f = (v : ℕ) → (f v ≡ 0) ⊎ (In (f v) T × ((v ≡ a (f v)) ⊎ (v ≡ b (f v))))
+  abbrev pub AtEnds : (ℕ → ℕ) → Type 0
+  AtEnds f = (v : ℕ) → (f v ≡ 0) ⊎ (In (f v) T × ((v ≡ a (f v)) ⊎ (v ≡ b (f v))))
 
   -- "No loop in the group: its smallest card sits in both its pockets. That fixes every other card's pocket.": z sits in both its slots, and every other
   -- key of its component in exactly one.
@@ -51,19 +51,19 @@ module _ (a b : ℕ → ℕ) (T : List ℕ) where
 
   -- The seating f obeys the bullets for the keys of T: the first in each component without a cycle, the second in each with one.
   pub record Obeys (f : ℕ → ℕ) : Type 0 where
-    pub holds : Holds f
+    pub holds : AtEnds f
     pub tree : (z : ℕ) → Smallest z → (Cyclic a b T (a z) → ⊥) → TreeBullet f z
     pub cycle : (z : ℕ) → SmallestOnCycle z → CycleBullet f z
 
-  holds-at : {f : ℕ → ℕ} {v c : ℕ} → Holds f → (c ≡ 0 → ⊥) → f v ≡ c → (v ≡ a c) ⊎ (v ≡ b c)
+  holds-at : {f : ℕ → ℕ} {v c : ℕ} → AtEnds f → (c ≡ 0 → ⊥) → f v ≡ c → (v ≡ a c) ⊎ (v ≡ b c)
   holds-at {f} {v} h nz e = elim (h v) [ inl q ↦ absurd (nz (sym e ∙ q)) | inr r ↦ rw e at (r .1) ]
 
   -- A key that sits in exactly one slot sits in the one or the other of its two.
-  pub one-of : {f : ℕ → ℕ} {c : ℕ} → Holds f → (c ≡ 0 → ⊥) → InOne f c → (f (a c) ≡ c) ⊎ (f (b c) ≡ c)
+  pub one-of : {f : ℕ → ℕ} {c : ℕ} → AtEnds f → (c ≡ 0 → ⊥) → InOne f c → (f (a c) ≡ c) ⊎ (f (b c) ≡ c)
   one-of h nz o = elim (holds-at h nz (o .sits)) [ inl q ↦ inl (rw q at (o .sits)) | inr q ↦ inr (rw q at (o .sits)) ]
 
   -- Where its two slots differ, a key sits in exactly one slot exactly if it sits in the one or the other of its two, and not in both.
-  pub one-end : {f : ℕ → ℕ} {c : ℕ} → Holds f → (c ≡ 0 → ⊥) → (a c ≡ b c → ⊥)
+  pub one-end : {f : ℕ → ℕ} {c : ℕ} → AtEnds f → (c ≡ 0 → ⊥) → (a c ≡ b c → ⊥)
       → InOne f c ↔ (((f (a c) ≡ c) ⊎ (f (b c) ≡ c)) × (f (a c) ≡ c → f (b c) ≡ c → ⊥))
   one-end {f} {c} h nz ne = (λ o. (one-of h nz o, λ p q. ne (o .only (a c) p ∙ sym (o .only (b c) q))), back)
     where

@@ -46,15 +46,15 @@ slot-place e f m = let z : _≡_ {A = ℕ} 0 1 = cc in omega arith
 
 module _ (a b : ℕ → ℕ) where
   -- the key c may be at p: a slot of its own, or one of s places
-  pub data Allowed (s c : ℕ) (p : Place) : Type 0 where
-    table-0 : p ≡ slot (a c) → Allowed s c p
-    table-1 : p ≡ slot (b c) → Allowed s c p
-    aside : (i : ℕ) → i < s → p ≡ place i → Allowed s c p
+  pub data MaySit (s c : ℕ) (p : Place) : Type 0 where
+    table-0 : p ≡ slot (a c) → MaySit s c p
+    table-1 : p ≡ slot (b c) → MaySit s c p
+    aside : (i : ℕ) → i < s → p ≡ place i → MaySit s c p
 
   -- "no placement of the new set exists": a placement of S is any way to put its keys where they may be, no two at one place
   pub record Placement (s : ℕ) (S : List ℕ) : Type 0 where
     pub at : ℕ → Place
-    pub allowed : (c : ℕ) → In c S → Allowed s c (at c)
+    pub allowed : (c : ℕ) → In c S → MaySit s c (at c)
     pub apart : (c d : ℕ) → In c S → In d S → at c ≡ at d → c ≡ d
 
   -- a part of a set is placed as in the whole
@@ -93,7 +93,7 @@ module _ (a b : ℕ → ℕ) where
     pub fits-placed : {s : ℕ} → length D ≤ s → Placement s S
     fits-placed {s} l = record { at = canonical-place; allowed = λ c i. allow (put c i); apart = λ c d i j. part (put c i) (put d j) }
       where
-        allow : {c : ℕ} → Put c → Allowed s c (canonical-place c)
+        allow : {c : ℕ} → Put c → MaySit s c (canonical-place c)
         allow (sits v e (inl q) o) = table-0 (e ∙ ap slot q)
         allow (sits v e (inr q) o) = table-1 (e ∙ ap slot q)
         allow {c} (goes i e) = aside (length (below c D)) (omega (arith, rank-below D i)) e
@@ -178,7 +178,7 @@ module _ (a b : ℕ → ℕ) where
         let l = pigeonhole (P .at) (spots (upto n) s) h (λ c i. within c i (P .allowed c i)) (P .apart) in
         omega (arith, length-spots (upto n) s, length-upto n)
       where
-        within : (c : ℕ) → In c S → Allowed s c (P .at c) → In (P .at c) (spots (upto n) s)
+        within : (c : ℕ) → In c S → MaySit s c (P .at c) → In (P .at c) (spots (upto n) s)
         within c i (table-0 e) = slot-in s e (in-upto n (la c i))
         within c i (table-1 e) = slot-in s e (in-upto n (lb c i))
         within c i (aside j k e) = place-in (upto n) e k

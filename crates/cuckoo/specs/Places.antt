@@ -20,9 +20,9 @@ module _ (a b : ℕ → ℕ) where
   hung T z = cond (onCycle a b T z) (without z T) T
 
   -- the root z sits in its slot in table 0, and the keys that hang from there sit at their far ends
-  pub data Place (T : List ℕ) (z v c : ℕ) : Type 0 where
-    at-root : c ≡ z → v ≡ a z → Place T z v c
-    at-far : Far a b (hung T z) (a z) c v → Place T z v c
+  pub data PlaceOf (T : List ℕ) (z v c : ℕ) : Type 0 where
+    at-root : c ≡ z → v ≡ a z → PlaceOf T z v c
+    at-far : Far a b (hung T z) (a z) c v → PlaceOf T z v c
 
   data Kind (T : List ℕ) (z : ℕ) : Type 0 where
     tree : (OnCycle a b T z → ⊥) → hung T z ≡ T → Kind T z
@@ -61,17 +61,17 @@ module _ (a b : ℕ → ℕ) where
         ]
 
     -- `Sat` of Seating, and so `sits`, says the same
-    sat-place : {c v w : ℕ} → In c T → Ends a b c v w → Sat a b T z v c → Place T z v c
+    sat-place : {c v w : ℕ} → In c T → Ends a b c v w → Sat a b T z v c → PlaceOf T z v c
     sat-place {c} {v} {w} i e s = go s (kind T z)
       where
-        far : {X : List ℕ} → hung T z ≡ X → In c X → (Joined a b (without c X) v (a z) → ⊥) → Place T z v c
+        far : {X : List ℕ} → hung T z ≡ X → In c X → (Joined a b (without c X) v (a z) → ⊥) → PlaceOf T z v c
         far q k o = at-far (rw q (record { c-in = k; w = w; ends = e; cut = o }))
 
-        both : {w : ℕ} → Ends a b c v w → c ≡ z → hung T z ≡ T → (OnCycle a b T z → ⊥) → Place T z v c
+        both : {w : ℕ} → Ends a b c v w → c ≡ z → hung T z ≡ T → (OnCycle a b T z → ⊥) → PlaceOf T z v c
         both (from-a p q) r h n = at-root r (p ∙ ap a r)
         both (from-b p q) r h n = far h i (λ j. n (record { on = rw r at i; closed = jsym (rw (p, r) at j) }))
 
-        go : Sat a b T z v c → Kind T z → Place T z v c
+        go : Sat a b T z v c → Kind T z → PlaceOf T z v c
         go (tree-root n q) (tree m h) = both e q h m
         go (tree-root n q) (cycle l h) = absurd (n l)
         go (tree-away n q o) (tree m h) = far h i o
@@ -80,10 +80,10 @@ module _ (a b : ℕ → ℕ) where
         go (cycle-away l q o) (tree m h) = absurd (m l)
         go (cycle-away l q o) (cycle k h) = far h (in-out z T (λ r. q (sym r)) i) o
 
-    place-sat : {c v : ℕ} → Place T z v c → Sat a b T z v c
+    place-sat : {c v : ℕ} → PlaceOf T z v c → Sat a b T z v c
     place-sat {c} {v} P = go P (kind T z) (eq? c z)
       where
-        go : Place T z v c → Kind T z → (c ≡ z) ⊎ (c ≡ z → ⊥) → Sat a b T z v c
+        go : PlaceOf T z v c → Kind T z → (c ≡ z) ⊎ (c ≡ z → ⊥) → Sat a b T z v c
         go (at-root q r) (tree m h) d = tree-root m q
         go (at-root q r) (cycle l h) d = cycle-root l q r
         go (at-far F) (tree m h) (inl q) = tree-root m q
@@ -91,14 +91,14 @@ module _ (a b : ℕ → ℕ) where
         go (at-far F) (cycle l h) (inl q) = absurd (hung-root l (rw q at (F .c-in)))
         go (at-far F) (cycle l h) (inr n) = cycle-away l n (rw h at (F .cut))
 
-    place-ends : {c v : ℕ} → Place T z v c → (w : ℕ) × Ends a b c v w
+    place-ends : {c v : ℕ} → PlaceOf T z v c → (w : ℕ) × Ends a b c v w
     place-ends {c} (at-root q r) = (b c, from-a (r ∙ ap a (sym q)) refl)
     place-ends (at-far F) = (F .w, F .ends)
 
   -- the key c of T sits in the slot v
   pub record Seat (T : List ℕ) (v c : ℕ) : Type 0 where
     pub c-in : In c T
-    pub place : Place T (root a b T (a c)) v c
+    pub place : PlaceOf T (root a b T (a c)) v c
 
   -- a key sits in one of its two slots
   seat-ends : {T : List ℕ} {v c : ℕ} → Seat T v c → (w : ℕ) × Ends a b c v w

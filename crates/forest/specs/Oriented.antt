@@ -45,7 +45,7 @@ module _ (a b : ℕ → ℕ) where
     pub nonzero : (c : ℕ) → In c F → c ≡ 0 → ⊥
 
   -- the key c stands in its slot v, and not in its other slot w
-  pub record Stands (h : List ℕ) (c : ℕ) : Type 0 where
+  pub record StandsIn (h : List ℕ) (c : ℕ) : Type 0 where
     pub v : ℕ
     pub w : ℕ
     pub ends : Ends a b c v w
@@ -61,7 +61,7 @@ module _ (a b : ℕ → ℕ) where
   -- In the component of slot p, a filled slot holds a key of F that has an end there, and each key of F stands in one of its two slots.
   pub record Oriented (F h : List ℕ) (p : ℕ) : Type 0 where
     pub own : (v c : ℕ) → Joined a b F p v → getD h v 0 ≡ c → (c ≡ 0 → ⊥) → Owned F c v
-    pub stands : (c : ℕ) → In c F → Joined a b F p (a c) → Stands h c
+    pub stands : (c : ℕ) → In c F → Joined a b F p (a c) → StandsIn h c
 
   -- all of h is an oriented forest of the keys of F
   pub record OrientedForest (F h : List ℕ) : Type 0 where
@@ -205,7 +205,7 @@ module _ {a b : ℕ → ℕ} where
           ]
         ]
 
-    self : Stands a b out c
+    self : StandsIn a b out c
     self = record {
       v = w;
       w = v;
@@ -214,7 +214,7 @@ module _ {a b : ℕ → ℕ} where
       off = λ q. new (ov .own v c jrefl (sym (eh v jrefl) ∙ q) (f .nonzero c ic) .mem);
     }
 
-    old : (d : ℕ) → In d G → Joined a b F v (a d) → Stands a b out d
+    old : (d : ℕ) → In d G → Joined a b F v (a d) → StandsIn a b out d
     old d i j =
         elim (sides G e down j) [
           | inl g ↦
