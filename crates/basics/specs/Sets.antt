@@ -49,11 +49,11 @@ pub data Asc : List ℕ → Type 0 where
   none : Asc []
   some : {c : ℕ} {R : List ℕ} → ((d : ℕ) → In d R → c < d) → Asc R → Asc (c ∷ R)
 
+-- The laws.
+
 -- each member of R is one of R′
 abbrev pub Sub : List ℕ → List ℕ → Type 0
 Sub R R′ = (c : ℕ) → In c R → In c R′
-
--- The laws.
 
 -- what `keep` keeps
 cond-in : (t : Bool) {c d : ℕ} {L : List ℕ} → In c (cond t (d ∷ L) L) → ((t ≡ true) × (c ≡ d)) ⊎ In c L

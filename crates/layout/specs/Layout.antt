@@ -128,12 +128,6 @@ stash-of P S = stash (slot-0 (family P)) (slot-1 (family P)) S
 unfoldable pub fits : Params → List ℕ → Bool
 fits P S = fits-by (slot-0 (family P)) (slot-1 (family P)) (P .places) S
 
-abbrev pub slot-words : Params → List ℕ → ℕ → ℕ → List ℕ
-slot-words P S v n = slot-words-by (slot-0 (family P)) (slot-1 (family P)) S v n
-
-abbrev pub stash-words : Params → List ℕ → List ℕ
-stash-words P S = stash-words-by (slot-0 (family P)) (slot-1 (family P)) (P .places) S
-
 -- The canonical image of a set.
 unfoldable pub image : Params → List ℕ → List ℕ
 image P S = image-by (slot-0 (family P)) (slot-1 (family P)) (P .slots) (P .places) S
@@ -156,3 +150,10 @@ key-words ws = slot-keys (slots-of ws + slots-of ws) (drop header-length ws) ++ 
 -- those that are not 0, ascending, each once
 unfoldable pub keys-in : List ℕ → List ℕ
 keys-in ws = distinct (sorted (keep (λ w. not (eqb w 0)) (key-words ws)))
+
+-- The laws speak of the parts of an image by its parameters.
+abbrev pub slot-words : Params → List ℕ → ℕ → ℕ → List ℕ
+slot-words P S v n = slot-words-by (slot-0 (family P)) (slot-1 (family P)) S v n
+
+abbrev pub stash-words : Params → List ℕ → List ℕ
+stash-words P S = stash-words-by (slot-0 (family P)) (slot-1 (family P)) (P .places) S

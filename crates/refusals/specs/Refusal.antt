@@ -49,11 +49,6 @@ abbrev pub first-refusal : List (ℕ × Bool) → ℕ
 first-refusal [] = done
 first-refusal (r ∷ rs) = cond (r .1) (r .0) (first-refusal rs)
 
--- no refusal of the list applies
-pub data None : List (ℕ × Bool) → Type 0 where
-  none : None []
-  and : {r : ℕ × Bool} {rs : List (ℕ × Bool)} → r .1 ≡ false → None rs → None (r ∷ rs)
-
 -- The laws. The numbers are those of document 01's table, in its order.
 pub table : done ∷ wrong-tabulation ∷ wrong-shape ∷ short-scratch ∷ not-canonical ∷ blank-key ∷ key-present ∷ key-absent ∷ stash-full ∷ []
     ≡ 0 ∷ 1 ∷ 2 ∷ 3 ∷ 4 ∷ 5 ∷ 6 ∷ 7 ∷ 8 ∷ []
@@ -79,6 +74,11 @@ first-refusal-in (r ∷ rs) = go (r .1) (first-refusal-in rs)
     go true i = there (here refl)
     go false (here q) = here q
     go false (there i) = there (there i)
+
+-- no refusal of the list applies
+pub data None : List (ℕ × Bool) → Type 0 where
+  none : None []
+  and : {r : ℕ × Bool} {rs : List (ℕ × Bool)} → r .1 ≡ false → None rs → None (r ∷ rs)
 
 -- a list of refusals in front of others: the first that applies there,
 pub front-applies : (rs ts : List (ℕ × Bool)) → (first-refusal rs ≡ done → ⊥) → first-refusal (rs ++ ts) ≡ first-refusal rs

@@ -34,12 +34,6 @@ pub record Family : Type 0 where
 abbrev pub tables : List ℕ → ℕ → Family
 tables tabulation r = record { tabulation = tabulation; slots = r }
 
--- what hashing needs: a tabulation of its length, and r in its range
-pub record Hashing (tabulation : List ℕ) (r : ℕ) : Type 0 where
-  pub full-length : length tabulation ≡ tabulation-length
-  pub has-slots : 0 < r
-  pub slots-bound : r ≤ max-slots
-
 -- byte i of a key, b0 the lowest
 abbrev pub byte : ℕ → ℕ → ℕ
 byte zero key = key % 256
@@ -69,7 +63,13 @@ pub range-in : (r : ℕ) → 0 < r → r ≤ max-slots → slots-in-range r ≡ 
 unfolding slots-in-range
 range-in r some most = rw (le-leb 1 r some) (le-leb r max-slots most)
 
--- so hashing has what it needs where neither 1 nor 2 applies
+-- what hashing needs: a tabulation of its length, and r in its range
+pub record Hashing (tabulation : List ℕ) (r : ℕ) : Type 0 where
+  pub full-length : length tabulation ≡ tabulation-length
+  pub has-slots : 0 < r
+  pub slots-bound : r ≤ max-slots
+
+-- it is had where neither 1 nor 2 applies
 pub hashing : {tabulation : List ℕ} {r : ℕ} → length tabulation ≡ tabulation-length → slots-in-range r ≡ true → Hashing tabulation r
 hashing {tabulation} {r} e range = record { full-length = e; has-slots = in-range-pos r range; slots-bound = in-range-max r range }
 
