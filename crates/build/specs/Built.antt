@@ -15,7 +15,7 @@ use Rattle.cuckoo.specs.Seating.{Ends}
 use Rattle.cuckoo.specs.Forest.{forest}
 use Rattle.forest.specs.HeldForest.{other, slot-count, other-end, slots-fit}
 use Rattle.partition.specs.Words.{max-points}
-use Rattle.build.specs.Slots.{listed, is-listed}
+use Rattle.build.specs.EachSlot.{listed, is-listed}
 use Rattle.build.specs.Seat.{Occupied}
 use Rattle.build.specs.Link.{Linking, unlinked, link-keys, Linked, link-all, forest-few}
 use Rattle.build.specs.Labels.{Labels, labelled, label-all}

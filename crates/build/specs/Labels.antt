@@ -8,7 +8,7 @@ use Rattle.cuckoo.specs.Joined.{Joined, mono}
 use Rattle.cuckoo.specs.Forest.{forest, forest-in, spans}
 use Rattle.partition.specs.Words.{rep-of}
 use Rattle.partition.specs.Partition.{rep-lt}
-use Rattle.build.specs.Slots.{each-slot, each-slot-length, all-slots-at}
+use Rattle.build.specs.EachSlot.{each-slot, each-slot-length, all-slots-at}
 use Rattle.build.specs.Link.{Linking, Linked}
 
 -- the label of a key: that of its slot in table 0

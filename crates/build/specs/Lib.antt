@@ -1,6 +1,6 @@
--- From ascending keys to the canonical image. The passes of the build as functions on lists, and what they compute (Slots to Built); how the parts lie in
--- scratch (Scratch); the same passes over scratch, for the code (Access to Whole); what callers read (Outcome). Assumes nothing.
-pub mod Slots
+-- From ascending keys to the canonical image. The passes of the build as functions on lists, and what they compute (EachSlot to Built); how the parts lie in
+-- scratch (Scratch); the same passes over scratch, for the code (Access to Whole); what callers read (Build). Assumes nothing.
+pub mod EachSlot
 pub mod Seat
 pub mod Link
 pub mod Labels
@@ -15,5 +15,5 @@ pub mod Passes
 pub mod NotesCode
 pub mod FinishCode
 pub mod NextCode
-pub mod Outcome
+pub mod Build
 pub mod Whole

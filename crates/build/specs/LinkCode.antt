@@ -23,7 +23,7 @@ use Rattle.build.specs.Scratch.{Parts, glue, next-at, parts, parts-glue,
 use Rattle.build.specs.Access.{Enough, Room, parts-fit, parts-whole, held-sized, sets-sized, next-part, part-set}
 use Rattle.build.specs.Link.{Linking, smaller-end, link-key, link-keys, unlinked, Sound, sound-start, sound-key}
 use Rattle.build.specs.Labels.{relabel, labelled}
-use Rattle.build.specs.Slots.{each-slot, each-slot-none, each-slot-step}
+use Rattle.build.specs.EachSlot.{each-slot, each-slot-none, each-slot-step}
 use Rattle.build.specs.Built.{linking}
 
 -- the parts with other held words and sets

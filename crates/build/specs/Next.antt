@@ -18,7 +18,7 @@ use Rattle.cuckoo.specs.Joined.{Joined, jsym, edge}
 use Rattle.cuckoo.specs.Settling.{seated-asc, seated-sub, seated-stops}
 use Rattle.cuckoo.specs.Seating.{from-a, from-b, occupant-from, look}
 use Rattle.cuckoo.specs.Next.{larger, around, next-is}
-use Rattle.build.specs.Slots.{each-slot, each-slot-length, all-slots-at}
+use Rattle.build.specs.EachSlot.{each-slot, each-slot-length, all-slots-at}
 use Rattle.forest.specs.Oriented.{standing}
 use Rattle.build.specs.Seat.{Occupied, standing-at, seat, seat-at}
 use Rattle.build.specs.Labels.{Labels, label-of, label-fit, same-label, label-joined}

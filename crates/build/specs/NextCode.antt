@@ -14,7 +14,7 @@ use Rattle.basics.specs.Sets.{Asc, none, some}
 use Rattle.forest.specs.Oriented.{standing}
 use Rattle.forest.specs.HeldForest.{holding, slot-count, slots-fit}
 use Rattle.build.specs.Seat.{seat}
-use Rattle.build.specs.Slots.{each-slot, each-slot-none, each-slot-step}
+use Rattle.build.specs.EachSlot.{each-slot, each-slot-none, each-slot-step}
 use Rattle.build.specs.Labels.{Labels, label-of, label-fit}
 use Rattle.build.specs.Next.{Passing, last-seen, put-at, put-next, chained, blank-at, blanked, label-read}
 use Rattle.build.specs.Scratch.{Parts, parts, held-at, with-sets, with-next}

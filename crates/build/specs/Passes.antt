@@ -15,7 +15,7 @@ use Rattle.forest.specs.Oriented.{standing}
 use Rattle.build.specs.Labels.{Labels, label-of}
 use Rattle.build.specs.Notes.{Noting, nothing-noted, note-at, stash-key, noted, noted-held}
 use Rattle.build.specs.Finish.{finish-label, finished, finish-label-length}
-use Rattle.build.specs.Slots.{each-slot-length}
+use Rattle.build.specs.EachSlot.{each-slot-length}
 use Rattle.build.specs.Next.{Passing, last-seen, chained, blank-at, blanked, last-seen-length, chained-length}
 use Rattle.build.specs.Scratch.{Parts, PartsSized, with-held, with-next, with-sets, with-stash}
 use Rattle.build.specs.Access.{Fit, held-sized, next-sized, sets-sized, stash-sized}

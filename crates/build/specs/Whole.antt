@@ -14,7 +14,7 @@ use Rattle.cuckoo.specs.Graph.{slot-key, slot-next}
 use Rattle.basics.specs.Tests.{zero-one}
 use Rattle.basics.specs.Sets.{Asc}
 use Rattle.forest.specs.HeldForest.{other, slot-count, other-end, slots-fit}
-use Rattle.build.specs.Slots.{listed}
+use Rattle.build.specs.EachSlot.{listed}
 use Rattle.build.specs.Labels as Labels-of
 use Rattle.build.specs.Labels.{Labels, labelled}
 use Rattle.build.specs.LinkCode.{with-linking, linked-words, label-words}
@@ -26,7 +26,7 @@ use Rattle.build.specs.Scratch.{Parts, PartsSized, parts, glue, with-nex
 use Rattle.build.specs.Access.{Room, Fit, parts-fit, held-sized, next-sized, sets-sized}
 use Rattle.build.specs.Passes.{answer, noting-of, noted-parts, noted-held-parts, finished-parts, last-seen-parts, chained-parts, blanked-parts}
 use Rattle.build.specs.Passes.{noted-sized, noted-held-sized, finished-sized, last-seen-sized, chained-sized, blanked-sized, labels-fit}
-use Rattle.build.specs.Outcome.{Buildable, Build, full, made, Built, stash-keys}
+use Rattle.build.specs.Build.{Buildable, Build, full, made, Built, stash-keys}
 use Rattle.build.specs.declared.StashCount.{StashCount}
 use Rattle.build.specs.declared.StashCount.the-variants.{Keys, Overflow}
 

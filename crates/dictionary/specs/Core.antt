@@ -21,7 +21,7 @@ use Rattle.layout.specs.Shape.{Shaped, shape}
 use Rattle.layout.specs.Standing.{keys-in-valid}
 use Rattle.layout.specs.Fitting.{without-fits}
 use Rattle.codec.specs.Collect.{keys-in-few}
-use Rattle.build.specs.Outcome.{Buildable}
+use Rattle.build.specs.Build.{Buildable}
 use Rattle.outcome.specs.declared.Change.{Change}
 use Rattle.outcome.specs.declared.Change.the-variants.{Insert, Remove}
 use Rattle.outcome.specs.Outcome.{early-refusals, changed, set-refusals, change-refusal, change-outcome, check-outcome}

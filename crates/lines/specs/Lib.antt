@@ -5,4 +5,4 @@ pub mod Number
 pub mod Parted
 pub mod Command
 pub mod Buffer
-pub mod Reading
+pub mod Stream

@@ -9,7 +9,7 @@ use Rattle.cuckoo.specs.Graph.{stash, slot-key, slot-next}
 use Rattle.tabulation.specs.Slots.{slot-0, slot-1}
 use Rattle.layout.specs.Layout.{Params, family, words-length, slots-of, places-of, stash-of, slot-words, image, image-by, slot-words-by}
 use Rattle.layout.specs.Shape.{Shaped, Sized}
-use Rattle.build.specs.Slots.{listed}
+use Rattle.build.specs.EachSlot.{listed}
 use Rattle.build.specs.Scratch.{parts, used}
 use Rattle.build.specs.Scratch as Scratch
 use Rattle.codec.specs.Assembled.{woven, assembled}

@@ -18,7 +18,7 @@ use Rattle.layout.specs.Shape.{shape}
 use Rattle.layout.specs.Image.{le-fits}
 use Rattle.layout.specs.Standing.{keys-in-valid, not-blank}
 use Rattle.codec.specs.Collect.{keys-in-few}
-use Rattle.build.specs.Outcome.{Standing, full, made, Build, Built, Buildable}
+use Rattle.build.specs.Build.{Standing, full, made, Build, Built, Buildable}
 use Rattle.build.specs.declared.StashCount.{StashCount}
 use Rattle.build.specs.declared.StashCount.the-variants.{Keys as StashKeys, Overflow}
 use Rattle.outcome.specs.Outcome.{early-refusals}

@@ -4,7 +4,7 @@ ghost use mathlib.Core.Path.{_≡_};
 ghost use lib.ListN.{length, take, replicate};
 ghost use Rattle.layout.specs.Layout.{slots-of, places-of, params-of, keys-in};
 ghost use Rattle.layout.specs.Shape.{Shaped};
-ghost use Rattle.build.specs.Outcome.{Buildable};
+ghost use Rattle.build.specs.Build.{Buildable};
 ghost use Rattle.outcome.specs.Laws.{Ready};
 ghost use Rattle.renewal.specs.Reading.{early-refusal, number, values, reading-refusal, reading-values};
 ghost use Rattle.renewal.specs.Reading.{new-answer, new-words};

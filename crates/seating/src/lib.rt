@@ -9,7 +9,7 @@ ghost use Rattle.build.specs.Access.{Room};
 ghost use Rattle.build.specs.Passes.{answer};
 ghost use Rattle.build.specs.NextCode.{Chainable};
 ghost use Rattle.build.specs.Whole.{noted-from, seated-from, whole-noting};
-ghost use Rattle.build.specs.Outcome.{Buildable, Built};
+ghost use Rattle.build.specs.Build.{Buildable, Built};
 use build::StashCount;
 use noting::notes;
 

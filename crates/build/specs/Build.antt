@@ -7,7 +7,7 @@ use Rattle.refusals.specs.Refusal.{done, stash-full}
 use Rattle.tabulation.specs.Hash.{Family, Hashing}
 use Rattle.tabulation.specs.Slots.{slot-0, slot-1}
 use Rattle.cuckoo.specs.Graph.{stash, slot-key, slot-next}
-use Rattle.build.specs.Slots.{listed}
+use Rattle.build.specs.EachSlot.{listed}
 use Rattle.basics.specs.Sets.{Asc}
 use Rattle.build.specs.Scratch.{parts, used}
 use Rattle.build.specs.declared.StashCount.{StashCount}
