@@ -33,6 +33,11 @@ pub const SLOT_WIDTH: usize = 2;
 // The most places of a stash.
 pub const MAX_PLACES: u32 = 64;
 
+// The words that the largest dictionary has, and the scratch that its calls ask for: r = 1,024, s = 64.
+pub const MAX_WORDS: usize = 4164;
+
+pub const MAX_SCRATCH: usize = 8448;
+
 // Whether r and s are in their ranges.
 pub fn are_sizes(r: u32, s: u32) -> bool
     ensures { λ b. ⌜ b ≡ sizes-in-range r s ⌝ }

@@ -8,6 +8,8 @@ ghost use mathlib.Core.Path.{_≡_};
 ghost use Rattle.book.specs.Bytes.{entries-of};
 ghost use Rattle.layout.specs.Layout.{words-length};
 ghost use Rattle.layout.specs.Shape.{Sized};
+use access::MAX_SCRATCH;
+use access::MAX_WORDS;
 use counters::Counters;
 use libc::STDIN_FILENO;
 use lines::LONGEST;
@@ -18,11 +20,6 @@ use tabulation::TABULATION_LENGTH;
 
 // The bytes of a book.
 const BOOK_BYTES: usize = 4096;
-
-// What the largest sizes need: 4 + 4 * 1024 + 64 words, and scratch of 8 * 1024 + 4 * 64.
-const MAX_WORDS: usize = 4164;
-
-const MAX_SCRATCH: usize = 8448;
 
 // A byte of standard input.
 enum Byte {
