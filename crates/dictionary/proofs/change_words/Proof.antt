@@ -22,16 +22,26 @@ start e = e .before .before .before .before .before .before
 ready : (e : tie.Else1) → Ready (start e .args .tabulation .now) (start e .args .words .now) (start e .args .scratch .now)
 ready e = early-ready _ _ _ (e .before .early .ensures) (e .if1 .left)
 
--- they are canonical, and the key is not blank
-abbrev read : tie.Else2 → tie.Else1
-read z = z .before .before .before .before .before .before .before .before .before .before
+-- they are read
+abbrev readable : tie.After-read-set → tie.Else1
+readable r = r .before .before .before
 
-set : (z : tie.Else2) → Settable (start (read z) .args .tabulation .now) (start (read z) .args .words .now) (z .before .before .before .before .before .before .before .read-set .last .1 .1 .0)
-    (z .before .before .before .reading .given .0 .0) (start (read z) .args .key)
+-- they are canonical
+abbrev read : tie.After-reading → tie.After-read-set
+read k = k .before .before .before .before
+
+-- and the key is not blank
+abbrev keys : tie.Else2 → tie.After-reading
+keys z = z .before .before .before
+
+abbrev opened : tie.Else2 → tie.Else1
+opened z = readable (read (keys z))
+
+set : (z : tie.Else2) → let a = start (opened z) .args in
+    Settable (a .tabulation .now) (a .words .now) (read (keys z) .read-set .last .1 .1 .0) (keys z .reading .given .0 .0) (a .key)
 set z =
-    let q = z .before .before .before in
-    let l = q .before .before .before .before in
-    settable (ready (read z)) (l .read-set .kept .1 .1 .0) (q .reading .given .1) (l .read-set .ensures .1) (z .if2 .left) (z .before .is-blank .ensures)
+    let r = read (keys z) .read-set in
+    settable (ready (opened z)) (r .kept .1 .1 .0) (keys z .reading .given .1) (r .ensures .1) (z .if2 .left) (z .before .is-blank .ensures)
 
 read-set-requires : tie.Need-read-set-requires
 read-set-requires c κs = ready (c .before .before)
@@ -49,7 +59,7 @@ same-length-3 : tie.Need-same-length-3
 same-length-3 c = search needs
 
 returns-2 : tie.Need-returns-2
-returns-2 c = let l = c .before .before .before .before in left-tampered _ _ _ _ _ (ready (l .before .before .before)) (l .read-set .ensures .0) (c .enum-told .given .1)
+returns-2 c = let r = c .before .before .before .before in left-tampered _ _ _ _ _ (ready (readable r)) (r .read-set .ensures .0) (c .enum-told .given .1)
 
 is-blank-requires : tie.Need-is-blank-requires
 is-blank-requires c κs = search needs
@@ -62,9 +72,8 @@ same-length-5 c = search needs
 
 returns-3 : tie.Need-returns-3
 returns-3 c =
-    let q = c .before .before .before in
-    let l = q .before .before .before .before in
-    left-blank _ _ _ _ _ (ready (l .before .before .before)) (l .read-set .ensures .1 .0) (q .reading .given .1) (c .if2 .taken) (c .before .is-blank .ensures)
+    let k = c .before .before .before in
+    left-blank _ _ _ _ _ (ready (readable (read k))) (read k .read-set .ensures .1 .0) (k .reading .given .1) (c .if2 .taken) (c .before .is-blank .ensures)
 
 enum-told-2 : tie.Need-enum-told-2
 enum-told-2 c = search needs
@@ -88,7 +97,7 @@ returns-4 : tie.Need-returns-4
 returns-4 c =
     let i = c .before .before .before .before in
     let z = i .before .before .before .before .before in
-    rw (i .before .before .before .enum-told2 .given .1) (left-set _ _ _ _ _ (ready (read z)) (set z) (i .insert-key .ensures))
+    rw (i .before .before .before .enum-told2 .given .1) (left-set _ _ _ _ _ (ready (opened z)) (set z) (i .insert-key .ensures))
 
 same-length-8 : tie.Need-same-length-8
 same-length-8 c = search needs
@@ -100,7 +109,7 @@ returns-5 : tie.Need-returns-5
 returns-5 c =
     let i = c .before .before .before .before in
     let z = i .before .before .before .before .before in
-    rw (i .before .before .before .enum-told3 .given .1) (left-set _ _ _ _ _ (ready (read z)) (set z) (i .remove-key .ensures))
+    rw (i .before .before .before .enum-told3 .given .1) (left-set _ _ _ _ _ (ready (opened z)) (set z) (i .remove-key .ensures))
 
 pub change-words-spec : {M : Type 1} → statement M
 change-words-spec =

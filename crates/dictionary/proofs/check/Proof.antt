@@ -14,11 +14,14 @@ clear-requires c κs = search needs
 same-length : tie.Need-same-length
 same-length c = search needs
 
+-- the call of `check_words`
+abbrev checked : tie.After-slice-known3 → tie.After-check-words
+checked c = c .before .before .before .before .before .before
+
 returns : tie.Need-returns
 returns c =
-    let w = c .before .before .before .before .before .before in
-    outcome-of (w .check-words .ensures) (sym (check-words _ _ _))
-    ((rw (w .check-words .kept .1 .1 .0) at (c .before .before .clear .ensures)) ∙ sym (check-scratch _ _ _))
+    outcome-of (checked c .check-words .ensures) (sym (check-words _ _ _))
+    ((rw (checked c .check-words .kept .1 .1 .0) at (c .before .before .clear .ensures)) ∙ sym (check-scratch _ _ _))
 
 pub check-spec : {M : Type 1} → statement M
 check-spec = tie.close (tie.spec check-words-requires clear-requires same-length returns)

@@ -25,12 +25,16 @@ has-requires c κs = front-asc (c .before .before .before .before .pre)
 same-length : tie.Need-same-length
 same-length c = search needs
 
+-- where all began
+abbrev origin : tie.After-has → tie.Start
+origin h = h .before .before .before .before .before
+
 returns : tie.Need-returns
-returns c = insert-present (c .before .before .before .before .before .before .pre) (sym (c .before .has .ensures) ∙ c .if1 .taken)
+returns c = insert-present (origin (c .before) .pre) (sym (c .before .has .ensures) ∙ c .if1 .taken)
 
 -- the key is not there
 abbrev start : tie.Else1 → tie.Start
-start e = e .before .before .before .before .before .before
+start e = origin (e .before)
 
 absent : (e : tie.Else1) → member (start e .args .key) (take (start e .args .n) (start e .args .scratch .now)) ≡ false
 absent e = sym (e .before .has .ensures) ∙ e .if1 .left
@@ -92,10 +96,15 @@ insert-requires c κs =
 add-renew : tie.Need-add-renew
 add-renew c = search needs
 
+-- the key is put in
+abbrev inserted : tie.After-renew-arg2 → tie.After-insert
+inserted a = a .before .before .before .before
+
 renew-requires : tie.Need-renew-requires
 renew-requires c κs =
-    let i = c .before .before .before .before in
-    changed-buildable (start (tested (i .before .before)) .pre) Insert _ _ (i .insert .kept .0) (room (i .before .before)) (i .insert .ensures .0)
+    let i = inserted c in
+    let r = i .before .before in
+    changed-buildable (start (tested r) .pre) Insert _ _ (i .insert .kept .0) (room r) (i .insert .ensures .0)
 
 same-length-4 : tie.Need-same-length-4
 same-length-4 c = search needs
@@ -106,9 +115,10 @@ same-length-5 c = search needs
 returns-3 : tie.Need-returns-3
 returns-3 c =
     let q = c .before .before .before .before in
-    let i = q .before .before .before .before .before in
-    let e = tested (i .before .before) in
-    changed-renewed (start e .pre) Insert _ _ (i .insert .kept .0) (room (i .before .before)) (i .insert .ensures .0) (insert-renewed (start e .pre) (absent e)) (q .renew .ensures)
+    let i = inserted (q .before) in
+    let r = i .before .before in
+    let e = tested r in
+    changed-renewed (start e .pre) Insert _ _ (i .insert .kept .0) (room r) (i .insert .ensures .0) (insert-renewed (start e .pre) (absent e)) (q .renew .ensures)
 
 pub insert-key-spec : {M : Type 1} → statement M
 insert-key-spec =

@@ -25,12 +25,16 @@ has-requires c κs = front-asc (c .before .before .before .before .pre)
 same-length : tie.Need-same-length
 same-length c = search needs
 
+-- where all began
+abbrev origin : tie.After-has → tie.Start
+origin h = h .before .before .before .before .before
+
 returns : tie.Need-returns
-returns c = remove-absent (c .before .before .before .before .before .before .pre) (sym (c .before .has .ensures) ∙ not-true _ (c .if1 .taken))
+returns c = remove-absent (origin (c .before) .pre) (sym (c .before .has .ensures) ∙ not-true _ (c .if1 .taken))
 
 -- the key is there
 abbrev start : tie.Else1 → tie.Start
-start e = e .before .before .before .before .before .before
+start e = origin (e .before)
 
 present : (e : tie.Else1) → member (start e .args .key) (take (start e .args .n) (start e .args .scratch .now)) ≡ true
 present e = sym (e .before .has .ensures) ∙ not-false _ (e .if1 .left)
@@ -41,14 +45,18 @@ few e = omega (arith, key-count (start e .pre))
 delete-requires : tie.Need-delete-requires
 delete-requires c κs = let e = c .before in (front-fits (start e .pre), front-asc (start e .pre), present e)
 
+-- it is deleted
+abbrev deleted : tie.After-renew-arg2 → tie.After-delete
+deleted a = a .before .before .before .before
+
 sub-renew : tie.Need-sub-renew
-sub-renew c = let e = c .before .before .before .before .before .before in remove-some (start e .pre) (present e)
+sub-renew c = let e = deleted c .before .before in remove-some (start e .pre) (present e)
 
 renew-requires : tie.Need-renew-requires
 renew-requires c κs =
-    let i = c .before .before .before .before in
-    let e = i .before .before in
-    changed-buildable (start e .pre) Remove _ _ (i .delete .kept .0) (few e) (i .delete .ensures .0)
+    let d = deleted c in
+    let e = d .before .before in
+    changed-buildable (start e .pre) Remove _ _ (d .delete .kept .0) (few e) (d .delete .ensures .0)
 
 same-length-2 : tie.Need-same-length-2
 same-length-2 c = search needs
@@ -58,10 +66,10 @@ same-length-3 c = search needs
 
 returns-2 : tie.Need-returns-2
 returns-2 c =
-    let q = c .before .before .before .before in
-    let i = q .before .before .before .before .before in
-    let e = i .before .before in
-    changed-renewed (start e .pre) Remove _ _ (i .delete .kept .0) (few e) (i .delete .ensures .0) (remove-renewed (start e .pre) (present e)) (q .renew .ensures)
+    let r = c .before .before .before .before in
+    let d = deleted (r .before) in
+    let e = d .before .before in
+    changed-renewed (start e .pre) Remove _ _ (d .delete .kept .0) (few e) (d .delete .ensures .0) (remove-renewed (start e .pre) (present e)) (r .renew .ensures)
 
 pub remove-key-spec : {M : Type 1} → statement M
 remove-key-spec =
