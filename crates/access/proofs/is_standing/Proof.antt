@@ -1,11 +1,11 @@
 -- `access::is_standing` meets its contract: both slots and the stash lie inside words of the right shape.
-use mathlib.Core.Path.{sym, _∙_}
+use mathlib.Core.Path.{_≡_, sym, _∙_}
 use native.Mathlib.Nat.{add-sub-cancel-left}
 use native.Mathlib.Omega.{arith}
 use Rattle.tabulation.specs.Hash.{tables}
 use Rattle.tabulation.specs.Slots.{slot-0-lt, slot-1-lt}
 use Rattle.layout.specs.Layout.{slots-of}
-use Rattle.layout.specs.Answers.{stands-first, stands-second, stands-stash}
+use Rattle.layout.specs.Answers.{in-table-0, in-table-1, stands-first, stands-second, stands-stash}
 use borrow.Author.Needs.{needs}
 use Rattle.access.proofs.is_standing.Statement.{statement}
 use Rattle.access.proofs.is_standing.Tie as tie
@@ -16,39 +16,48 @@ shared-slice-read-r c = search needs
 first-slot-requires : tie.Need-first-slot-requires
 first-slot-requires c κs = search needs
 
+-- the first slot is known
+abbrev start : tie.After-first-slot → tie.Start
+start f = f .before .before .before .before
+
 in-slot-requires : tie.Need-in-slot-requires
 in-slot-requires c κs =
-    let d = c .before .before .before .before in
-    let F = tables (d .args .tabulation .now) (slots-of (d .args .words .now)) in
-    let l = slot-0-lt F (d .pre .1 .sizes .has-slots) (d .args .key) in
+    let s = start c in
+    let F = tables (s .args .tabulation .now) (slots-of (s .args .words .now)) in
+    let l = slot-0-lt F (s .pre .1 .sizes .has-slots) (s .args .key) in
     let e = c .first-slot .ensures in
     (omega arith, omega arith)
 
+-- it is compared with the key
+first : (i : tie.After-in-slot) → let a = start (i .before) .args in in-table-0 (a .tabulation .now) (a .words .now) (a .key) ≡ i .in-slot .result
+first i = sym (rw (i .before .first-slot .ensures) at (i .in-slot .ensures))
+
 returns : tie.Need-returns
-returns c =
-    let i = c .before in
-    sym (stands-first _ _ _ (sym (rw (i .before .first-slot .ensures) at (i .in-slot .ensures)) ∙ c .if1 .taken))
+returns c = sym (stands-first _ _ _ (first (c .before) ∙ c .if1 .taken))
 
 second-slot-requires : tie.Need-second-slot-requires
 second-slot-requires c κs = search needs
 
+-- it does not have the key, and the second is known
+abbrev earlier : tie.After-second-slot → tie.After-first-slot
+earlier d = d .before .before .before
+
 in-slot-requires-2 : tie.Need-in-slot-requires-2
 in-slot-requires-2 c κs =
-    let d = c .before .before .before .before .before .before .before in
-    let F = tables (d .args .tabulation .now) (slots-of (d .args .words .now)) in
-    let l = slot-1-lt F (d .pre .1 .sizes .has-slots) (d .args .key) in
+    let s = start (earlier c) in
+    let F = tables (s .args .tabulation .now) (slots-of (s .args .words .now)) in
+    let l = slot-1-lt F (s .pre .1 .sizes .has-slots) (s .args .key) in
     let e = c .second-slot .ensures in
     (omega arith, omega arith)
 
+-- it is compared too
+second : (j : tie.After-in-slot2) → let a = start (earlier (j .before)) .args in in-table-1 (a .tabulation .now) (a .words .now) (a .key) ≡ j .in-slot2 .result
+second j = sym (rw (j .before .second-slot .ensures) at (j .in-slot2 .ensures))
+
 returns-2 : tie.Need-returns-2
 returns-2 c =
-    let j = c .before in
-    let k = j .before .before in
-    let i = k .before in
-    sym
-    (stands-second _ _ _
-    (sym (rw (i .before .first-slot .ensures) at (i .in-slot .ensures)) ∙ k .if1 .left)
-    (sym (rw (j .before .second-slot .ensures) at (j .in-slot2 .ensures)) ∙ c .if2 .taken))
+    let k = c .before .before .before in
+    sym (stands-second _ _ _ (first (k .before) ∙ k .if1 .left) (second (c .before) ∙ c .if2 .taken))
 
 stash-start-requires : tie.Need-stash-start-requires
 stash-start-requires c κs = search needs
@@ -81,15 +90,10 @@ returns-3 : tie.Need-returns-3
 returns-3 c =
     let w = c .before .before in
     let q = w .before .before .before in
-    let j = q .before in
-    let k = j .before .before in
-    let i = k .before in
+    let k = q .before .before .before in
     c .among .ensures
     ∙ (rw (w .before .before .stash-start .ensures, w .wide .ensures, add-sub-cancel-left))
-    ∙ sym
-    (stands-stash _ _ _
-    (sym (rw (i .before .first-slot .ensures) at (i .in-slot .ensures)) ∙ k .if1 .left)
-    (sym (rw (j .before .second-slot .ensures) at (j .in-slot2 .ensures)) ∙ q .if2 .left))
+    ∙ sym (stands-stash _ _ _ (first (k .before) ∙ k .if1 .left) (second (q .before) ∙ q .if2 .left))
 
 pub is-standing-spec : {M : Type 1} → statement M
 is-standing-spec =

@@ -1,9 +1,9 @@
 -- `access::stash` meets its contract: a view that is not refused lies inside the words.
-use mathlib.Core.Path.{sym, _∙_}
+use mathlib.Core.Path.{_≡_, sym, _∙_}
 use native.Mathlib.Nat.{add-sub-cancel-left}
 use native.Mathlib.Omega.{arith}
 use borrow.Author.Tests.{eq-eqb, ne-eqb}
-use Rattle.layout.specs.Answers.{view-of}
+use Rattle.layout.specs.Answers.{view-refusal, view-of}
 use Rattle.layout.specs.Shape.{viewed}
 use borrow.Author.Needs.{needs}
 use Rattle.access.proofs.stash.Statement.{statement}
@@ -25,23 +25,31 @@ returns : tie.Need-returns
 unfolding view-of
 returns c = simp (ne-eqb _ 0 (λ e. c .before .if1 .taken (c .before .before .stash-refusal .ensures ∙ e)))
 
+-- the view is not refused
+accepted : (e : tie.Else1) → view-refusal (e .before .before .before .args .words .now) ≡ 0
+accepted e = sym (e .before .stash-refusal .ensures) ∙ e .if1 .left
+
 shared-slice-read-stash-start : tie.Need-shared-slice-read-stash-start
-shared-slice-read-stash-start c = omega (arith, viewed _ (sym (c .before .before .stash-refusal .ensures) ∙ c .before .if1 .left))
+shared-slice-read-stash-start c = omega (arith, viewed _ (accepted (c .before)))
 
 stash-start-requires : tie.Need-stash-start-requires
-stash-start-requires c κs = (viewed _ (sym (c .before .before .stash-refusal .ensures) ∙ c .before .if1 .left)) .shape .sizes .slots-bound
+stash-start-requires c κs = viewed _ (accepted (c .before)) .shape .sizes .slots-bound
 
 shared-slice-read-wide : tie.Need-shared-slice-read-wide
-shared-slice-read-wide c = omega (arith, viewed _ (sym (c .before .before .before .before .stash-refusal .ensures) ∙ c .before .before .before .if1 .left))
+shared-slice-read-wide c = omega (arith, viewed _ (accepted (c .before .before .before)))
 
 wide-requires : tie.Need-wide-requires
 wide-requires c κs = search needs
 
+-- the stash has its place and its length
+abbrev granted : tie.After-wide → tie.Else1
+granted w = w .before .before .before .before
+
 add-end : tie.Need-add-end
-add-end c = omega (arith, viewed _ (sym (c .before .before .before .before .before .stash-refusal .ensures) ∙ c .before .before .before .before .if1 .left))
+add-end c = omega (arith, viewed _ (accepted (granted c)))
 
 mul-result : tie.Need-mul-result
-mul-result c = omega (arith, viewed _ (sym (c .before .before .before .before .before .stash-refusal .ensures) ∙ c .before .before .before .before .if1 .left))
+mul-result c = omega (arith, viewed _ (accepted (granted c)))
 
 sub-result-2 : tie.Need-sub-result-2
 sub-result-2 c = search needs
@@ -50,11 +58,11 @@ part-result-start-2 : tie.Need-part-result-start-2
 part-result-start-2 c = search needs
 
 part-result-end-2 : tie.Need-part-result-end-2
-part-result-end-2 c = omega (arith, viewed _ (sym (c .before .before .before .before .before .stash-refusal .ensures) ∙ c .before .before .before .before .if1 .left))
+part-result-end-2 c = omega (arith, viewed _ (accepted (granted c)))
 
 returns-2 : tie.Need-returns-2
 unfolding view-of
-returns-2 c = simp (eq-eqb _ 0 (sym (c .before .before .before .before .before .before .stash-refusal .ensures) ∙ c .before .before .before .before .before .if1 .left), add-sub-cancel-left, c .before .before .before .stash-start .ensures, c .before .wide .ensures)
+returns-2 c = simp (eq-eqb _ 0 (accepted (granted (c .before))), add-sub-cancel-left, c .before .before .before .stash-start .ensures, c .before .wide .ensures)
 
 pub stash-spec : {M : Type 1} → statement M
 stash-spec =
