@@ -12,11 +12,12 @@ drop-doubles-requires c κs = search needs
 same-length : tie.Need-same-length
 same-length c = search needs
 
+-- the call of `sort`
+abbrev sorted : tie.After-drop-doubles → tie.After-sort
+sorted d = d .before .before .before .before
+
 returns : tie.Need-returns
-returns c =
-    let d = c .before .before .drop-doubles in
-    let s = c .before .before .before .before .before .before .sort in
-    rw (s .ensures) at (d .ensures)
+returns c = let d = c .before .before in rw (sorted d .sort .ensures) at (d .drop-doubles .ensures)
 
 pub make-set-spec : {M : Type 1} → statement M
 make-set-spec = tie.close (tie.spec sort-requires drop-doubles-requires same-length returns)

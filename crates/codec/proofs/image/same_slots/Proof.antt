@@ -24,11 +24,15 @@ loop-holds c = (search needs, refl)
 same-slot-requires : tie.Need-same-slot-requires Inv-loop μ-loop
 same-slot-requires c κs = search needs
 
+-- some slots are compared
+abbrev start : tie.At-loop Inv-loop μ-loop → tie.Start Inv-loop μ-loop
+start l = l .before .before .before .before
+
 returns : tie.Need-returns Inv-loop μ-loop
 returns c =
-    let l = c .before .before .before .loop in
-    let p = c .before .before .before .before .before .before .before .pre in
-    sym (l .inv .1 ∙ same-slots-step p (l .slot) (omega arith) ∙ (rw (sym (c .before .same-slot .ensures) ∙ not-true _ (c .if1 .taken))))
+    let l = c .before .before .before in
+    sym (l .loop .inv .1 ∙ same-slots-step (start l .pre) (l .loop .slot) (omega arith)
+    ∙ (rw (sym (c .before .same-slot .ensures) ∙ not-true _ (c .if1 .taken))))
 
 add-slot : tie.Need-add-slot Inv-loop μ-loop
 add-slot c = search needs
@@ -38,14 +42,14 @@ loop-less c = search needs
 
 loop-again : tie.Need-loop-again Inv-loop μ-loop
 loop-again c =
-    let l = c .before .before .before .loop in
-    let p = c .before .before .before .before .before .before .before .pre in
-    (search needs, l .inv .1 ∙ same-slots-step p (l .slot) (omega arith) ∙ (rw (sym (c .before .same-slot .ensures) ∙ not-false _ (c .if1 .left))))
+    let l = c .before .before .before in (
+      search needs,
+      l .loop .inv .1 ∙ same-slots-step (start l .pre) (l .loop .slot) (omega arith)
+          ∙ (rw (sym (c .before .same-slot .ensures) ∙ not-false _ (c .if1 .left))),
+    )
 
 returns-2 : tie.Need-returns-2 Inv-loop μ-loop
-returns-2 c =
-    let l = c .before .loop in
-    sym (l .inv .1 ∙ same-slots-end (c .before .before .before .before .before .pre) (l .slot) (omega arith))
+returns-2 c = let l = c .before in sym (l .loop .inv .1 ∙ same-slots-end (start l .pre) (l .loop .slot) (omega arith))
 
 pub same-slots-spec : {M : Type 1} → statement M
 same-slots-spec =
