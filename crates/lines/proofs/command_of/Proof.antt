@@ -39,9 +39,10 @@ with-letter-requires c κs = search needs
 
 returns-3 : tie.Need-returns-3
 returns-3 c =
-    let l = c .before .before .before .before .before .before .before .before .args .line .now in
+    let e = c .before .before .before .before in
+    let l = e .before .before .before .before .args .line .now in
     let a : c .before .number-in .result ≡ number-of (take (length l - 2) (drop 2 l)) = c .before .number-in .ensures in
-    c .with-letter .ensures ∙ rw (a, to-end) (sym (command-split l (omega arith) (c .before .before .before .before .if2 .left)))
+    c .with-letter .ensures ∙ rw (a, to-end) (sym (command-split l (omega arith) (e .if2 .left)))
 
 pub command-of-spec : {M : Type 1} → statement M
 command-of-spec =

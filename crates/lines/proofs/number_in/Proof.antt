@@ -30,21 +30,21 @@ shared-slice-read-wide c = search needs
 wide-requires : tie.Need-wide-requires Inv-loop μ-loop
 wide-requires c κs = search needs
 
+-- a character is read, which may be a digit
+abbrev round : tie.After-wide Inv-loop μ-loop → tie.At-loop Inv-loop μ-loop
+round d = d .before .before .before
+
 returns-2 : tie.Need-returns-2 Inv-loop μ-loop
 returns-2 c =
-    let d = c .before in
-    let w = d .wide .ensures in
-    let l = d .before .before .before .loop in
-    let t = d .before .before .before .before .before .before .before .args .text .now in
-    sym (l .inv .2 ∙ read-low t (l .i) (l .n) (omega arith) (omega arith))
+    let w = c .before .wide .ensures in
+    let l = round (c .before) .loop in
+    sym (l .inv .2 ∙ read-low _ (l .i) (l .n) (omega arith) (omega arith))
 
 returns-3 : tie.Need-returns-3 Inv-loop μ-loop
 returns-3 c =
-    let d = c .before .before in
-    let w = d .wide .ensures in
-    let l = d .before .before .before .loop in
-    let t = d .before .before .before .before .before .before .before .args .text .now in
-    sym (l .inv .2 ∙ read-high t (l .i) (l .n) (omega arith) (omega arith) (omega arith))
+    let w = c .before .before .wide .ensures in
+    let l = round (c .before .before) .loop in
+    sym (l .inv .2 ∙ read-high _ (l .i) (l .n) (omega arith) (omega arith) (omega arith))
 
 mul-n : tie.Need-mul-n Inv-loop μ-loop
 mul-n c = search needs
@@ -54,11 +54,9 @@ add-n c = search needs
 
 returns-4 : tie.Need-returns-4 Inv-loop μ-loop
 returns-4 c =
-    let d = c .before .before .before in
-    let w = d .wide .ensures in
-    let l = d .before .before .before .loop in
-    let t = d .before .before .before .before .before .before .before .args .text .now in
-    sym (l .inv .2 ∙ read-over t (l .i) (l .n) (omega arith) (omega arith) (omega arith) (omega arith))
+    let w = c .before .before .before .wide .ensures in
+    let l = round (c .before .before .before) .loop in
+    sym (l .inv .2 ∙ read-over _ (l .i) (l .n) (omega arith) (omega arith) (omega arith) (omega arith))
 
 add-i : tie.Need-add-i Inv-loop μ-loop
 add-i c = search needs
@@ -68,12 +66,9 @@ loop-less c = search needs
 
 loop-again : tie.Need-loop-again Inv-loop μ-loop
 loop-again c =
-    let d = c .before .before .before in
-    let w = d .wide .ensures in
-    let l = d .before .before .before .loop in
-    let t = d .before .before .before .before .before .before .before .args .text .now in
-    let s = read-step t (l .i) (l .n) (omega arith) (omega arith) (omega arith) (omega arith) in
-    (search needs, search needs, rw w (l .inv .2 ∙ s))
+    let w = c .before .before .before .wide .ensures in
+    let l = round (c .before .before .before) .loop in
+    (search needs, search needs, rw w (l .inv .2 ∙ read-step _ (l .i) (l .n) (omega arith) (omega arith) (omega arith) (omega arith)))
 
 cast-t13 : tie.Need-cast-t13 Inv-loop μ-loop
 cast-t13 c = search needs

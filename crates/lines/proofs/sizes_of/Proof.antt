@@ -46,13 +46,15 @@ both-sizes-requires c κs = search needs
 
 returns-2 : tie.Need-returns-2
 returns-2 c =
-    let l = c .before .before .before .before .before .before .before .before .args .line .now in
-    let e = c .before .before .before .before .before .before .find .result in
-    let f : e ≡ place-of comma l = c .before .before .before .before .before .before .find .ensures in
-    let a : c .before .before .before .number-in .result ≡ number-of (take e l) = c .before .before .before .number-in .ensures in
+    let n = c .before .before .before in
+    let f = n .before .before .before in
+    let l = f .before .before .args .line .now in
+    let e = f .find .result in
+    let p : e ≡ place-of comma l = f .find .ensures in
+    let a : n .number-in .result ≡ number-of (take e l) = n .number-in .ensures in
     let b : c .before .number-in2 .result ≡ number-of (take (length l - (e + 1)) (drop (e + 1) l)) = c .before .number-in2 .ensures in
     let h : place-of comma l < length l = omega arith in
-    c .both-sizes .ensures ∙ rw (a, b, to-end, add-one, f) (sym (sizes-split l h))
+    c .both-sizes .ensures ∙ rw (a, b, to-end, add-one, p) (sym (sizes-split l h))
 
 pub sizes-of-spec : {M : Type 1} → statement M
 sizes-of-spec =
