@@ -20,17 +20,19 @@ enum-told-2 c = search needs
 put-remove-requires : tie.Need-put-remove-requires
 put-remove-requires c κs = search needs
 
+-- room is made
+abbrev start : tie.After-make-room → tie.Start
+start m = m .before .before
+
 returns : tie.Need-returns
 returns c =
-    let a = c .before .before .before .before .before .before .args in
-    let m = c .before .before .before .before .make-room .ensures in
-    omega (arith, c .put-insert .ensures .moved, insert-short (a .key) (a .answer) (omega arith) (omega arith))
+    let m = c .before .before .before .before in
+    omega (arith, m .make-room .ensures, c .put-insert .ensures .moved, insert-short (start m .args .key) (start m .args .answer) (omega arith) (omega arith))
 
 returns-2 : tie.Need-returns-2
 returns-2 c =
-    let a = c .before .before .before .before .before .before .args in
-    let m = c .before .before .before .before .make-room .ensures in
-    omega (arith, c .put-remove .ensures .moved, remove-short (a .key) (a .answer) (omega arith) (omega arith))
+    let m = c .before .before .before .before in
+    omega (arith, m .make-room .ensures, c .put-remove .ensures .moved, remove-short (start m .args .key) (start m .args .answer) (omega arith) (omega arith))
 
 pub add-change-spec : {M : Type 1} → statement M
 add-change-spec =

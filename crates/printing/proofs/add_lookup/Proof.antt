@@ -26,25 +26,26 @@ enum-known-found c = search needs
 put-lookup-requires-3 : tie.Need-put-lookup-requires-3
 put-lookup-requires-3 c κs = search needs
 
+-- room is made
+abbrev start : tie.After-make-room → tie.Start
+start m = m .before .before
+
 returns : tie.Need-returns
 returns c =
-    let s = c .before .before .before .before .before .before in
-    let m = c .before .before .before .before .make-room .ensures in
-    omega (arith, c .put-lookup .ensures .moved, present-short (s .args .key) (omega arith))
+    let m = c .before .before .before .before in
+    omega (arith, m .make-room .ensures, c .put-lookup .ensures .moved, present-short (start m .args .key) (omega arith))
 
 returns-2 : tie.Need-returns-2
 returns-2 c =
-    let s = c .before .before .before .before .before .before in
-    let m = c .before .before .before .before .make-room .ensures in
-    omega (arith, c .put-lookup2 .ensures .moved, absent-short (s .args .key) (omega arith))
+    let m = c .before .before .before .before in
+    omega (arith, m .make-room .ensures, c .put-lookup2 .ensures .moved, absent-short (start m .args .key) (omega arith))
 
 returns-3 : tie.Need-returns-3
 returns-3 c =
-    let s = c .before .before .before .before .before .before .before in
-    let m = c .before .before .before .before .before .make-room .ensures in
+    let m = c .before .before .before .before .before in
     let g = c .before .before .before .found .given in
     let k = c .before .before .known-told .given in
-    omega (arith, c .put-lookup3 .ensures .moved, refused-short (s .args .key) (g .0 .0) (omega arith) (omega (arith, k .0)))
+    omega (arith, m .make-room .ensures, c .put-lookup3 .ensures .moved, refused-short (start m .args .key) (g .0 .0) (omega arith) (omega (arith, k .0)))
 
 pub add-lookup-spec : {M : Type 1} → statement M
 add-lookup-spec =
