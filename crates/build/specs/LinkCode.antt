@@ -1,4 +1,4 @@
--- Steps 1 and 2 over the words of scratch: what the functions of src/link.rt leave there, and why each call and each turn of their loops is one step of
+-- Steps 1 and 2 over the words of scratch: what the functions of linking/src/lib.rt leave there, and why each call and each turn of their loops is one step of
 -- the passes on lists (Link.antt, Labels.antt). Assumes nothing.
 use Prim.Native.Nat.{ℕ, suc, _*_, _+_, _-_, _<_, _≤_}
 use mathlib.Core.Path.{_≡_, refl, sym, _∙_, ap, subst}

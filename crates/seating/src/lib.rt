@@ -1,5 +1,5 @@
 // Steps 4 and 5 of the build, and the build as a whole: from ascending keys to the canonical image, in scratch; slots,
-// next numbers and stash exactly as `cuckoo` defines them. What callers read is build/specs/Outcome.antt.
+// next numbers and stash exactly as `cuckoo` defines them. What callers read is build/specs/Build.antt.
 ghost use mathlib.Core.Path.{_≡_};
 ghost use Prim.Native.Nat.{_+_, _*_, _≤_};
 ghost use lib.ListN.{take};

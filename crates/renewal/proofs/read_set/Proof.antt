@@ -5,7 +5,7 @@ use lib.ListN.{take}
 use Rattle.basics.specs.Lists.{same}
 use Rattle.layout.specs.Layout.{family, params-of, slots-of, places-of}
 use Rattle.layout.specs.Shape.{shape}
-use Rattle.build.specs.Outcome.{Built}
+use Rattle.build.specs.Build.{Built}
 use Rattle.renewal.specs.Parts.{assembled-in}
 use Rattle.renewal.specs.Reading.{Collected, collected-buildable, collected-comparable, read-full, read-same, read-other}
 use Rattle.renewal.specs.Reading.{buildable-as, built-as, comparable-as, assembled-as}

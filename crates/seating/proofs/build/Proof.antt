@@ -1,4 +1,4 @@
--- `seating::build` meets its contract: the theorem of specs/Built.antt, over scratch.
+-- `seating::build` meets its contract: the theorem of build/specs/Built.antt, over scratch.
 use Rattle.build.specs.Access.{room-kept}
 use Rattle.build.specs.Whole.{room-of, built-full, built-made, chainable-noted, seated-noted}
 use borrow.Author.Needs.{needs}
