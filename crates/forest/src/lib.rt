@@ -6,7 +6,8 @@ ghost use mathlib.Core.Path.{_≡_};
 ghost use Prim.Native.Nat.{_*_, _≤_, _<_};
 ghost use lib.ListN.{length};
 ghost use Rattle.tabulation.specs.Hash.{tables, Hashing};
-ghost use Rattle.forest.specs.HeldForest.{other, rerooted, lowest, finished-tree, exchanged, finished-cycle, holding};
+ghost use Rattle.forest.specs.HeldForest.{other, rerooted, lowest, holding};
+ghost use Rattle.forest.specs.HeldForest.{finished-tree, exchanged, finished-cycle};
 
 // The other slot of a key that stands in `slot`.
 fn other_slot(tabulation: &[u16], r: u32, slot: u32, key: u32) -> u32
