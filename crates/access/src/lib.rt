@@ -5,13 +5,14 @@ ghost use mathlib.Core.List.{_++_};
 ghost use Prim.Native.Nat.{_+_, _*_, _≤_, _<_};
 ghost use lib.Dec.{eqb};
 ghost use lib.ListN.{length, getD, take, drop};
-ghost use Rattle.basics.specs.Sets.{member};
 ghost use Rattle.tabulation.specs.Hash.{tabulation-length, max-slots};
 ghost use Rattle.layout.specs.Layout.{header-words, header-length, slot-width, slots-of, places-of, key-count};
 ghost use Rattle.layout.specs.Layout.{stash-count, sizes-in-range, shaped, words-length, scratch-length, key-at};
-ghost use Rattle.layout.specs.Layout.{stash-at};
+ghost use Rattle.layout.specs.Layout.{stash-at, tier-at, place-width, max-places, place-entries, slot-entry, looked-at, tier-in};
 ghost use Rattle.layout.specs.Shape.{Sized, Shaped};
-ghost use Rattle.layout.specs.Answers.{number, values, lookup-refusal, lookup-values, stands, view-refusal, view-of};
+ghost use Rattle.refusals.specs.Refusal.{done};
+ghost use Rattle.layout.specs.Answers.{number, values, lookup-refusal, lookup-values, looked-up, view-refusal, view-of};
+ghost use Rattle.access.specs.Places.{FirstPlace};
 ghost use Rattle.layout.specs.Answers.{fresh-refusal, fresh-words};
 use layout::Found;
 use layout::Header;
@@ -27,16 +28,22 @@ use words::wide;
 // The words before the slots: r, s, the number of keys and the number of stashed keys.
 pub const HEADER_LENGTH: usize = 4;
 
-// The words of a slot: its key, then its next.
-pub const SLOT_WIDTH: usize = 2;
+// The words of a slot: its key, its next, its tier.
+pub const SLOT_WIDTH: usize = 3;
+
+// The words of a stash place: its key, its tier.
+pub const PLACE_WIDTH: usize = 2;
+
+// The largest tier.
+pub const MAX_TIER: u32 = 7;
 
 // The most places of a stash.
 pub const MAX_PLACES: u32 = 64;
 
 // The words that the largest dictionary has, and the scratch that its calls ask for: r = 1,024, s = 64.
-pub const MAX_WORDS: usize = 4164;
+pub const MAX_WORDS: usize = 6276;
 
-pub const MAX_SCRATCH: usize = 8448;
+pub const MAX_SCRATCH: usize = 12800;
 
 // Whether r and s are in their ranges.
 pub fn are_sizes(r: u32, s: u32) -> bool
@@ -77,10 +84,12 @@ pub fn slot_in(slots: &[u32], v: usize) -> Slot
     requires { ⌜ slot-width * v + slot-width ≤ length (now slots) ⌝ }
     ensures key { λ x. ⌜ x .key ≡ getD (now (slots .entry)) (slot-width * v) 0 ⌝ }
     ensures next { λ x. ⌜ x .next ≡ getD (now (slots .entry)) (slot-width * v + 1) 0 ⌝ }
+    ensures tier { λ x. ⌜ x .tier ≡ getD (now (slots .entry)) (slot-width * v + 2) 0 ⌝ }
 {
     Slot {
         key: slots[SLOT_WIDTH * v],
         next: slots[SLOT_WIDTH * v + 1],
+        tier: slots[SLOT_WIDTH * v + 2],
     }
 }
 
@@ -119,7 +128,7 @@ pub fn length_for(r: u32, s: u32) -> usize
     requires { ⌜ Sized r s ⌝ }
     ensures { λ n. ⌜ n ≡ words-length r s ⌝ }
 {
-    stash_start(r) + wide(s)
+    stash_start(r) + PLACE_WIDTH * wide(s)
 }
 
 // The length that scratch needs.
@@ -127,7 +136,7 @@ pub fn scratch_for(r: u32, s: u32) -> usize
     requires { ⌜ Sized r s ⌝ }
     ensures { λ n. ⌜ n ≡ scratch-length r s ⌝ }
 {
-    8 * wide(r) + 4 * wide(s)
+    12 * wide(r) + 8 * wide(s)
 }
 
 // Whether words have the shape that their heading tells.
@@ -148,44 +157,84 @@ pub fn is_shaped(words: &[u32]) -> bool
 // Whether the key stands in a slot. There are never as many as 4,096, so that the index fits.
 fn in_slot(words: &[u32], slot: u32, key: u32) -> bool
     requires { ⌜ (key-at slot < length (now words)) × (slot < 4096) ⌝ }
-    ensures { λ b. ⌜ b ≡ eqb (getD (now (words .entry)) (key-at slot) 0) key ⌝ }
+    ensures { λ b. ⌜ b ≡ eqb key (slot-entry (now (words .entry)) slot .key) ⌝ }
 {
-    words[HEADER_LENGTH + SLOT_WIDTH * wide(slot)] == key
+    key == words[HEADER_LENGTH + SLOT_WIDTH * wide(slot)]
 }
 
-// Whether the key is one of some words. Every word is looked at, so that the compiler can compare several at once.
-fn among(words: &[u32], key: u32) -> bool
-    ensures { λ b. ⌜ b ≡ member key (now (words .entry)) ⌝ }
+// The tier word of a slot.
+fn slot_tier(words: &[u32], slot: u32) -> u32
+    requires { ⌜ (tier-at slot < length (now words)) × (slot < 4096) ⌝ }
+    ensures { λ t. ⌜ t ≡ slot-entry (now (words .entry)) slot .tier ⌝ }
 {
-    let mut found = false;
-    let mut i = 0;
-    while i < words.len() {
-        if key == words[i] {
-            found = true;
+    words[HEADER_LENGTH + SLOT_WIDTH * wide(slot) + 2]
+}
+
+// The first of the places that holds the key; if none does, as many as there are. Every place is looked at, from the
+// last on, so that the compiler can compare several at once.
+fn place_of(places: &[u32], count: usize, key: u32) -> usize
+    requires { ⌜ (length (now places) ≡ place-width * count) × (count ≤ max-places) ⌝ }
+    ensures { λ i. ⌜ FirstPlace (now (places .entry)) count key i ⌝ }
+{
+    let mut at = count;
+    let mut i = count;
+    while 0 < i {
+        i -= 1;
+        if key == places[PLACE_WIDTH * i] {
+            at = i;
         }
-        i += 1;
     }
-    found
+    at
 }
 
-// Whether the key stands in one of its two slots or in the stash.
-fn is_standing(tabulation: &[u16], words: &[u32], key: u32) -> bool
-    requires { ⌜ (length (now tabulation) ≡ tabulation-length) × Shaped (now words) ⌝ }
-    ensures { λ b. ⌜ b ≡ stands (now (tabulation .entry)) (now (words .entry)) key ⌝ }
+// Where a key is found among the places: its tier, or that it is in none.
+fn find_place(places: &[u32], count: usize, key: u32) -> Found
+    requires { ⌜ (length (now places) ≡ place-width * count) × (count ≤ max-places) ⌝ }
+    ensures numbered { λ f. ⌜ number f ≡ done ⌝ }
+    ensures valued { λ f. ⌜ values f ≡ looked-up (place-entries count (now (places .entry))) key ⌝ }
 {
-    let r = words[0];
-    if in_slot(words, tabulation::first_slot(tabulation, r, key), key) {
-        return true;
+    let at = place_of(places, count, key);
+    if at < count {
+        return Found::Listed(places[PLACE_WIDTH * at + 1]);
     }
-    if in_slot(words, tabulation::second_slot(tabulation, r, key), key) {
-        return true;
-    }
-    let start = stash_start(r);
-    let end = start + wide(words[1]);
-    among(&words[start..end], key)
+    Found::Absent
 }
 
-// Whether the key stands in the words as a key, on any words of the right shape; or 1, 2 or 5.
+// Where a key is found in words: in its slot of table 0, in its slot of table 1, or in the stash; its tier, or that it
+// is not there.
+fn find(tabulation: &[u16], words: &[u32], key: u32) -> Found
+    requires { ⌜ (length (now tabulation) ≡ tabulation-length) × Shaped (now words) ⌝ }
+    ensures numbered { λ f. ⌜ number f ≡ done ⌝ }
+    ensures valued { λ f. ⌜ values f ≡ looked-up (looked-at (now (tabulation .entry)) (now (words .entry)) key) key ⌝ }
+{
+    let header = read_header(words);
+    let first = tabulation::first_slot(tabulation, header.slots, key);
+    if in_slot(words, first, key) {
+        return Found::Listed(slot_tier(words, first));
+    }
+    let second = tabulation::second_slot(tabulation, header.slots, key);
+    if in_slot(words, second, key) {
+        return Found::Listed(slot_tier(words, second));
+    }
+    let start = stash_start(header.slots);
+    let count = wide(header.places);
+    find_place(&words[start..start + PLACE_WIDTH * count], count, key)
+}
+
+// The tier at which a key is found, 0 where it is not.
+pub fn tier_found(tabulation: &[u16], words: &[u32], key: u32) -> u32
+    requires { ⌜ (length (now tabulation) ≡ tabulation-length) × Shaped (now words) ⌝ }
+    ensures { λ t. ⌜ t ≡ tier-in (now (tabulation .entry)) (now (words .entry)) key ⌝ }
+{
+    let found = find(tabulation, words, key);
+    match found {
+        Found::Listed(tier) => tier,
+        Found::Absent => 0,
+        Found::Refused(_) => 0,
+    }
+}
+
+// The tier of the key, or that it is not there, on any words of the right shape; or 1, 2 or 5.
 pub fn lookup(tabulation: &[u16], words: &[u32], key: u32) -> Found
     ensures numbered { λ f. ⌜ number f ≡ lookup-refusal (now (tabulation .entry)) (now (words .entry)) key ⌝ }
     ensures valued { λ f. ⌜ values f ≡ lookup-values (now (tabulation .entry)) (now (words .entry)) key ⌝ }
@@ -199,10 +248,7 @@ pub fn lookup(tabulation: &[u16], words: &[u32], key: u32) -> Found
     if tabulation::is_blank(key) {
         return Found::Refused(BLANK_KEY);
     }
-    if is_standing(tabulation, words, key) {
-        return Found::Present;
-    }
-    Found::Absent
+    find(tabulation, words, key)
 }
 
 // The number that goes with the stash view: 0, 2 or 4.
@@ -226,7 +272,7 @@ pub fn stash(words: &[u32]) -> &[u32]
         return &words[0..0];
     }
     let start = stash_start(words[0]);
-    let end = start + wide(words[3]);
+    let end = start + PLACE_WIDTH * wide(words[3]);
     &words[start..end]
 }
 

@@ -54,12 +54,12 @@ unfoldable pub listed : (ℕ → ℕ) → ℕ → ℕ → List ℕ
 listed f zero v = []
 listed f (suc n) v = f v ∷ listed f n (suc v)
 
-listed-length : (f : ℕ → ℕ) (n v : ℕ) → length (listed f n v) ≡ n
+pub listed-length : (f : ℕ → ℕ) (n v : ℕ) → length (listed f n v) ≡ n
 unfolding listed
 listed-length f zero v = refl
 listed-length f (suc n) v = ap suc (listed-length f n (suc v))
 
-listed-at : (f : ℕ → ℕ) (n v i : ℕ) → i < n → getD (listed f n v) i 0 ≡ f (v + i)
+pub listed-at : (f : ℕ → ℕ) (n v i : ℕ) → i < n → getD (listed f n v) i 0 ≡ f (v + i)
 unfolding listed
 listed-at f zero v i l = absurd (omega arith)
 listed-at f (suc n) v zero l = let e : v + 0 ≡ v = omega arith in rw e

@@ -15,13 +15,10 @@ use Rattle.basics.specs.Sets.{keep, length-keep}
 use Rattle.ordered.specs.Keys.{sorted, distinct}
 use Rattle.ordered.specs.Sorting.{sorted-length}
 use Rattle.ordered.specs.Distinct.{distinct-length}
-use Rattle.layout.specs.Layout.{header-length, slot-width, stash-at, slots-of, places-of, slot-keys, stash-part, key-words, keys-in}
+use Rattle.layout.specs.Entries.{keys-of}
+use Rattle.layout.specs.Layout.{header-length, slot-width, place-width, stash-at, slots-of, places-of, slot-keys, place-entries, stash-entries, key-words, keys-in}
 use Rattle.layout.specs.Shape.{Shaped}
-
--- `count` words from `from` on, each `step` after the one before
-unfoldable pub picked : List ℕ → ℕ → ℕ → ℕ → List ℕ
-picked ws from step zero = []
-picked ws from step (suc count) = getD ws from 0 ∷ picked ws (from + step) step count
+use Rattle.codec.specs.Columns.{picked, picked-length}
 
 -- those that are not 0
 abbrev pub nonzero : List ℕ → List ℕ
@@ -38,11 +35,6 @@ nonzero-append (x ∷ xs) ys = go (eqb x 0) (nonzero-append xs ys)
 
 -- the picked words of a dictionary
 
-picked-length : (ws : List ℕ) (from step count : ℕ) → length (picked ws from step count) ≡ count
-unfolding picked
-picked-length ws from step zero = refl
-picked-length ws from step (suc count) = ap suc (picked-length ws (from + step) step count)
-
 -- no more are gathered than picked
 pub nonzero-few : (ws : List ℕ) (from step count : ℕ) → length (nonzero (picked ws from step count)) ≤ count
 nonzero-few ws from step count =
@@ -56,21 +48,16 @@ picked-slots ws from (suc count) =
     let e : from + 0 ≡ from = omega arith in
     rw (picked-slots ws (from + slot-width) count, getD-drop from ws 0 0, drop-drop slot-width from ws, e)
 
-picked-stretch : (ws : List ℕ) (from count : ℕ) → from + count ≤ length ws → picked ws from 1 count ≡ take count (drop from ws)
-unfolding picked
-picked-stretch ws from zero l = refl
-picked-stretch ws from (suc count) l =
-    let a : from < length ws = omega arith in
-    rw (drop-cons ws from 0 a, add-one) (ap (λ (xs : List ℕ). getD ws from 0 ∷ xs) (picked-stretch ws (suc from) count (omega arith)))
+picked-places : (ws : List ℕ) (from count : ℕ) → picked ws from place-width count ≡ keys-of (place-entries count (drop from ws))
+unfolding picked place-entries
+picked-places ws from zero = refl
+picked-places ws from (suc count) =
+    let e : from + 0 ≡ from = omega arith in
+    rw (picked-places ws (from + place-width) count, getD-drop from ws 0 0, drop-drop place-width from ws, e)
 
 -- the loop of `gather`: what is gathered, and what is still to be gathered
 unfoldable pub gathering : (ws : List ℕ) (step : ℕ) (scratch : List ℕ) (end at left : ℕ) → List ℕ
 gathering ws step scratch end at left = take end scratch ++ nonzero (picked ws at step left)
-
--- the words that are left, and those after the next one
-pub left-next : (step left : ℕ) → 0 < left → step * left ≡ step + step * (left - 1)
-left-next step left l =
-    let e : left ≡ suc (left - 1) = omega arith in omega (arith, ap (λ (n : ℕ). step * n) e, mul-suc step (left - 1))
 
 module _ (ws : List ℕ) (step at left : ℕ) (l : 0 < left) where
   picked-next : picked ws at step left ≡ getD ws at 0 ∷ picked ws (at + step) step (left - 1)
@@ -104,21 +91,21 @@ module _ (ws : List ℕ) (h : Shaped ws) where
   s = places-of ws
 
   pub gathered-keys :
-      nonzero (picked ws header-length slot-width (2 * r)) ++ nonzero (picked ws (stash-at r) 1 s) ≡ nonzero (key-words ws)
+      nonzero (picked ws header-length slot-width (2 * r)) ++ nonzero (picked ws (stash-at r) place-width s) ≡ nonzero (key-words ws)
   gathered-keys =
       let e : 2 * r ≡ r + r = omega arith in
-      rw (e, picked-slots ws header-length (r + r), picked-stretch ws (stash-at r) s (omega arith))
-      (sym (nonzero-append (slot-keys (r + r) (drop header-length ws)) (stash-part ws)))
+      rw (e, picked-slots ws header-length (r + r), picked-places ws (stash-at r) s)
+      (sym (nonzero-append (slot-keys (r + r) (drop header-length ws)) (keys-of (stash-entries ws))))
 
   pub gathered-count :
-      length (nonzero (picked ws header-length slot-width (2 * r))) + length (nonzero (picked ws (stash-at r) 1 s))
+      length (nonzero (picked ws header-length slot-width (2 * r))) + length (nonzero (picked ws (stash-at r) place-width s))
       ≡ length (nonzero (key-words ws))
   gathered-count =
-      sym (length-append (nonzero (picked ws header-length slot-width (2 * r))) (nonzero (picked ws (stash-at r) 1 s))) ∙ ap length gathered-keys
+      sym (length-append (nonzero (picked ws header-length slot-width (2 * r))) (nonzero (picked ws (stash-at r) place-width s))) ∙ ap length gathered-keys
 
   -- a dictionary has no more keys than slots and places, counted with doubles or without
   pub gathered-few : length (nonzero (key-words ws)) ≤ 2 * r + s
-  gathered-few = omega (arith, gathered-count, nonzero-few ws header-length slot-width (2 * r), nonzero-few ws (stash-at r) 1 s)
+  gathered-few = omega (arith, gathered-count, nonzero-few ws header-length slot-width (2 * r), nonzero-few ws (stash-at r) place-width s)
 
   pub keys-in-few : length (keys-in ws) ≤ 2 * r + s
   unfolding keys-in

@@ -1,5 +1,5 @@
--- What the contracts of `codec` cite: the keys picked out of words (Collect), an image put together from its parts (Assembled), and how comparing and writing
--- go on by a word, a slot and a part (Weave).
+-- What the contracts of `codec` cite: columns of words, compared and written (Columns), the keys picked out of words (Collect), and an image in its columns
+-- (Image).
+pub mod Columns
 pub mod Collect
-pub mod Assembled
-pub mod Weave
+pub mod Image

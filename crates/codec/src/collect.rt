@@ -8,8 +8,10 @@ ghost use lib.ListN.{length, take};
 ghost use Rattle.ordered.specs.Keys.{sorted, distinct};
 ghost use Rattle.layout.specs.Layout.{slots-of, places-of, key-words, keys-in};
 ghost use Rattle.layout.specs.Shape.{Shaped};
-ghost use Rattle.codec.specs.Collect.{picked, nonzero};
+ghost use Rattle.codec.specs.Columns.{picked};
+ghost use Rattle.codec.specs.Collect.{nonzero};
 use access::HEADER_LENGTH;
+use access::PLACE_WIDTH;
 use access::SLOT_WIDTH;
 use access::stash_start;
 use ordered::drop_doubles;
@@ -46,8 +48,8 @@ fn gather(
     end
 }
 
-// The key words of the slots, then the stash, without the zeros, come to the front of scratch. The answer is how many
-// they are.
+// The key words of the slots, then those of the stash, without the zeros, come to the front of scratch. The answer is
+// how many they are.
 fn gather_keys(words: &[u32], scratch: &mut [u32]) -> usize
     requires { ⌜ Shaped (now words) × (2 * slots-of (now words) + places-of (now words) ≤ length (now scratch)) ⌝ }
     ensures front { λ n. ⌜ take n (now (scratch .exit)) ≡ nonzero (key-words (now (words .entry))) ⌝ }
@@ -64,7 +66,14 @@ fn gather_keys(words: &[u32], scratch: &mut [u32]) -> usize
         &mut *scratch,
         0,
     );
-    gather(words, stash_start(r), 1, wide(s), &mut *scratch, n)
+    gather(
+        words,
+        stash_start(r),
+        PLACE_WIDTH,
+        wide(s),
+        &mut *scratch,
+        n,
+    )
 }
 
 // The set of some keys: ascending at their front, each once. The answer is how many they are.

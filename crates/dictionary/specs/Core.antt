@@ -4,31 +4,34 @@ use Prim.Native.Nat.{ℕ, _+_, _*_, _≤_, _<_}
 use mathlib.Core.Path.{_≡_, refl, sym, _∙_, ap}
 use mathlib.Core.Bool.{Bool, true, false, not, cond, false≢true}
 use mathlib.Core.Logic.{inl, inr}
-use mathlib.Core.List.{List, [], _∷_, _++_}
+use mathlib.Core.List.{List, [], _∷_, _++_, List·Memᴰ as In}
 use native.Mathlib.Omega.{arith}
-use borrow.Author.Tests.{eq-eqb, le-ltb}
+use borrow.Author.Tests.{eq-eqb, ne-eqb, lt-ltb, le-ltb}
 use lib.Dec.{eqb, ltb}
 use lib.ListN.{length, take}
 use lib.Seq.{length-take-le}
 use Rattle.basics.specs.Tests.{eq?}
-use Rattle.basics.specs.Sets.{member, without, Asc}
+use Rattle.basics.specs.Sets.{member, member-in, without, out-in, Asc}
+use Rattle.ordered.specs.Place.{with-cases}
 use Rattle.ordered.specs.Keys.{with-key}
-use Rattle.refusals.specs.Refusal.{done, not-canonical, blank-key, key-present, key-absent, stash-full, first-refusal, front-applies}
+use Rattle.refusals.specs.Refusal.{done, not-canonical, blank-key, key-present, key-absent, stash-full, wrong-tier, other-tier, first-refusal, front-applies}
 use Rattle.tabulation.specs.Hash.{tabulation-length, blank}
-use Rattle.layout.specs.Layout.{ValidSet, params-of, slots-of, places-of, scratch-length, shaped, fits, image, keys-in}
+use Rattle.layout.specs.Entries.{max-tier, keys-of, tier-of, tiered, keys-tiered, tiered-agree, tier-tiered}
+use Rattle.layout.specs.Layout.{ValidKeys, params-of, slots-of, places-of, scratch-length, shaped, fits, image, keys-in, tier-in, set-in}
 use Rattle.layout.specs.Canonical.{canonical, canonical-true}
 use Rattle.layout.specs.Shape.{Shaped, shape}
-use Rattle.layout.specs.Standing.{keys-in-valid}
+use Rattle.layout.specs.Standing.{keys-in-valid, not-blank, zero-outside}
 use Rattle.layout.specs.Fitting.{without-fits}
 use Rattle.codec.specs.Collect.{keys-in-few}
 use Rattle.build.specs.Build.{Buildable}
 use Rattle.outcome.specs.declared.Change.{Change}
 use Rattle.outcome.specs.declared.Change.the-variants.{Insert, Remove}
-use Rattle.outcome.specs.Outcome.{early-refusals, changed, set-refusals, change-refusal, change-outcome, check-outcome}
+use Rattle.outcome.specs.Outcome.{early-refusals, keys-changed, tier-changed, changed, set-refusals, change-refusal, change-outcome, check-outcome}
 use Rattle.outcome.specs.Laws.{Ready, change-refused, check-ready, change-ready, change-set}
-use Rattle.outcome.specs.Held.{one-too-many, changed-valid}
+use Rattle.outcome.specs.Held.{one-too-many, changed-keys, keys-changed-valid}
 use Rattle.renewal.specs.declared.Reading.{Reading}
 use Rattle.renewal.specs.declared.Reading.the-variants.{Keys, NotCanonical}
+use Rattle.renewal.specs.Tiers.{tier-now}
 use Rattle.renewal.specs.Reading.{early-refusal, number, values, reading-refusal, reading-values, new-answer, new-words, set-buildable, told-tampered, told-keys}
 
 -- The words can be read, they are canonical, their n keys stand at the front of scratch, and the key is not blank.
@@ -41,22 +44,40 @@ pub record Settable (tabulation ws scratch : List ℕ) (n key : ℕ) : Type 0 wh
 
 -- the answer and the words that a change of the set leads to
 abbrev pub set-answer : Change → List ℕ → List ℕ → ℕ → ℕ
-set-answer kind tabulation ws key = first-refusal (set-refusals kind (params-of tabulation ws) key (keys-in ws))
+set-answer kind tabulation ws key = first-refusal (set-refusals kind (params-of tabulation ws) key (set-in tabulation ws))
 
 abbrev pub set-words : Change → List ℕ → List ℕ → ℕ → List ℕ
 set-words kind tabulation ws key =
-    cond (eqb (set-answer kind tabulation ws key) done) (image (params-of tabulation ws) (changed kind key (keys-in ws))) ws
+    cond (eqb (set-answer kind tabulation ws key) done) (image (params-of tabulation ws) (changed kind key (set-in tabulation ws))) ws
 
 -- an answer and words are those that a change of the set leads to
 abbrev pub Decided : Change → List ℕ → List ℕ → ℕ → (ℕ → List ℕ → Type 0)
 Decided kind tabulation ws key n us = (n ≡ set-answer kind tabulation ws key) × (us ≡ set-words kind tabulation ws key)
+
+-- the key and the tier that `renew` is told: those of an insert, and of a removal none
+abbrev pub key-given : Change → ℕ → ℕ
+key-given (Insert tier) key = key
+key-given Remove key = 0
+
+abbrev pub tier-given : Change → ℕ
+tier-given (Insert tier) = tier
+tier-given Remove = 0
+
+-- 8 where it does not fit, and else done
+answer-turned : (f : Bool) → cond f done stash-full ≡ cond (not f) stash-full done
+answer-turned true = refl
+answer-turned false = refl
+
+words-turned : (f : Bool) (us ws : List ℕ) → cond f us ws ≡ cond (eqb (cond (not f) stash-full done) done) us ws
+words-turned true us ws = refl
+words-turned false us ws = refl
 
 -- The set changes. `mid` is scratch with the new set at its front, m keys.
 module _ {tabulation ws scratch : List ℕ} {n key : ℕ} (Z : Settable tabulation ws scratch n key) where
   abbrev sizes : Shaped ws
   sizes = shape ws (Z .ready .shape)
 
-  abbrev valid : ValidSet (keys-in ws)
+  abbrev valid : ValidKeys (keys-in ws)
   valid = keys-in-valid ws
 
   pub key-count : n ≤ 2 * slots-of ws + places-of ws
@@ -71,29 +92,63 @@ module _ {tabulation ws scratch : List ℕ} {n key : ℕ} (Z : Settable tabulati
   pub front-asc : Asc (take n scratch)
   front-asc = rw (Z .front) (valid .asc)
 
-  pub insert-present : member key (take n scratch) ≡ true → Decided Insert tabulation ws key key-present ws
-  insert-present m = let t = rw (Z .front) at m in (rw t, rw t)
+  -- the set's keys and tiers
+  set-keys : keys-of (set-in tabulation ws) ≡ keys-in ws
+  set-keys = keys-tiered (tier-in tabulation ws) (keys-in ws)
 
-  pub insert-crowded : member key (take n scratch) ≡ false → 2 * slots-of ws + places-of ws ≤ n
-      → Decided Insert tabulation ws key stash-full ws
-  insert-crowded m l =
-      let t = rw (Z .front) at m in
-      let f = one-too-many (params-of tabulation ws) key (sizes .sizes .has-slots) valid (Z .not-blank) t (omega (arith, Z .count)) in
-      (rw (t, f), rw (t, f))
+  set-tier : {c : ℕ} → In c (keys-in ws) → tier-of (set-in tabulation ws) c ≡ tier-in tabulation ws c
+  set-tier i = tier-tiered (tier-in tabulation ws) (keys-in ws) i
 
-  pub insert-renewed : member key (take n scratch) ≡ false
-      → Decided Insert tabulation ws key (new-answer (params-of tabulation ws) (with-key key (keys-in ws)))
-      (new-words (params-of tabulation ws) (with-key key (keys-in ws)) ws)
-  insert-renewed m = let t = rw (Z .front) at m in rw t (go (fits (params-of tabulation ws) (with-key key (keys-in ws))))
-    where
-      go : (f : Bool) → (cond f done stash-full ≡ cond (not f) stash-full done)
-          × (cond f (image (params-of tabulation ws) (with-key key (keys-in ws))) ws
-          ≡ cond (eqb (cond (not f) stash-full done) done) (image (params-of tabulation ws) (with-key key (keys-in ws))) ws)
-      go true = (refl, refl)
-      go false = (refl, refl)
+  pub insert-large : {tier : ℕ} → max-tier < tier → Decided (Insert tier) tabulation ws key wrong-tier ws
+  insert-large {tier} l = let t = lt-ltb max-tier tier l in (rw t, rw t)
+
+  module _ {tier : ℕ} (small : tier ≤ max-tier) where
+    small-test : ltb max-tier tier ≡ false
+    small-test = le-ltb max-tier tier small
+
+    module _ (m : member key (take n scratch) ≡ true) where
+      listed : member key (keys-in ws) ≡ true
+      listed = rw (Z .front) at m
+
+      listed-tier : tier-of (set-in tabulation ws) key ≡ tier-in tabulation ws key
+      listed-tier = set-tier (member-in key (keys-in ws) listed)
+
+      pub insert-other : (tier-in tabulation ws key ≡ tier → ⊥) → Decided (Insert tier) tabulation ws key other-tier ws
+      insert-other d =
+          let t = ne-eqb (tier-in tabulation ws key) tier d in
+          (rw (small-test, set-keys, listed, listed-tier, t), rw (small-test, set-keys, listed, listed-tier, t))
+
+      pub insert-present : tier-in tabulation ws key ≡ tier → Decided (Insert tier) tabulation ws key key-present ws
+      insert-present e =
+          let t = eq-eqb (tier-in tabulation ws key) tier e in
+          (rw (small-test, set-keys, listed, listed-tier, t), rw (small-test, set-keys, listed, listed-tier, t))
+
+    module _ (m : member key (take n scratch) ≡ false) where
+      absent : member key (keys-in ws) ≡ false
+      absent = rw (Z .front) at m
+
+      pub insert-crowded : 2 * slots-of ws + places-of ws ≤ n → Decided (Insert tier) tabulation ws key stash-full ws
+      insert-crowded l =
+          let f = one-too-many (params-of tabulation ws) key (sizes .sizes .has-slots) valid (Z .not-blank) absent (omega (arith, Z .count)) in
+          (rw (small-test, set-keys, absent, f), rw (small-test, set-keys, absent, f))
+
+      pub insert-renewed : Decided (Insert tier) tabulation ws key (new-answer (params-of tabulation ws) (with-key key (keys-in ws)))
+          (new-words (params-of tabulation ws) (changed (Insert tier) key (set-in tabulation ws)) ws)
+      insert-renewed =
+          let P = params-of tabulation ws in
+          let L = changed (Insert tier) key (set-in tabulation ws) in
+          let e : fits P (keys-of L) ≡ fits P (with-key key (keys-in ws)) =
+          ap (fits P) (changed-keys (Insert tier) key (set-in tabulation ws) ∙ ap (with-key key) set-keys) in
+          let a : set-answer (Insert tier) tabulation ws key ≡ cond (not (fits P (with-key key (keys-in ws)))) stash-full done =
+          rw (small-test, set-keys, absent) in
+          (
+            answer-turned (fits P (with-key key (keys-in ws))) ∙ sym a,
+            ap (λ (f : Bool). cond f (image P L) ws) e ∙ words-turned (fits P (with-key key (keys-in ws))) (image P L) ws
+                ∙ ap (λ (n : ℕ). cond (eqb n done) (image P L) ws) (sym a),
+          )
 
   pub remove-absent : member key (take n scratch) ≡ false → Decided Remove tabulation ws key key-absent ws
-  remove-absent m = let t = rw (Z .front) at m in (rw t, rw t)
+  remove-absent m = let t = rw (Z .front) at m in (rw (set-keys, t), rw (set-keys, t))
 
   -- a set with a key has one
   pub remove-some : member key (take n scratch) ≡ true → 1 ≤ n
@@ -101,30 +156,55 @@ module _ {tabulation ws scratch : List ℕ} {n key : ℕ} (Z : Settable tabulati
 
   pub remove-renewed : member key (take n scratch) ≡ true
       → Decided Remove tabulation ws key (new-answer (params-of tabulation ws) (without key (keys-in ws)))
-      (new-words (params-of tabulation ws) (without key (keys-in ws)) ws)
+      (new-words (params-of tabulation ws) (changed Remove key (set-in tabulation ws)) ws)
   remove-renewed m =
       let t = rw (Z .front) at m in
-      let f = without-fits (params-of tabulation ws) valid key (canonical-true tabulation ws (Z .image) .fit) in
-      (rw (t, f), rw (t, f))
+      let g = rw set-keys at (canonical-true tabulation ws (Z .image) .fit) in
+      let f = without-fits (params-of tabulation ws) valid key g in
+      let e : keys-of (changed Remove key (set-in tabulation ws)) ≡ without key (keys-in ws) =
+      changed-keys Remove key (set-in tabulation ws) ∙ ap (without key) set-keys in
+      (rw (set-keys, t, f), rw (e, set-keys, t, f))
+
+  -- The tiers that `renew` is told to give are those of the changed set.
+  changed-set : (kind : Change)
+      → tiered (tier-now tabulation ws (key-given kind key) (tier-given kind)) (keys-changed kind key (keys-in ws)) ≡ changed kind key (set-in tabulation ws)
+  changed-set kind =
+      tiered-agree (keys-changed kind key (keys-in ws)) (agrees kind)
+      ∙ ap (tiered (tier-changed kind key (tier-of (set-in tabulation ws)))) (sym (ap (keys-changed kind key) set-keys))
+    where
+      nonzero : {c : ℕ} → In c (keys-in ws) → c ≡ 0 → ⊥
+      nonzero i q = zero-outside valid (rw q at i)
+
+      agrees : (kind : Change) (c : ℕ) → In c (keys-changed kind key (keys-in ws))
+          → tier-now tabulation ws (key-given kind key) (tier-given kind) c ≡ tier-changed kind key (tier-of (set-in tabulation ws)) c
+      agrees (Insert tier) c i = elim (with-cases key (keys-in ws) i) [
+        | inl q ↦ rw (q, ne-eqb key 0 (not-blank key (Z .not-blank)), eq-eqb key key refl)
+        | inr k ↦ rw (ne-eqb c 0 (nonzero k), set-tier k)
+      ]
+      agrees Remove c i = let k = out-in key (keys-in ws) i in rw (ne-eqb c 0 (nonzero k), set-tier k)
 
   -- the new set can be built, and what that answers and leaves is what the change does
   module _ (kind : Change) (mid : List ℕ) (m : ℕ) (same-room : length mid ≡ length scratch) (few : m ≤ 2 * slots-of ws + places-of ws)
-      (front : take m mid ≡ changed kind key (take n scratch)) where
-    changed-front : take m mid ≡ changed kind key (keys-in ws)
+      (front : take m mid ≡ keys-changed kind key (take n scratch)) where
+    changed-front : take m mid ≡ keys-changed kind key (keys-in ws)
     changed-front = rw (Z .front) at front
 
-    pub changed-buildable : Buildable (slots-of ws) (places-of ws) m tabulation mid × Shaped ws
+    pub changed-buildable : Buildable (slots-of ws) (places-of ws) m tabulation mid × (Shaped ws × (scratch-length (slots-of ws) (places-of ws) ≤ length mid))
     changed-buildable = (
-      set-buildable tabulation ws scratch mid m (Z .ready) same-room few changed-front (changed-valid kind key (Z .not-blank) valid),
-      sizes,
+      set-buildable tabulation ws scratch mid m (Z .ready) same-room few changed-front (keys-changed-valid kind key (Z .not-blank) valid),
+      (sizes, omega (arith, Z .ready .room)),
     )
 
     pub changed-renewed : {a : ℕ} {us : List ℕ}
-        → Decided kind tabulation ws key (new-answer (params-of tabulation ws) (changed kind key (keys-in ws)))
-        (new-words (params-of tabulation ws) (changed kind key (keys-in ws)) ws)
-        → (a ≡ new-answer (params-of tabulation ws) (take m mid)) × (us ≡ new-words (params-of tabulation ws) (take m mid) ws)
+        → Decided kind tabulation ws key (new-answer (params-of tabulation ws) (keys-changed kind key (keys-in ws)))
+        (new-words (params-of tabulation ws) (changed kind key (set-in tabulation ws)) ws)
+        → (a ≡ new-answer (params-of tabulation ws) (take m mid))
+        × (us ≡ new-words (params-of tabulation ws) (tiered (tier-now tabulation ws (key-given kind key) (tier-given kind)) (take m mid)) ws)
         → Decided kind tabulation ws key a us
-    changed-renewed renewed e = ((rw changed-front at (e .0)) ∙ renewed .0, (rw changed-front at (e .1)) ∙ renewed .1)
+    changed-renewed renewed e = (
+      (rw changed-front at (e .0)) ∙ renewed .0,
+      (rw (changed-front, changed-set kind) at (e .1)) ∙ renewed .1,
+    )
 
 -- From the steps to the outcomes.
 
@@ -139,7 +219,7 @@ module _ (tabulation ws scratch : List ℕ) where
     unfolding early-refusal change-outcome change-refusal
     change-early kind key =
         sym (front-applies (early-refusals tabulation ws (length scratch))
-        ((not-canonical, not (canonical tabulation ws)) ∷ (blank-key, blank key) ∷ set-refusals kind (params-of tabulation ws) key (keys-in ws)) early)
+        ((not-canonical, not (canonical tabulation ws)) ∷ (blank-key, blank key) ∷ set-refusals kind (params-of tabulation ws) key (set-in tabulation ws)) early)
 
 -- check, once its words are read
 module _ {tabulation ws scratch : List ℕ} (ready : Ready tabulation ws scratch) {l : Reading} where

@@ -5,12 +5,15 @@ ghost use mathlib.Core.Path.{_≡_};
 ghost use Rattle.dictionary.specs.Core.{Settable, Decided, Left};
 ghost use Rattle.outcome.specs.Outcome.{change-outcome, check-outcome};
 ghost use Rattle.outcome.specs.declared.Change.the-variants.{Insert, Remove};
+use access::MAX_TIER;
 use outcome::Change;
 use refusals::BLANK_KEY;
 use refusals::KEY_ABSENT;
 use refusals::KEY_PRESENT;
 use refusals::NOT_CANONICAL;
+use refusals::OTHER_TIER;
 use refusals::STASH_FULL;
+use refusals::WRONG_TIER;
 use renewal::Reading;
 use renewal::clear;
 use renewal::early;
@@ -19,11 +22,24 @@ use renewal::renew;
 use words::wide;
 
 // The keys at the front of scratch are the set of the words, and the key is not blank: the set with the key.
-fn insert_key(tabulation: &[u16], words: &mut [u32], scratch: &mut [u32], n: usize, key: u32) -> u32
+fn insert_key(
+    tabulation: &[u16],
+    words: &mut [u32],
+    scratch: &mut [u32],
+    n: usize,
+    key: u32,
+    tier: u32,
+) -> u32
     requires { ⌜ Settable (now tabulation) (now words) (now scratch) n key ⌝ }
-    ensures { λ a. ⌜ Decided Insert (now (tabulation .entry)) (now (words .entry)) key a (now (words .exit)) ⌝ }
+    ensures { λ a. ⌜ Decided (Insert tier) (now (tabulation .entry)) (now (words .entry)) key a (now (words .exit)) ⌝ }
 {
+    if MAX_TIER < tier {
+        return WRONG_TIER;
+    }
     if ordered::has(&scratch[..n], key) {
+        if access::tier_found(tabulation, &*words, key) != tier {
+            return OTHER_TIER;
+        }
         return KEY_PRESENT;
     }
     let header = access::read_header(&*words);
@@ -31,7 +47,7 @@ fn insert_key(tabulation: &[u16], words: &mut [u32], scratch: &mut [u32], n: usi
         return STASH_FULL;
     }
     ordered::insert(&mut *scratch, n, key);
-    renew(tabulation, &mut *words, &mut *scratch, n + 1)
+    renew(tabulation, &mut *words, &mut *scratch, n + 1, key, tier)
 }
 
 // The keys at the front of scratch are the set of the words, and the key is not blank: the set without the key.
@@ -43,7 +59,7 @@ fn remove_key(tabulation: &[u16], words: &mut [u32], scratch: &mut [u32], n: usi
         return KEY_ABSENT;
     }
     ordered::delete(&mut *scratch, n, key);
-    renew(tabulation, &mut *words, &mut *scratch, n - 1)
+    renew(tabulation, &mut *words, &mut *scratch, n - 1, 0, 0)
 }
 
 // The whole of insert and remove but for the clearing of scratch.
@@ -69,7 +85,7 @@ fn change_words(
         return BLANK_KEY;
     }
     match kind {
-        Change::Insert => insert_key(tabulation, &mut *words, &mut *scratch, n, key),
+        Change::Insert(tier) => insert_key(tabulation, &mut *words, &mut *scratch, n, key, tier),
         Change::Remove => remove_key(tabulation, &mut *words, &mut *scratch, n, key),
     }
 }

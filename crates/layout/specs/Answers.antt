@@ -1,6 +1,6 @@
 -- What lookup, the stash view and the laying of fresh words answer and leave, for every content and length of the lent words (document 01, "What a
 -- call gives back"). These definitions are the promises.
-use Prim.Native.Nat.{ℕ, _-_}
+use Prim.Native.Nat.{ℕ, _*_, _-_}
 use mathlib.Core.Path.{_≡_}
 use mathlib.Core.Bool.{Bool, true, false, not, cond, _&&_, _||_}
 use mathlib.Core.List.{List, [], _∷_, List·Memᴰ as In}
@@ -10,20 +10,22 @@ use Rattle.basics.specs.Sets.{member}
 use Rattle.refusals.specs.Refusal.{done, wrong-tabulation, wrong-shape, not-canonical, blank-key, first-refusal, first-refusal-in}
 use Rattle.tabulation.specs.Hash.{tabulation-length, blank, tables}
 use Rattle.tabulation.specs.Slots.{slot-0, slot-1}
-use Rattle.layout.specs.Layout.{shaped, sizes-in-range, slots-of, places-of, stash-count, stash-at, stash-part, key-at, words-length}
+use Rattle.layout.specs.Entries.{Entry, keys-of, tier-of}
+use Rattle.layout.specs.Layout.{shaped, sizes-in-range, slots-of, places-of, stash-count, place-width, stash-at, words-length, looked-at}
 use Rattle.layout.specs.declared.Found.{Found}
-use Rattle.layout.specs.declared.Found.the-variants.{Present, Absent, Refused}
+use Rattle.layout.specs.declared.Found.the-variants.{Listed, Absent, Refused}
 
 -- lookup
 
--- document 01's number of a lookup's answer, and its value: 1 yes, 0 no
+-- "Look-up answers the tier or that the card isn't listed": the paper's number of a lookup's answer, and its values: 1 and the tier, or
+-- 0
 abbrev pub number : Found → ℕ
-number Present = done
+number (Listed tier) = done
 number Absent = done
 number (Refused n) = n
 
 abbrev pub values : Found → List ℕ
-values Present = 1 ∷ []
+values (Listed tier) = 1 ∷ tier ∷ []
 values Absent = 0 ∷ []
 values (Refused n) = []
 
@@ -37,15 +39,14 @@ lookup-refusals tabulation ws key =
 unfoldable pub lookup-refusal : List ℕ → List ℕ → ℕ → ℕ
 lookup-refusal tabulation ws key = first-refusal (lookup-refusals tabulation ws key)
 
--- "the number stands as a card number in its rack 0 place, its rack 1 place or one of the s drawer words"
-unfoldable pub stands : List ℕ → List ℕ → ℕ → Bool
-stands tabulation ws key =
-    let F = tables tabulation (slots-of ws) in
-    eqb (getD ws (key-at (slot-0 F key)) 0) key || eqb (getD ws (key-at (slot-1 F key)) 0) key || member key (stash-part ws)
+-- what a lookup among these entries says: 1 and the tier of the first that has the key, or 0 if none has it
+abbrev pub looked-up : List Entry → ℕ → List ℕ
+looked-up L key = cond (member key (keys-of L)) (1 ∷ tier-of L key ∷ []) (0 ∷ [])
 
+-- "the number stands as a card number in its rack 0 place, its rack 1 place or one of the s drawer" places
 unfoldable pub lookup-values : List ℕ → List ℕ → ℕ → List ℕ
 lookup-values tabulation ws key =
-    cond (eqb (lookup-refusal tabulation ws key) done) (cond (stands tabulation ws key) 1 0 ∷ []) []
+    cond (eqb (lookup-refusal tabulation ws key) done) (looked-up (looked-at tabulation ws key) key) []
 
 -- the stash view
 
@@ -56,9 +57,9 @@ view-refusals ws = (wrong-shape, not (shaped ws)) ∷ (not-canonical, ltb (place
 unfoldable pub view-refusal : List ℕ → ℕ
 view-refusal ws = first-refusal (view-refusals ws)
 
--- "the filled stretch of the drawer as part of the lent list"; "Refused, the stretch is empty"
+-- "the filled stretch of the drawer as part of the lent list", "both words of each filled place"; "Refused, the stretch is empty"
 unfoldable pub view-of : List ℕ → List ℕ
-view-of ws = cond (eqb (view-refusal ws) done) (take (stash-count ws) (drop (stash-at (slots-of ws)) ws)) []
+view-of ws = cond (eqb (view-refusal ws) done) (take (place-width * stash-count ws) (drop (stash-at (slots-of ws)) ws)) []
 
 -- fresh words
 
@@ -85,23 +86,3 @@ view-answer-in ws = first-refusal-in (view-refusals ws)
 pub fresh-answer-in : (len r s : ℕ) → In (fresh-refusal len r s) (0 ∷ 2 ∷ [])
 unfolding fresh-refusal
 fresh-answer-in len r s = first-refusal-in (fresh-refusals len r s)
-
--- Those that the code's proofs use: `stands`, test by test.
-module _ (tabulation ws : List ℕ) (key : ℕ) where
-  abbrev pub in-table-0 : Bool
-  in-table-0 = eqb (getD ws (key-at (slot-0 (tables tabulation (slots-of ws)) key)) 0) key
-
-  abbrev pub in-table-1 : Bool
-  in-table-1 = eqb (getD ws (key-at (slot-1 (tables tabulation (slots-of ws)) key)) 0) key
-
-  pub stands-first : in-table-0 ≡ true → stands tabulation ws key ≡ true
-  unfolding stands
-  stands-first e = rw e
-
-  pub stands-second : in-table-0 ≡ false → in-table-1 ≡ true → stands tabulation ws key ≡ true
-  unfolding stands
-  stands-second e f = rw (e, f)
-
-  pub stands-stash : in-table-0 ≡ false → in-table-1 ≡ false → stands tabulation ws key ≡ member key (stash-part ws)
-  unfolding stands
-  stands-stash e f = rw (e, f)

@@ -2,12 +2,12 @@
 -- whole to follow from the image rule. The hashes come from the test board's 2,048 numbers through the definition of crate tabulation: one
 -- test, which the checker computes, sees that each key's two hashes are its plain ends and that the image over these has the words; the laws
 -- of Ends turn it into statements about `image` and `fits`. Assumes nothing.
-use Prim.Native.Nat.{ℕ, zero, suc, _+_, _-_, _/_, _%_, _<_}
+use Prim.Native.Nat.{ℕ, zero, suc, _+_, _-_, _/_, _%_, _<_, _≤_}
 use mathlib.Core.Path.{_≡_, refl, _∙_}
 use mathlib.Core.Bool.{Bool, true, false, not, cond, _&&_}
 use mathlib.Core.List.{List, [], _∷_, List·Memᴰ as In, List·Memᴰ·head as here, List·Memᴰ·tail as there}
 use native.Mathlib.Omega.{arith}
-use borrow.Author.Tests.{eqb-true, ne-eqb, ltb-true, not-true}
+use borrow.Author.Tests.{eqb-true, ne-eqb, ltb-true, leb-true, not-true}
 use lib.Dec.{T, eqb, ltb, leb}
 use lib.ListN.{length}
 use Rattle.basics.specs.Tests.{and-true, T-true}
@@ -17,6 +17,7 @@ use Rattle.cuckoo.specs.Graph.{label, joined, component, onCycle, cyclic, spare
 use Rattle.cuckoo.specs.Agree.{agree-none, agree-some}
 use Rattle.tabulation.specs.Hash.{Family, hash, blank, tabulation-length}
 use Rattle.tabulation.specs.Slots.{slot-0, slot-1}
+use Rattle.layout.specs.Entries.{Entry, max-tier, keys-of, tier-of, tiered}
 use Rattle.layout.specs.Layout.{Params, family, ValidSet, fits, image, fits-by, slot-words-by, image-by}
 use Rattle.layout.specs.Ends.{Known, fits-known, image-known}
 
@@ -47,21 +48,25 @@ board r s = record { tabulation = board-tabulation; slots = r; places = s }
 
 -- the image of a set has these words, or the set does not fit ("refused 8")
 pub data Row : Type 0 where
-  shows : (r s : ℕ) → List ℕ → List ℕ → Row
-  full : (r s : ℕ) → List ℕ → Row
+  shows : (r s : ℕ) → List Entry → List ℕ → Row
+  full : (r s : ℕ) → List Entry → Row
 
-pub record Shown (r s : ℕ) (S words : List ℕ) : Type 0 where
-  pub valid : ValidSet S
-  pub fit : fits (board r s) S ≡ true
-  pub words-are : image (board r s) S ≡ words
+-- "Document 01's board has tier 0 throughout."
+abbrev pub plain : List ℕ → List Entry
+plain S = tiered (λ c. 0) S
 
-pub record Full (r s : ℕ) (S : List ℕ) : Type 0 where
-  pub valid : ValidSet S
-  pub unfit : fits (board r s) S ≡ false
+pub record Shown (r s : ℕ) (L : List Entry) (words : List ℕ) : Type 0 where
+  pub valid : ValidSet L
+  pub fit : fits (board r s) (keys-of L) ≡ true
+  pub words-are : image (board r s) L ≡ words
+
+pub record Full (r s : ℕ) (L : List Entry) : Type 0 where
+  pub valid : ValidSet L
+  pub unfit : fits (board r s) (keys-of L) ≡ false
 
 abbrev pub RowHolds : Row → Type 0
-RowHolds (shows r s S words) = Shown r s S words
-RowHolds (full r s S) = Full r s S
+RowHolds (shows r s L words) = Shown r s L words
+RowHolds (full r s L) = Full r s L
 
 -- the test of a row
 
@@ -82,55 +87,67 @@ abbrev rises : ℕ → List ℕ → Bool
 rises n [] = true
 rises n (c ∷ S) = ltb n c && rises c S
 
--- S is a set, and its keys hash to their plain ends
-abbrev ready : ℕ → ℕ → List ℕ → Bool
-ready r s S = rises 0 S && hashed (family (board r s)) S
+-- the tiers are 0 to 7
+abbrev small : List Entry → Bool
+small [] = true
+small (e ∷ L) = leb (e .tier) max-tier && small L
+
+-- L is a set, and its keys hash to their plain ends
+abbrev ready : ℕ → ℕ → List Entry → Bool
+ready r s L = small L && (rises 0 (keys-of L) && hashed (family (board r s)) (keys-of L))
 
 abbrev follows : Row → Bool
-follows (shows r s S words) =
-    ready r s S && (fits-by (plain-0 r) (plain-1 r) s S && same (image-by (plain-0 r) (plain-1 r) r s S) words)
-follows (full r s S) = ready r s S && not (fits-by (plain-0 r) (plain-1 r) s S)
+follows (shows r s L words) =
+    ready r s L && (fits-by (plain-0 r) (plain-1 r) s (keys-of L)
+    && same (image-by (plain-0 r) (plain-1 r) (tier-of L) r s (keys-of L)) words)
+follows (full r s L) = ready r s L && not (fits-by (plain-0 r) (plain-1 r) s (keys-of L))
 
 abbrev all : List Row → Bool
 all [] = true
 all (R ∷ Rs) = follows R && all Rs
 
--- In a row of words: r, s, keys, keys in the stash; then key, next of the slots of table 0; of table 1; then the stash. "0.1" is table 0,
--- slot 1.
+-- In a row of words: r, s, keys, keys in the stash; then key, next, tier of the slots of table 0; of table 1; then key, tier of the stash. "0.1" is
+-- table 0, slot 1.
 abbrev pub rows : List Row
 rows =
     -- K1 {}: all slots empty
-    shows 4 1 [] (4 ∷ 1 ∷ 0 ∷ 0 ∷ 0 ∷ 0 ∷ 0 ∷ 0 ∷ 0 ∷ 0 ∷ 0 ∷ 0 ∷ 0 ∷ 0 ∷ 0 ∷ 0 ∷ 0 ∷ 0 ∷ 0 ∷ 0 ∷ 0 ∷ [])
+    shows 4 1 (plain []) (4 ∷ 1 ∷ 0 ∷ 0 ∷ 0 ∷ 0 ∷ 0 ∷ 0 ∷ 0 ∷ 0 ∷ 0 ∷ 0 ∷ 0 ∷ 0 ∷ 0 ∷ 0 ∷ 0 ∷ 0 ∷ 0 ∷ 0 ∷ 0 ∷ 0 ∷ 0 ∷ 0 ∷ 0 ∷ 0 ∷ 0 ∷ 0 ∷ 0 ∷ 0 ∷ [])
     -- K2 {17}: 0.1 and 1.1 hold 17, next 17
-    ∷ shows 4 1 (17 ∷ []) (4 ∷ 1 ∷ 1 ∷ 0 ∷ 0 ∷ 0 ∷ 17 ∷ 17 ∷ 0 ∷ 0 ∷ 0 ∷ 0 ∷ 0 ∷ 0 ∷ 17 ∷ 17 ∷ 0 ∷ 0 ∷ 0 ∷ 0 ∷ 0 ∷ [])
+    ∷ shows 4 1 (plain (17 ∷ [])) (4 ∷ 1 ∷ 1 ∷ 0 ∷ 0 ∷ 0 ∷ 0 ∷ 17 ∷ 17 ∷ 0 ∷ 0 ∷ 0 ∷ 0 ∷ 0 ∷ 0 ∷ 0 ∷ 0 ∷ 0 ∷ 0 ∷ 17 ∷ 17 ∷ 0 ∷ 0 ∷ 0 ∷ 0 ∷ 0 ∷ 0 ∷ 0 ∷ 0 ∷ 0 ∷ [])
     -- K3 {1, 17}: 0.1 and 1.0 hold 1; 1.1 holds 17
-    ∷ shows 4 1 (1 ∷ 17 ∷ []) (4 ∷ 1 ∷ 2 ∷ 0 ∷ 0 ∷ 0 ∷ 1 ∷ 17 ∷ 0 ∷ 0 ∷ 0 ∷ 0 ∷ 1 ∷ 17 ∷ 17 ∷ 1 ∷ 0 ∷ 0 ∷ 0 ∷ 0 ∷ 0 ∷ [])
+    ∷ shows 4 1 (plain (1 ∷ 17 ∷ [])) (4 ∷ 1 ∷ 2 ∷ 0 ∷ 0 ∷ 0 ∷ 0 ∷ 1 ∷ 17 ∷ 0 ∷ 0 ∷ 0 ∷ 0 ∷ 0 ∷ 0 ∷ 0 ∷ 1 ∷ 17 ∷ 0 ∷ 17 ∷ 1 ∷ 0 ∷ 0 ∷ 0 ∷ 0 ∷ 0 ∷ 0 ∷ 0 ∷ 0 ∷ 0 ∷ [])
     -- K4 {1, 65}: 0.1 holds 1, 1.0 holds 65
-    ∷ shows 4 1 (1 ∷ 65 ∷ []) (4 ∷ 1 ∷ 2 ∷ 0 ∷ 0 ∷ 0 ∷ 1 ∷ 65 ∷ 0 ∷ 0 ∷ 0 ∷ 0 ∷ 65 ∷ 1 ∷ 0 ∷ 0 ∷ 0 ∷ 0 ∷ 0 ∷ 0 ∷ 0 ∷ [])
+    ∷ shows 4 1 (plain (1 ∷ 65 ∷ [])) (4 ∷ 1 ∷ 2 ∷ 0 ∷ 0 ∷ 0 ∷ 0 ∷ 1 ∷ 65 ∷ 0 ∷ 0 ∷ 0 ∷ 0 ∷ 0 ∷ 0 ∷ 0 ∷ 65 ∷ 1 ∷ 0 ∷ 0 ∷ 0 ∷ 0 ∷ 0 ∷ 0 ∷ 0 ∷ 0 ∷ 0 ∷ 0 ∷ 0 ∷ 0 ∷ [])
     -- K5 {1, 65, 129}: as K4, stash 129
-    ∷ shows 4 1 (1 ∷ 65 ∷ 129 ∷ []) (4 ∷ 1 ∷ 3 ∷ 1 ∷ 0 ∷ 0 ∷ 1 ∷ 65 ∷ 0 ∷ 0 ∷ 0 ∷ 0 ∷ 65 ∷ 1 ∷ 0 ∷ 0 ∷ 0 ∷ 0 ∷ 0 ∷ 0 ∷ 129 ∷ [])
+    ∷ shows 4 1 (plain (1 ∷ 65 ∷ 129 ∷ [])) (4 ∷ 1 ∷ 3 ∷ 1 ∷ 0 ∷ 0 ∷ 0 ∷ 1 ∷ 65 ∷ 0 ∷ 0 ∷ 0 ∷ 0 ∷ 0 ∷ 0 ∷ 0 ∷ 65 ∷ 1 ∷ 0 ∷ 0 ∷ 0 ∷ 0 ∷ 0 ∷ 0 ∷ 0 ∷ 0 ∷ 0 ∷ 0 ∷ 129 ∷ 0 ∷ [])
+    -- K5 with the tiers 3, 0 and 7
+    ∷ shows 4 1 (record { key = 1; tier = 3 } ∷ record { key = 65; tier = 0 } ∷ record { key = 129; tier = 7 } ∷ [])
+    (4 ∷ 1 ∷ 3 ∷ 1 ∷ 0 ∷ 0 ∷ 0 ∷ 1 ∷ 65 ∷ 3 ∷ 0 ∷ 0 ∷ 0 ∷ 0 ∷ 0 ∷ 0 ∷ 65 ∷ 1 ∷ 0 ∷ 0 ∷ 0 ∷ 0 ∷ 0 ∷ 0 ∷ 0 ∷ 0 ∷ 0 ∷ 0 ∷ 129 ∷ 7 ∷ [])
+    -- K3 with the tiers 2 and 5: the smallest key of a tree has its tier in both slots
+    ∷ shows 4 1 (record { key = 1; tier = 2 } ∷ record { key = 17; tier = 5 } ∷ [])
+    (4 ∷ 1 ∷ 2 ∷ 0 ∷ 0 ∷ 0 ∷ 0 ∷ 1 ∷ 17 ∷ 2 ∷ 0 ∷ 0 ∷ 0 ∷ 0 ∷ 0 ∷ 0 ∷ 1 ∷ 17 ∷ 2 ∷ 17 ∷ 1 ∷ 5 ∷ 0 ∷ 0 ∷ 0 ∷ 0 ∷ 0 ∷ 0 ∷ 0 ∷ 0 ∷ [])
     -- K6, K5 plus 193: refused 8
-    ∷ full 4 1 (1 ∷ 65 ∷ 129 ∷ 193 ∷ [])
+    ∷ full 4 1 (plain (1 ∷ 65 ∷ 129 ∷ 193 ∷ []))
     -- K6 with s = 2: accepted, stash 129, 193
-    ∷ shows 4 2 (1 ∷ 65 ∷ 129 ∷ 193 ∷ []) (4 ∷ 2 ∷ 4 ∷ 2 ∷ 0 ∷ 0 ∷ 1 ∷ 65 ∷ 0 ∷ 0 ∷ 0 ∷ 0 ∷ 65 ∷ 1 ∷ 0 ∷ 0 ∷ 0 ∷ 0 ∷ 0 ∷ 0 ∷ 129 ∷ 193 ∷ [])
+    ∷ shows 4 2 (plain (1 ∷ 65 ∷ 129 ∷ 193 ∷ [])) (4 ∷ 2 ∷ 4 ∷ 2 ∷ 0 ∷ 0 ∷ 0 ∷ 1 ∷ 65 ∷ 0 ∷ 0 ∷ 0 ∷ 0 ∷ 0 ∷ 0 ∷ 0 ∷ 65 ∷ 1 ∷ 0 ∷ 0 ∷ 0 ∷ 0 ∷ 0 ∷ 0 ∷ 0 ∷ 0 ∷ 0 ∷ 0 ∷ 129 ∷ 0 ∷ 193 ∷ 0 ∷ [])
     -- K7, K5 less 65: 0.1 holds 1, 1.0 holds 129, stash empty
-    ∷ shows 4 1 (1 ∷ 129 ∷ []) (4 ∷ 1 ∷ 2 ∷ 0 ∷ 0 ∷ 0 ∷ 1 ∷ 129 ∷ 0 ∷ 0 ∷ 0 ∷ 0 ∷ 129 ∷ 1 ∷ 0 ∷ 0 ∷ 0 ∷ 0 ∷ 0 ∷ 0 ∷ 0 ∷ [])
+    ∷ shows 4 1 (plain (1 ∷ 129 ∷ [])) (4 ∷ 1 ∷ 2 ∷ 0 ∷ 0 ∷ 0 ∷ 0 ∷ 1 ∷ 129 ∷ 0 ∷ 0 ∷ 0 ∷ 0 ∷ 0 ∷ 0 ∷ 0 ∷ 129 ∷ 1 ∷ 0 ∷ 0 ∷ 0 ∷ 0 ∷ 0 ∷ 0 ∷ 0 ∷ 0 ∷ 0 ∷ 0 ∷ 0 ∷ 0 ∷ [])
     -- K8 {17, 65, 129}: 0.1 holds 65, 1.0 holds 129, 1.1 holds 17; next 17 to 65 to 129 to 17
-    ∷ shows 4 1 (17 ∷ 65 ∷ 129 ∷ []) (4 ∷ 1 ∷ 3 ∷ 0 ∷ 0 ∷ 0 ∷ 65 ∷ 129 ∷ 0 ∷ 0 ∷ 0 ∷ 0 ∷ 129 ∷ 17 ∷ 17 ∷ 65 ∷ 0 ∷ 0 ∷ 0 ∷ 0 ∷ 0 ∷ [])
+    ∷ shows 4 1 (plain (17 ∷ 65 ∷ 129 ∷ [])) (4 ∷ 1 ∷ 3 ∷ 0 ∷ 0 ∷ 0 ∷ 0 ∷ 65 ∷ 129 ∷ 0 ∷ 0 ∷ 0 ∷ 0 ∷ 0 ∷ 0 ∷ 0 ∷ 129 ∷ 17 ∷ 0 ∷ 17 ∷ 65 ∷ 0 ∷ 0 ∷ 0 ∷ 0 ∷ 0 ∷ 0 ∷ 0 ∷ 0 ∷ 0 ∷ [])
     -- K9 {1, 33, 34, 65, 98}: 0.1 holds 1, 1.0 holds 65, 1.2 holds 33, 0.2 holds 34, stash 98
-    ∷ shows 4 1 (1 ∷ 33 ∷ 34 ∷ 65 ∷ 98 ∷ []) (4 ∷ 1 ∷ 5 ∷ 1 ∷ 0 ∷ 0 ∷ 1 ∷ 33 ∷ 34 ∷ 65 ∷ 0 ∷ 0 ∷ 65 ∷ 1 ∷ 0 ∷ 0 ∷ 33 ∷ 34 ∷ 0 ∷ 0 ∷ 98 ∷ [])
+    ∷ shows 4 1 (plain (1 ∷ 33 ∷ 34 ∷ 65 ∷ 98 ∷ [])) (4 ∷ 1 ∷ 5 ∷ 1 ∷ 0 ∷ 0 ∷ 0 ∷ 1 ∷ 33 ∷ 0 ∷ 34 ∷ 65 ∷ 0 ∷ 0 ∷ 0 ∷ 0 ∷ 65 ∷ 1 ∷ 0 ∷ 0 ∷ 0 ∷ 0 ∷ 33 ∷ 34 ∷ 0 ∷ 0 ∷ 0 ∷ 0 ∷ 98 ∷ 0 ∷ [])
     -- K10, K9 less 33: 1.2 holds 98, the stash is empty
-    ∷ shows 4 1 (1 ∷ 34 ∷ 65 ∷ 98 ∷ []) (4 ∷ 1 ∷ 4 ∷ 0 ∷ 0 ∷ 0 ∷ 1 ∷ 65 ∷ 34 ∷ 98 ∷ 0 ∷ 0 ∷ 65 ∷ 1 ∷ 0 ∷ 0 ∷ 98 ∷ 34 ∷ 0 ∷ 0 ∷ 0 ∷ [])
+    ∷ shows 4 1 (plain (1 ∷ 34 ∷ 65 ∷ 98 ∷ [])) (4 ∷ 1 ∷ 4 ∷ 0 ∷ 0 ∷ 0 ∷ 0 ∷ 1 ∷ 65 ∷ 0 ∷ 34 ∷ 98 ∷ 0 ∷ 0 ∷ 0 ∷ 0 ∷ 65 ∷ 1 ∷ 0 ∷ 0 ∷ 0 ∷ 0 ∷ 98 ∷ 34 ∷ 0 ∷ 0 ∷ 0 ∷ 0 ∷ 0 ∷ 0 ∷ [])
     -- K11 {1, 34, 65, 98, 225}: 225 in 1.2, stash 98
-    ∷ shows 4 1 (1 ∷ 34 ∷ 65 ∷ 98 ∷ 225 ∷ []) (4 ∷ 1 ∷ 5 ∷ 1 ∷ 0 ∷ 0 ∷ 1 ∷ 34 ∷ 34 ∷ 65 ∷ 0 ∷ 0 ∷ 65 ∷ 225 ∷ 0 ∷ 0 ∷ 225 ∷ 1 ∷ 0 ∷ 0 ∷ 98 ∷ [])
+    ∷ shows 4 1 (plain (1 ∷ 34 ∷ 65 ∷ 98 ∷ 225 ∷ [])) (4 ∷ 1 ∷ 5 ∷ 1 ∷ 0 ∷ 0 ∷ 0 ∷ 1 ∷ 34 ∷ 0 ∷ 34 ∷ 65 ∷ 0 ∷ 0 ∷ 0 ∷ 0 ∷ 65 ∷ 225 ∷ 0 ∷ 0 ∷ 0 ∷ 0 ∷ 225 ∷ 1 ∷ 0 ∷ 0 ∷ 0 ∷ 0 ∷ 98 ∷ 0 ∷ [])
     -- K12, r = 1, s = 0: two keys fit, the smaller in table 0 (for every two keys: Smallest.antt)
-    ∷ shows 1 0 (7 ∷ 200 ∷ []) (1 ∷ 0 ∷ 2 ∷ 0 ∷ 7 ∷ 200 ∷ 200 ∷ 7 ∷ [])
+    ∷ shows 1 0 (plain (7 ∷ 200 ∷ [])) (1 ∷ 0 ∷ 2 ∷ 0 ∷ 7 ∷ 200 ∷ 0 ∷ 200 ∷ 7 ∷ 0 ∷ [])
     -- K12: a third is refused 8
-    ∷ full 1 0 (7 ∷ 200 ∷ 201 ∷ [])
+    ∷ full 1 0 (plain (7 ∷ 200 ∷ 201 ∷ []))
     -- the console listing, r = 2: 0.1 holds 1, next 33; 1.0 holds 33, next 1; stash 65
-    ∷ shows 2 1 (1 ∷ 33 ∷ 65 ∷ []) (2 ∷ 1 ∷ 3 ∷ 1 ∷ 0 ∷ 0 ∷ 1 ∷ 33 ∷ 33 ∷ 1 ∷ 0 ∷ 0 ∷ 65 ∷ [])
+    ∷ shows 2 1 (plain (1 ∷ 33 ∷ 65 ∷ [])) (2 ∷ 1 ∷ 3 ∷ 1 ∷ 0 ∷ 0 ∷ 0 ∷ 1 ∷ 33 ∷ 0 ∷ 33 ∷ 1 ∷ 0 ∷ 0 ∷ 0 ∷ 0 ∷ 65 ∷ 0 ∷ [])
     -- the console listing: 97 on top is refused 8
-    ∷ full 2 1 (1 ∷ 33 ∷ 65 ∷ 97 ∷ [])
+    ∷ full 2 1 (plain (1 ∷ 33 ∷ 65 ∷ 97 ∷ []))
     ∷ []
 
 -- the rows follow from the image rule, all at once
@@ -156,33 +173,45 @@ hashed-known r s (c ∷ S) e =
     let q = and-true (eqb (slot-0 F c) (plain-0 r c)) (eqb (slot-1 F c) (plain-1 r c)) (p .0) in
     agree-some (eqb-true (slot-0 F c) (plain-0 r c) (q .0)) (eqb-true (slot-1 F c) (plain-1 r c) (q .1)) (hashed-known r s S (p .1))
 
-record Ready (r s : ℕ) (S : List ℕ) : Type 0 where
-  valid : ValidSet S
-  known : Known (board r s) (plain-0 r) (plain-1 r) S
+small-tiers : (L : List Entry) → small L ≡ true → (e : Entry) → In e L → e .tier ≤ max-tier
+small-tiers (f ∷ L) t e (here q) = rw q (leb-true (f .tier) max-tier (and-true (leb (f .tier) max-tier) (small L) t .0))
+small-tiers (f ∷ L) t e (there i) = small-tiers L (and-true (leb (f .tier) max-tier) (small L) t .1) e i
 
-ready-is : (r s : ℕ) (S : List ℕ) → ready r s S ≡ true → Ready r s S
+record Ready (r s : ℕ) (L : List Entry) : Type 0 where
+  valid : ValidSet L
+  known : Known (board r s) (plain-0 r) (plain-1 r) (keys-of L)
+
+ready-is : (r s : ℕ) (L : List Entry) → ready r s L ≡ true → Ready r s L
 unfolding blank
-ready-is r s S e =
-    let p = and-true (rises 0 S) (hashed (family (board r s)) S) e in
+ready-is r s L e =
+    let S = keys-of L in
+    let t = and-true (small L) (rises 0 S && hashed (family (board r s)) S) e in
+    let p = and-true (rises 0 S) (hashed (family (board r s)) S) (t .1) in
     let v = rises-valid 0 S (p .0) in
-    record { valid = record { asc = v .0; none-blank = λ c i. ne-eqb c 0 (omega (arith, v .1 c i)) }; known = hashed-known r s S (p .1) }
+    record {
+      valid = record {
+        keys = record { asc = v .0; none-blank = λ c i. ne-eqb c 0 (omega (arith, v .1 c i)) };
+        tiers = small-tiers L (t .0);
+      };
+      known = hashed-known r s S (p .1);
+    }
 
 holds : (R : Row) → follows R ≡ true → RowHolds R
-holds (shows r s S words) e =
-    let F = fits-by (plain-0 r) (plain-1 r) s S in
-    let W = image-by (plain-0 r) (plain-1 r) r s S in
-    let p = and-true (ready r s S) (F && same W words) e in
+holds (shows r s L words) e =
+    let F = fits-by (plain-0 r) (plain-1 r) s (keys-of L) in
+    let W = image-by (plain-0 r) (plain-1 r) (tier-of L) r s (keys-of L) in
+    let p = and-true (ready r s L) (F && same W words) e in
     let q = and-true F (same W words) (p .1) in
-    let d = ready-is r s S (p .0) in
+    let d = ready-is r s L (p .0) in
     record {
       valid = d .valid;
       fit = fits-known (board r s) (d .known) ∙ q .0;
-      words-are = image-known (board r s) (d .known) ∙ same-true W words (q .1);
+      words-are = image-known (board r s) L (d .known) ∙ same-true W words (q .1);
     }
-holds (full r s S) e =
-    let F = fits-by (plain-0 r) (plain-1 r) s S in
-    let p = and-true (ready r s S) (not F) e in
-    let d = ready-is r s S (p .0) in
+holds (full r s L) e =
+    let F = fits-by (plain-0 r) (plain-1 r) s (keys-of L) in
+    let p = and-true (ready r s L) (not F) e in
+    let d = ready-is r s L (p .0) in
     record { valid = d .valid; unfit = fits-known (board r s) (d .known) ∙ not-true F (p .1) }
 
 all-hold : (Rs : List Row) → all Rs ≡ true → (R : Row) → In R Rs → RowHolds R

@@ -3,91 +3,133 @@
 -- Assumes nothing.
 use Prim.Native.Nat.{ℕ, _<_}
 use mathlib.Core.Path.{_≡_, refl, sym, _∙_, ap}
-use mathlib.Core.Bool.{Bool, true, false, _&&_, true≢false}
+use mathlib.Core.Bool.{Bool, true, false, not, _&&_, true≢false}
 use mathlib.Core.Logic.{inl, inr, _↔_}
-use mathlib.Core.List.{List}
+use mathlib.Core.List.{List, List·Memᴰ as In}
 use native.Mathlib.Omega.{arith}
+use borrow.Author.Tests.{ltb-true, ltb-false, not-true}
+use lib.Dec.{ltb}
 use Rattle.basics.specs.Tests.{test, and-true}
+use Rattle.basics.specs.Sets.{any, any-true, true-any}
 use Rattle.basics.specs.Lists.{same, same-true, true-same}
-use Rattle.layout.specs.Layout.{Params, ValidSet, slots-of, params-of, sizes-in-range, shaped, fits, image, keys-in}
+use Rattle.layout.specs.Entries.{Entry, max-tier, keys-of, keys-tiered, key-in, tiered-in, in-tiered}
+use Rattle.layout.specs.Layout.{Params, ValidSet, slots-of, params-of, sizes-in-range, shaped, fits, image, keys-in, tier-in, set-in}
 use Rattle.layout.specs.Shape.{shape}
 use Rattle.layout.specs.Image.{image-shaped, image-params}
-use Rattle.layout.specs.Standing.{keys-in-valid, keys-in-image}
+use Rattle.layout.specs.Standing.{keys-in-valid, keys-in-image, set-in-image}
 
--- The words are a canonical image: the keys that stand in them fit, and the words are the image of the set of these keys (`same`, of basics/specs/Lists, is
--- equality of lists).
+-- The words are a canonical image: the keys that stand in them fit, the tiers at which they are found are 0 to 7, and the words are the image of the set of
+-- these keys with these tiers (`same`, of basics/specs/Lists, is equality of lists).
 unfoldable pub canonical : List ℕ → List ℕ → Bool
-canonical tabulation ws = fits (params-of tabulation ws) (keys-in ws) && same ws (image (params-of tabulation ws) (keys-in ws))
+canonical tabulation ws =
+    fits (params-of tabulation ws) (keys-in ws) && not (any (λ c. ltb max-tier (tier-in tabulation ws c)) (keys-in ws))
+    && same ws (image (params-of tabulation ws) (set-in tabulation ws))
 
--- The laws. First the same as a statement: the words are the image of S, a set that fits.
-pub record ImageOf (P : Params) (S ws : List ℕ) : Type 0 where
-  pub valid : ValidSet S
-  pub fit : fits P S ≡ true
-  pub is : ws ≡ image P S
+-- The laws. First the same as a statement: the words are the image of L, a set that fits.
+pub record ImageOf (P : Params) (L : List Entry) (ws : List ℕ) : Type 0 where
+  pub valid : ValidSet L
+  pub fit : fits P (keys-of L) ≡ true
+  pub is : ws ≡ image P L
 
 -- an image has one set
 
-module _ {P : Params} {S ws : List ℕ} (h : ImageOf P S ws) where
+module _ {P : Params} {L : List Entry} {ws : List ℕ} (h : ImageOf P L ws) where
   -- the words say the parameters
   pub image-of-params : params-of (P .tabulation) ws ≡ P
-  image-of-params = rw (h .is) (image-params P S)
+  image-of-params = rw (h .is) (image-params P L)
 
-  -- and the set
-  pub image-of-keys : 0 < P .slots → keys-in ws ≡ S
-  image-of-keys some = rw (h .is) (keys-in-image P S (h .fit) (h .valid) some)
+  -- and the set: its keys, and with their tiers
+  pub image-of-keys : 0 < P .slots → keys-in ws ≡ keys-of L
+  image-of-keys some = rw (h .is) (keys-in-image P L (h .fit) (h .valid .keys) some)
 
--- Differing sets have differing images, also with other r and s.
-pub image-one : {P P′ : Params} {S S′ ws : List ℕ} → ImageOf P S ws → ImageOf P′ S′ ws → P .tabulation ≡ P′ .tabulation → 0 < P .slots
-    → (P ≡ P′) × (S ≡ S′)
-image-one {P} {P′} {S} {S′} {ws} h h′ t some =
-    let p : P ≡ P′ = sym (image-of-params h) ∙ ap (λ (t : List ℕ). params-of t ws) t ∙ image-of-params h′ in
-    (p, sym (image-of-keys h some) ∙ image-of-keys h′ (omega (arith, ap (λ (Q : Params). Q .slots) p)))
+  pub image-of-set : 0 < P .slots → set-in (P .tabulation) ws ≡ L
+  image-of-set some = rw (h .is) (set-in-image P L (h .fit) (h .valid .keys) some)
 
-pub image-injective : (P : Params) (S S′ : List ℕ) → 0 < P .slots → ValidSet S → ValidSet S′ → fits P S ≡ true → fits P S′ ≡ true
-    → image P S ≡ image P S′ → S ≡ S′
-image-injective P S S′ some valid valid′ e e′ q =
-    let h : ImageOf P S (image P S) = record { valid = valid; fit = e; is = refl } in
-    let h′ : ImageOf P S′ (image P S) = record { valid = valid′; fit = e′; is = q } in
+-- Differing sets have differing images, also with other r and s: "Two lists are now equal only when cards and tiers agree".
+pub image-one : {P P′ : Params} {L L′ : List Entry} {ws : List ℕ} → ImageOf P L ws → ImageOf P′ L′ ws → P .tabulation ≡ P′ .tabulation → 0 < P .slots
+    → (P ≡ P′) × (L ≡ L′)
+image-one {P} {P′} {L} {L′} {ws} h h′ t some =
+    let p : P ≡ P′ = sym (image-of-params h) ∙ ap (λ (t : List ℕ). params-of t ws) t ∙ image-of-params h′ in (
+      p,
+      sym (image-of-set h some) ∙ ap (λ (t : List ℕ). set-in t ws) t ∙ image-of-set h′ (omega (arith, ap (λ (Q : Params). Q .slots) p)),
+    )
+
+pub image-injective : (P : Params) (L L′ : List Entry) → 0 < P .slots → ValidSet L → ValidSet L′ → fits P (keys-of L) ≡ true → fits P (keys-of L′) ≡ true
+    → image P L ≡ image P L′ → L ≡ L′
+image-injective P L L′ some valid valid′ e e′ q =
+    let h : ImageOf P L (image P L) = record { valid = valid; fit = e; is = refl } in
+    let h′ : ImageOf P L′ (image P L) = record { valid = valid′; fit = e′; is = q } in
     image-one h h′ refl some .1
 
 -- the computation decides
 
 module _ (tabulation ws : List ℕ) where
-  pub canonical-true : canonical tabulation ws ≡ true → ImageOf (params-of tabulation ws) (keys-in ws) ws
+  abbrev P : Params
+  P = params-of tabulation ws
+
+  abbrev large : ℕ → Bool
+  large c = ltb max-tier (tier-in tabulation ws c)
+
+  set-keys : keys-of (set-in tabulation ws) ≡ keys-in ws
+  set-keys = keys-tiered (tier-in tabulation ws) (keys-in ws)
+
+  pub canonical-true : canonical tabulation ws ≡ true → ImageOf P (set-in tabulation ws) ws
   unfolding canonical
   canonical-true e =
-      let S = keys-in ws in
-      let p = and-true (fits (params-of tabulation ws) S) (same ws (image (params-of tabulation ws) S)) e in
-      record { valid = keys-in-valid ws; fit = p .0; is = same-true ws (image (params-of tabulation ws) S) (p .1) }
+      let q = and-true (fits P (keys-in ws) && not (any large (keys-in ws))) (same ws (image P (set-in tabulation ws))) e in
+      let p = and-true (fits P (keys-in ws)) (not (any large (keys-in ws))) (q .0) in
+      record {
+        valid = record {
+          keys = rw set-keys (keys-in-valid ws);
+          tiers = λ x i.
+              let t = tiered-in (tier-in tabulation ws) (keys-in ws) i in
+              let k : In (x .key) (keys-in ws) = rw set-keys at (key-in (set-in tabulation ws) i) in
+              elim (test (large (x .key))) [
+                | inl l ↦ absurd (true≢false (sym (true-any large k l) ∙ not-true _ (p .1)))
+                | inr l ↦ rw t (ltb-false max-tier (tier-in tabulation ws (x .key)) l)
+              ];
+        };
+        fit = rw set-keys (p .0);
+        is = same-true ws (image P (set-in tabulation ws)) (q .1);
+      }
 
-  true-canonical : ImageOf (params-of tabulation ws) (keys-in ws) ws → canonical tabulation ws ≡ true
+  true-canonical : ImageOf P (set-in tabulation ws) ws → canonical tabulation ws ≡ true
   unfolding canonical
-  true-canonical h = rw (h .fit) (true-same ws (image (params-of tabulation ws) (keys-in ws)) (h .is))
+  true-canonical h =
+      let fit = rw set-keys at (h .fit) in
+      let small : any large (keys-in ws) ≡ false = elim (test (any large (keys-in ws))) [
+        | inl t ↦
+            let r = any-true large (keys-in ws) t in
+            let i = in-tiered (tier-in tabulation ws) (keys-in ws) (r .1) in
+            absurd (omega (arith, h .valid .tiers _ i, ltb-true max-tier (tier-in tabulation ws (r .0)) (r .2)))
+        | inr f ↦ f
+      ] in
+      rw (fit, small) (true-same ws (image P (set-in tabulation ws)) (h .is))
 
   module _ (formed : shaped ws ≡ true) where
     -- If the words are the image of some set, with whatever r and s, then r and s are those in the header, and the set is that of the keys that stand.
-    pub image-of-canonical : {P : Params} {S : List ℕ} → P .tabulation ≡ tabulation → ImageOf P S ws
-        → (P ≡ params-of tabulation ws) × (S ≡ keys-in ws) × (canonical tabulation ws ≡ true)
-    image-of-canonical {P} {S} t h =
-        let p : P ≡ params-of tabulation ws = sym (image-of-params h) ∙ ap (λ (t : List ℕ). params-of t ws) t in
-        let r : P .slots ≡ slots-of ws = ap (λ (Q : Params). Q .slots) p in
-        let some : 0 < P .slots = omega (arith, shape ws formed .sizes .has-slots) in
-        let s : S ≡ keys-in ws = sym (image-of-keys h some) in
+    pub image-of-canonical : {Q : Params} {L : List Entry} → Q .tabulation ≡ tabulation → ImageOf Q L ws
+        → (Q ≡ P) × (L ≡ set-in tabulation ws) × (canonical tabulation ws ≡ true)
+    image-of-canonical {Q} {L} t h =
+        let p : Q ≡ P = sym (image-of-params h) ∙ ap (λ (t : List ℕ). params-of t ws) t in
+        let r : Q .slots ≡ slots-of ws = ap (λ (R : Params). R .slots) p in
+        let some : 0 < Q .slots = omega (arith, shape ws formed .sizes .has-slots) in
+        let s : L ≡ set-in tabulation ws = sym (image-of-set h some) ∙ ap (λ (t : List ℕ). set-in t ws) t in
         (p, s, true-canonical (rw (p, s) at h))
 
     -- Words of the right shape pass exactly if they are the image of a set that fits;
-    pub canonical-iff : (canonical tabulation ws ≡ true) ↔ ((S : List ℕ) × ImageOf (params-of tabulation ws) S ws)
-    canonical-iff = (λ e. (keys-in ws, canonical-true e), λ h. image-of-canonical refl (h .1) .2)
+    pub canonical-iff : (canonical tabulation ws ≡ true) ↔ ((L : List Entry) × ImageOf P L ws)
+    canonical-iff = (λ e. (set-in tabulation ws, canonical-true e), λ h. image-of-canonical refl (h .1) .2)
 
     -- they are refused, "the list is the canonical image of no set", exactly if they are the image of none, with whatever r and s.
-    pub not-canonical-iff : (canonical tabulation ws ≡ false) ↔ ((P : Params) (S : List ℕ) → P .tabulation ≡ tabulation → ImageOf P S ws → ⊥)
+    pub not-canonical-iff : (canonical tabulation ws ≡ false) ↔ ((Q : Params) (L : List Entry) → Q .tabulation ≡ tabulation → ImageOf Q L ws → ⊥)
     not-canonical-iff = (
-      λ e P S t h. true≢false (sym (image-of-canonical t h .2) ∙ e),
-      λ n. elim (test (canonical tabulation ws)) [ inl e ↦ absurd (n (params-of tabulation ws) (keys-in ws) refl (canonical-true e)) | inr e ↦ e ],
+      λ e Q L t h. true≢false (sym (image-of-canonical t h .2) ∙ e),
+      λ n. elim (test (canonical tabulation ws)) [ inl e ↦ absurd (n P (set-in tabulation ws) refl (canonical-true e)) | inr e ↦ e ],
     )
 
 -- every image passes
-pub image-canonical : (P : Params) (S : List ℕ) → sizes-in-range (P .slots) (P .places) ≡ true → ValidSet S → fits P S ≡ true
-    → canonical (P .tabulation) (image P S) ≡ true
-image-canonical P S range valid e =
-    image-of-canonical (P .tabulation) (image P S) (image-shaped P S range e) refl (record { valid = valid; fit = e; is = refl }) .2
+pub image-canonical : (P : Params) (L : List Entry) → sizes-in-range (P .slots) (P .places) ≡ true → ValidSet L → fits P (keys-of L) ≡ true
+    → canonical (P .tabulation) (image P L) ≡ true
+image-canonical P L range valid e =
+    image-of-canonical (P .tabulation) (image P L) (image-shaped P L range e) refl (record { valid = valid; fit = e; is = refl }) .2

@@ -5,23 +5,25 @@ use mathlib.Core.Path.{_≡_, refl}
 use mathlib.Core.List.{List}
 use Rattle.cuckoo.specs.Agree.{Agree, stash-agree, slot-key-agree, slot-next-agree}
 use Rattle.tabulation.specs.Slots.{slot-0, slot-1}
+use Rattle.layout.specs.Entries.{Entry, keys-of, tier-of}
 use Rattle.layout.specs.Layout.{Params, family, fits-by, slot-words-by, image-by, fits, slot-words, image}
 
 -- a and b are the slots of every key of S
 abbrev pub Known : Params → (ℕ → ℕ) → (ℕ → ℕ) → List ℕ → Type 0
 Known P a b S = Agree (slot-0 (family P)) (slot-1 (family P)) a b S
 
-module _ (P : Params) {a b : ℕ → ℕ} {S : List ℕ} where
-  -- whether the set fits, and each word of its image, are those over a and b
-  pub fits-known : Known P a b S → fits P S ≡ fits-by a b (P .places) S
-  unfolding fits fits-by
-  fits-known g = rw (stash-agree g)
+-- whether a set of keys fits,
+pub fits-known : (P : Params) {a b : ℕ → ℕ} {S : List ℕ} → Known P a b S → fits P S ≡ fits-by a b (P .places) S
+unfolding fits fits-by
+fits-known P g = rw (stash-agree g)
 
-  slot-words-known : Known P a b S → (v n : ℕ) → slot-words P S v n ≡ slot-words-by a b S v n
+-- and each word of the image of a set, are those over a and b
+module _ (P : Params) {a b : ℕ → ℕ} (L : List Entry) (g : Known P a b (keys-of L)) where
+  slot-words-known : (v n : ℕ) → slot-words P L v n ≡ slot-words-by a b (tier-of L) (keys-of L) v n
   unfolding slot-words-by
-  slot-words-known g v zero = refl
-  slot-words-known g v (suc n) = rw (slot-key-agree g v, slot-next-agree g v, slot-words-known g (suc v) n)
+  slot-words-known v zero = refl
+  slot-words-known v (suc n) = rw (slot-key-agree g v, slot-next-agree g v, slot-words-known (suc v) n)
 
-  pub image-known : Known P a b S → image P S ≡ image-by a b (P .slots) (P .places) S
+  pub image-known : image P L ≡ image-by a b (tier-of L) (P .slots) (P .places) (keys-of L)
   unfolding image image-by
-  image-known g = rw (stash-agree g, slot-words-known g 0 (P .slots + P .slots))
+  image-known = rw (stash-agree g, slot-words-known 0 (P .slots + P .slots))

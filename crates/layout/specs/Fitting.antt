@@ -11,14 +11,14 @@ use Rattle.basics.specs.Tests.{test}
 use Rattle.basics.specs.Sets.{without, Sub, Asc, out-in, asc-out}
 use Rattle.cuckoo.specs.Placement.{Placement, fits-placed, placed-fits, fits-bound, subset-fits}
 use Rattle.tabulation.specs.Slots.{slot-0, slot-1, slot-0-lt, slot-1-lt}
-use Rattle.layout.specs.Layout.{Params, family, ValidSet, fits}
+use Rattle.layout.specs.Layout.{Params, family, ValidKeys, fits}
 use Rattle.layout.specs.Image.{fits-le, le-fits}
 use Rattle.layout.specs.Standing.{zero-outside}
 
-pub without-valid : (c : ℕ) {S : List ℕ} → ValidSet S → ValidSet (without c S)
+pub without-valid : (c : ℕ) {S : List ℕ} → ValidKeys S → ValidKeys (without c S)
 without-valid c {S} valid = record { asc = asc-out c (valid .asc); none-blank = λ d i. valid .none-blank d (out-in c S i) }
 
-module _ (P : Params) {S : List ℕ} (valid : ValidSet S) where
+module _ (P : Params) {S : List ℕ} (valid : ValidKeys S) where
   -- A set fits exactly if its keys can be put, each into one of its two slots or into one of s places, no two together.
   pub fits-placement : (fits P S ≡ true) ↔ Placement (slot-0 (family P)) (slot-1 (family P)) (P .places) S
   fits-placement = (

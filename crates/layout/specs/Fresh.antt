@@ -12,12 +12,12 @@ use Rattle.cuckoo.specs.Graph.{settle, seated, stash, occupant, slot-key, slot-
 use Rattle.basics.specs.Tests.{test, and-true}
 use Rattle.basics.specs.Sets.{none}
 use Rattle.refusals.specs.Refusal.{done}
-use Rattle.layout.specs.Layout.{Params, ValidSet, slot-width, words-length, sizes-in-range, fits, slot-words, image, fits-by, image-by, slot-words-by}
+use Rattle.layout.specs.Layout.{Params, ValidSet, slot-width, place-width, words-length, sizes-in-range, fits, slot-words, image, fits-by, image-by, slot-words-by}
 use Rattle.layout.specs.Answers.{fresh-refusal, fresh-words}
 use Rattle.layout.specs.Image.{le-fits}
 
 pub empty-valid : ValidSet []
-empty-valid = record { asc = none; none-blank = λ c i. elim i [ ] }
+empty-valid = record { keys = record { asc = none; none-blank = λ c i. elim i [ ] }; tiers = λ e i. elim i [ ] }
 
 module _ (P : Params) where
   pub empty-fits : fits P [] ≡ true
@@ -28,7 +28,7 @@ module _ (P : Params) where
   empty-slots : (v n : ℕ) → slot-words P [] v n ≡ replicate (slot-width * n) 0
   unfolding slot-words-by slot-key slot-next occupant seated settle
   empty-slots v zero = refl
-  empty-slots v (suc n) = let e : slot-width * suc n ≡ suc (suc (slot-width * n)) = omega arith in rw (e, empty-slots (suc v) n)
+  empty-slots v (suc n) = let e : slot-width * suc n ≡ suc (suc (suc (slot-width * n))) = omega arith in rw (e, empty-slots (suc v) n)
 
   -- "r, s and zeros"
   pub empty-image : image P [] ≡ P .slots ∷ P .places ∷ replicate (words-length (P .slots) (P .places) - 2) 0
@@ -36,7 +36,7 @@ module _ (P : Params) where
   empty-image =
       let r = P .slots in
       let s = P .places in
-      let e : words-length r s - 2 ≡ suc (suc (slot-width * (r + r) + (s - 0))) = omega arith in
+      let e : words-length r s - 2 ≡ suc (suc (slot-width * (r + r) + place-width * (s - 0))) = omega arith in
       rw (e, empty-slots 0 (r + r), replicate-append-replicate)
 
 -- an accepted call lays the image of the empty set

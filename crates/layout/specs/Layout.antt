@@ -1,16 +1,17 @@
 -- How a dictionary lies in words: the one home of the layout (document 01, "The memory" and "The canonical image"). A heading, then the slots of table 0 and
 -- table 1, then the stash. This file is what a reader must believe; Image.antt has the laws.
-use Prim.Native.Nat.{ℕ, zero, suc, _+_, _*_, _-_}
+use Prim.Native.Nat.{ℕ, zero, suc, _+_, _*_, _-_, _≤_}
 use mathlib.Core.Path.{_≡_}
 use mathlib.Core.Bool.{Bool, false, not, _&&_}
 use mathlib.Core.List.{List, [], _∷_, _++_, List·Memᴰ as In}
 use lib.Dec.{eqb, leb}
-use lib.ListN.{length, getD, take, drop, replicate}
+use lib.ListN.{length, getD, drop, replicate}
 use Rattle.basics.specs.Sets.{keep, Asc}
 use Rattle.cuckoo.specs.Graph.{stash, slot-key, slot-next}
 use Rattle.ordered.specs.Keys.{sorted, distinct}
 use Rattle.tabulation.specs.Hash.{Family, blank, slots-in-range, tables}
 use Rattle.tabulation.specs.Slots.{slot-0, slot-1}
+use Rattle.layout.specs.Entries.{Entry, max-tier, keys-of, tier-of, tiered}
 use Rattle.layout.specs.declared.Header.{Header}
 
 -- what an image depends on besides its set: the tabulation, r and s
@@ -23,9 +24,14 @@ abbrev pub family : Params → Family
 family P = tables (P .tabulation) (P .slots)
 
 -- A set of keys: strictly ascending, and no key of it is blank.
-pub record ValidSet (S : List ℕ) : Type 0 where
+pub record ValidKeys (S : List ℕ) : Type 0 where
   pub asc : Asc S
   pub none-blank : (c : ℕ) → In c S → blank c ≡ false
+
+-- A set: keys, each with a tier of 0 to 7.
+pub record ValidSet (L : List Entry) : Type 0 where
+  pub keys : ValidKeys (keys-of L)
+  pub tiers : (e : Entry) → In e L → e .tier ≤ max-tier
 
 -- the heading
 
@@ -54,35 +60,44 @@ stash-count ws = header-of ws .stashed
 
 -- slots and stash places
 
--- a slot is two words, its key and its next
-abbrev pub slot-record : ℕ → ℕ → List ℕ
-slot-record key next = key ∷ next ∷ []
+-- "A pocket becomes card, next, tier"
+abbrev pub slot-record : ℕ → ℕ → ℕ → List ℕ
+slot-record key next tier = key ∷ next ∷ tier ∷ []
 
 abbrev pub slot-width : ℕ
-slot-width = 2
+slot-width = 3
 
--- a stash place is one word, its key: so many words have n places
-abbrev pub stash-length : ℕ → ℕ
-stash-length n = n
+-- "a drawer place becomes card, tier"
+abbrev pub place-record : ℕ → ℕ → List ℕ
+place-record key tier = key ∷ tier ∷ []
+
+abbrev pub place-width : ℕ
+place-width = 2
 
 -- s, the number of stash places, is at most 64
 abbrev pub max-places : ℕ
 max-places = 64
 
--- where slot v begins, and where the stash begins
+-- where slot v begins and its tier stands, where the stash begins, and where its place i begins
 abbrev pub key-at : ℕ → ℕ
 key-at v = header-length + slot-width * v
+
+abbrev pub tier-at : ℕ → ℕ
+tier-at v = key-at v + 2
 
 abbrev pub stash-at : ℕ → ℕ
 stash-at r = key-at (r + r)
 
--- "The length is exactly 4 + 4r + s words"
-abbrev pub words-length : ℕ → ℕ → ℕ
-words-length r s = stash-at r + stash-length s
+abbrev pub place-at : ℕ → ℕ → ℕ
+place-at r i = stash-at r + place-width * i
 
--- "a work sheet of at least 8r + 4s words"
+-- "the length becomes 4 + 6r + 2s"
+abbrev pub words-length : ℕ → ℕ → ℕ
+words-length r s = place-at r s
+
+-- "and the work sheet at least 12r + 8s"
 abbrev pub scratch-length : ℕ → ℕ → ℕ
-scratch-length r s = 8 * r + 4 * s
+scratch-length r s = 12 * r + 8 * s
 
 -- the parameters that given words are read with
 abbrev pub params-of : List ℕ → List ℕ → Params
@@ -92,7 +107,7 @@ params-of tabulation ws = record { tabulation = tabulation; slots = slots-of ws;
 unfoldable pub sizes-in-range : ℕ → ℕ → Bool
 sizes-in-range r s = slots-in-range r && leb s max-places
 
--- The shape of a dictionary; its opposite is "list shorter than 4 words, r or s outside its range, or length not 4 + 4r + s".
+-- The shape of a dictionary; its opposite is "list shorter than 4 words, r or s outside its range, or length not" 4 + 6r + 2s.
 unfoldable pub shaped : List ℕ → Bool
 shaped ws =
     leb header-length (length ws) && sizes-in-range (slots-of ws) (places-of ws)
@@ -100,26 +115,33 @@ shaped ws =
 
 -- the image of a set
 
--- It is made over two end functions, a key's slot in table 0 and in table 1.
+-- the places of keys that have these tiers
+abbrev pub place-words : (ℕ → ℕ) → List ℕ → List ℕ
+place-words t [] = []
+place-words t (c ∷ R) = place-record c (t c) ++ place-words t R
+
+-- It is made over two end functions, a key's slot in table 0 and in table 1, and the tier of each key.
 module _ (a b : ℕ → ℕ) where
   -- the set fits: its stash has at most s keys
   unfoldable pub fits-by : ℕ → List ℕ → Bool
   fits-by s S = leb (length (stash a b S)) s
 
-  -- n slots from v on
-  unfoldable pub slot-words-by : List ℕ → ℕ → ℕ → List ℕ
-  slot-words-by S v zero = []
-  slot-words-by S v (suc n) = slot-record (slot-key a b S v) (slot-next a b S v) ++ slot-words-by S (suc v) n
+  module _ (t : ℕ → ℕ) where
+    -- n slots from v on
+    unfoldable pub slot-words-by : List ℕ → ℕ → ℕ → List ℕ
+    slot-words-by S v zero = []
+    slot-words-by S v (suc n) =
+        slot-record (slot-key a b S v) (slot-next a b S v) (t (slot-key a b S v)) ++ slot-words-by S (suc v) n
 
-  -- "The drawer is ascending, then zeros."
-  abbrev pub stash-words-by : ℕ → List ℕ → List ℕ
-  stash-words-by s S = stash a b S ++ replicate (stash-length s - length (stash a b S)) 0
+    -- "The drawer is ascending, then zeros."
+    abbrev pub stash-words-by : ℕ → List ℕ → List ℕ
+    stash-words-by s S = place-words t (stash a b S) ++ replicate (place-width * (s - length (stash a b S))) 0
 
-  -- the heading, the slots, the stash
-  unfoldable pub image-by : ℕ → ℕ → List ℕ → List ℕ
-  image-by r s S =
-      header-words (record { slots = r; places = s; keys = length S; stashed = length (stash a b S) })
-      ++ (slot-words-by S 0 (r + r) ++ stash-words-by s S)
+    -- the heading, the slots, the stash
+    unfoldable pub image-by : ℕ → ℕ → List ℕ → List ℕ
+    image-by r s S =
+        header-words (record { slots = r; places = s; keys = length S; stashed = length (stash a b S) })
+        ++ (slot-words-by S 0 (r + r) ++ stash-words-by s S)
 
 -- With a tabulation the end functions are the hashes.
 abbrev pub stash-of : Params → List ℕ → List ℕ
@@ -128,32 +150,54 @@ stash-of P S = stash (slot-0 (family P)) (slot-1 (family P)) S
 unfoldable pub fits : Params → List ℕ → Bool
 fits P S = fits-by (slot-0 (family P)) (slot-1 (family P)) (P .places) S
 
--- The canonical image of a set.
-unfoldable pub image : Params → List ℕ → List ℕ
-image P S = image-by (slot-0 (family P)) (slot-1 (family P)) (P .slots) (P .places) S
+-- The canonical image of a set: "set" means cards with their tiers.
+unfoldable pub image : Params → List Entry → List ℕ
+image P L = image-by (slot-0 (family P)) (slot-1 (family P)) (tier-of L) (P .slots) (P .places) (keys-of L)
 
--- the keys that stand in given words
+-- what stands in given words
 
 -- the key words of n slots, of words that begin with a slot
 unfoldable pub slot-keys : ℕ → List ℕ → List ℕ
 slot-keys zero ws = []
 slot-keys (suc n) ws = getD ws 0 0 ∷ slot-keys n (drop slot-width ws)
 
--- the words of the stash
-abbrev pub stash-part : List ℕ → List ℕ
-stash-part ws = take (stash-length (places-of ws)) (drop (stash-at (slots-of ws)) ws)
+-- n places, of words that begin with one
+unfoldable pub place-entries : ℕ → List ℕ → List Entry
+place-entries zero ws = []
+place-entries (suc n) ws = record { key = getD ws 0 0; tier = getD ws 1 0 } ∷ place-entries n (drop place-width ws)
+
+-- the places of the stash
+abbrev pub stash-entries : List ℕ → List Entry
+stash-entries ws = place-entries (places-of ws) (drop (stash-at (slots-of ws)) ws)
 
 -- every word at which a key can stand
 abbrev pub key-words : List ℕ → List ℕ
-key-words ws = slot-keys (slots-of ws + slots-of ws) (drop header-length ws) ++ stash-part ws
+key-words ws = slot-keys (slots-of ws + slots-of ws) (drop header-length ws) ++ keys-of (stash-entries ws)
 
 -- those that are not 0, ascending, each once
 unfoldable pub keys-in : List ℕ → List ℕ
 keys-in ws = distinct (sorted (keep (λ w. not (eqb w 0)) (key-words ws)))
 
--- The laws speak of the parts of an image by its parameters.
-abbrev pub slot-words : Params → List ℕ → ℕ → ℕ → List ℕ
-slot-words P S v n = slot-words-by (slot-0 (family P)) (slot-1 (family P)) S v n
+-- where a key is looked for, in this order: its slot in table 0, its slot in table 1, the places of the stash
+abbrev pub slot-entry : List ℕ → ℕ → Entry
+slot-entry ws v = record { key = getD ws (key-at v) 0; tier = getD ws (tier-at v) 0 }
 
-abbrev pub stash-words : Params → List ℕ → List ℕ
-stash-words P S = stash-words-by (slot-0 (family P)) (slot-1 (family P)) (P .places) S
+abbrev pub looked-at : List ℕ → List ℕ → ℕ → List Entry
+looked-at tabulation ws key =
+    let F = tables tabulation (slots-of ws) in
+    slot-entry ws (slot-0 F key) ∷ slot-entry ws (slot-1 F key) ∷ stash-entries ws
+
+-- "should a tampered list show the card more than once, the first in word order counts"
+unfoldable pub tier-in : List ℕ → List ℕ → ℕ → ℕ
+tier-in tabulation ws key = tier-of (looked-at tabulation ws key) key
+
+-- the set: the keys that stand in the words, with the tiers at which they are found
+abbrev pub set-in : List ℕ → List ℕ → List Entry
+set-in tabulation ws = tiered (tier-in tabulation ws) (keys-in ws)
+
+-- The laws speak of the parts of an image by its parameters.
+abbrev pub slot-words : Params → List Entry → ℕ → ℕ → List ℕ
+slot-words P L v n = slot-words-by (slot-0 (family P)) (slot-1 (family P)) (tier-of L) (keys-of L) v n
+
+abbrev pub stash-words : Params → List Entry → List ℕ
+stash-words P L = stash-words-by (slot-0 (family P)) (slot-1 (family P)) (tier-of L) (P .places) (keys-of L)

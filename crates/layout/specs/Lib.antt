@@ -1,6 +1,7 @@
 -- How a dictionary lies in words. Layout and Answers have the definitions; then laws: what the shape means (Shape), the image by position (Image), the
 -- keys that stand in words (Standing), which sets fit (Fitting), lookup and view on an image (Look), which words are an image (Canonical), fresh
 -- words (Fresh), and the worked examples K1 to K12 (Ends, Board, Smallest).
+pub mod Entries
 pub mod Layout
 pub mod Answers
 pub mod Shape
@@ -9,6 +10,7 @@ pub mod Standing
 pub mod Fitting
 pub mod Look
 pub mod Canonical
+pub mod Bare
 pub mod Fresh
 pub mod Ends
 pub mod Board

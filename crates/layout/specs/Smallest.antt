@@ -13,6 +13,7 @@ use Rattle.basics.specs.Tests.{test}
 use Rattle.basics.specs.Sets.{without, Asc, none, some}
 use Rattle.cuckoo.specs.Graph.{label, joined, component, onCycle, cyclic, spare, settle, seated, stash, root, sits, occupant, next, slot-key, slot-next}
 use Rattle.tabulation.specs.Hash.{hash-lt}
+use Rattle.layout.specs.Entries.{Entry, tier-of}
 use Rattle.layout.specs.Layout.{Params, family, fits, image, fits-by, slot-words-by, image-by}
 use Rattle.layout.specs.Fitting.{fits-length}
 use Rattle.layout.specs.Ends.{Known, fits-known, image-known}
@@ -110,15 +111,21 @@ module _ (c d : ℕ) (l : c < d) where
   unfolding next component joined label
   next-d = rw (le-ltb d c (omega arith), le-ltb d d (omega arith))
 
-  two-words : 0 < c → image-by left right 1 0 (c ∷ d ∷ []) ≡ 1 ∷ 0 ∷ 2 ∷ 0 ∷ c ∷ d ∷ d ∷ c ∷ []
+  two-words : 0 < c → (t : ℕ → ℕ) → image-by left right t 1 0 (c ∷ d ∷ []) ≡ 1 ∷ 0 ∷ 2 ∷ 0 ∷ c ∷ d ∷ t c ∷ d ∷ c ∷ t d ∷ []
   unfolding image-by slot-words-by slot-key slot-next
-  two-words h = rw (no-stash, both-seated, in-0, in-1, ne-eqb c 0 (omega arith), ne-eqb d 0 (omega arith), next-c, next-d)
+  two-words h t = rw (no-stash, both-seated, in-0, in-1, ne-eqb c 0 (omega arith), ne-eqb d 0 (omega arith), next-c, next-d)
 
--- K12, whatever the tabulation (any list at all)
+-- K12, whatever the tabulation (any list at all), and whatever the tiers
 module _ (tabulation : List ℕ) where
-  -- "two cards fit, the smaller in rack 0": r, s, two keys, none stashed; c and its next d in table 0, d and its next c in table 1
-  pub two-image : (c d : ℕ) → 0 < c → c < d → image (smallest tabulation) (c ∷ d ∷ []) ≡ 1 ∷ 0 ∷ 2 ∷ 0 ∷ c ∷ d ∷ d ∷ c ∷ []
-  two-image c d h l = image-known (smallest tabulation) (one-slot tabulation (c ∷ d ∷ [])) ∙ two-words c d l h
+  abbrev pub two : (c x d y : ℕ) → List Entry
+  two c x d y = record { key = c; tier = x } ∷ record { key = d; tier = y } ∷ []
+
+  -- "two cards fit, the smaller in rack 0": r, s, two keys, none stashed; c, its next d and its tier in table 0, d, its next c and its tier in table 1
+  pub two-image : (c x d y : ℕ) → 0 < c → c < d → image (smallest tabulation) (two c x d y) ≡ 1 ∷ 0 ∷ 2 ∷ 0 ∷ c ∷ d ∷ x ∷ d ∷ c ∷ y ∷ []
+  two-image c x d y h l =
+      image-known (smallest tabulation) (two c x d y) (one-slot tabulation (c ∷ d ∷ []))
+      ∙ two-words c d l h (tier-of (two c x d y))
+      ∙ (rw (c-c c d l, d-c c d l, d-d c d l))
 
   pub two-fit : (c d : ℕ) → c < d → fits (smallest tabulation) (c ∷ d ∷ []) ≡ true
   unfolding fits-by

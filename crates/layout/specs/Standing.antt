@@ -4,12 +4,12 @@ use Prim.Native.Nat.{ℕ, zero, suc, _+_, _*_, _-_, _<_}
 use mathlib.Core.Path.{_≡_, refl, sym, _∙_, ap}
 use mathlib.Core.Bool.{true, false, not}
 use mathlib.Core.Logic.{inl, inr, _↔_}
-use mathlib.Core.List.{List, List·Memᴰ as In, List·Memᴰ·head as here, List·Memᴰ·tail as there, Memᴰ·append-left, Memᴰ·append-right, List·Memᴰ·append-cases}
+use mathlib.Core.List.{List, [], _∷_, _++_, List·Memᴰ as In, List·Memᴰ·head as here, List·Memᴰ·tail as there, Memᴰ·append-left, Memᴰ·append-right, List·Memᴰ·append-cases}
 use native.Mathlib.Omega.{arith}
 use borrow.Author.Tests.{eqb-false, ne-eqb, not-true}
 use lib.Dec.{eqb}
-use lib.ListN.{length, getD, take, drop, replicate, length-take, length-drop}
-use lib.Seq.{getD-drop, getD-take, take-all}
+use lib.ListN.{length, getD, drop, replicate}
+use lib.Seq.{getD-drop}
 use Rattle.basics.specs.Sets.{keep, Asc, asc-ext, keep-in, keep-test, in-keep}
 use Rattle.basics.specs.Lists.{getD-in}
 use Rattle.cuckoo.specs.Graph.{seated, stash, slot-key}
@@ -18,12 +18,12 @@ use Rattle.cuckoo.specs.Seating.{look, occupant-from}
 use Rattle.cuckoo.specs.Filled.{seated-or-stash, stash-sub}
 use Rattle.ordered.specs.Sorting.{in-at}
 use Rattle.ordered.specs.Distinct.{distinct-sorted-asc, distinct-sorted-in, in-distinct-sorted}
-use Rattle.tabulation.specs.Hash.{blank}
+use Rattle.tabulation.specs.Hash.{blank, tables}
 use Rattle.tabulation.specs.Slots.{slot-0, slot-1, slot-0-lt, slot-1-lt}
-use Rattle.layout.specs.Layout.{Params, family, ValidSet, header-length, slot-width, key-at, stash-at, words-length, slots-of, places-of, image-by}
-use Rattle.layout.specs.Layout.{stash-of, fits, stash-words, image, slot-keys, stash-part, key-words, keys-in}
-use Rattle.layout.specs.Shape.{Shaped}
-use Rattle.layout.specs.Image.{stash-words-length, image-size, image-key, image-stash, image-stash-at}
+use Rattle.layout.specs.Entries.{Entry, keys-of, tier-of, tiered, keys-tiered, tiered-agree, tier-absent, tier-all, tiered-self, tiered-in, no-entry, keys-none, none-in, keys-append}
+use Rattle.layout.specs.Layout.{Params, family, ValidKeys, header-length, slot-width, place-width, key-at, stash-at, place-at, slots-of, places-of, place-words, image-by}
+use Rattle.layout.specs.Layout.{stash-of, fits, stash-words, image, slot-keys, place-entries, stash-entries, key-words, keys-in, slot-entry, looked-at, tier-in, set-in}
+use Rattle.layout.specs.Image.{fits-le, image-slots, image-places, image-key, image-tier, image-stash}
 
 -- blank keys: all that this crate knows of `blank`
 
@@ -37,15 +37,15 @@ not-blank c e = eqb-false c 0 (sym (blank-zero c) ∙ e)
 blank-false : (c : ℕ) → (c ≡ 0 → ⊥) → blank c ≡ false
 blank-false c n = blank-zero c ∙ ne-eqb c 0 n
 
-pub zero-outside : {S : List ℕ} → ValidSet S → In 0 S → ⊥
+pub zero-outside : {S : List ℕ} → ValidKeys S → In 0 S → ⊥
 zero-outside h i = not-blank 0 (h .none-blank 0 i) refl
 
 -- the key words of any words
 
--- c is the key word of a slot, or a word of the stash
+-- c is the key word of a slot, or of a place of the stash
 pub data KeyWord (ws : List ℕ) (c : ℕ) : Type 0 where
   at-slot : (v : ℕ) → v < slots-of ws + slots-of ws → getD ws (key-at v) 0 ≡ c → KeyWord ws c
-  in-stash : (i : ℕ) → i < places-of ws → getD ws (stash-at (slots-of ws) + i) 0 ≡ c → KeyWord ws c
+  in-stash : (i : ℕ) → i < places-of ws → getD ws (place-at (slots-of ws) i) 0 ≡ c → KeyWord ws c
 
 slot-keys-length : (n : ℕ) (ws : List ℕ) → length (slot-keys n ws) ≡ n
 unfolding slot-keys
@@ -60,19 +60,36 @@ slot-keys-at (suc n) ws (suc i) l =
     let e : slot-width * suc i ≡ slot-width + slot-width * i = omega arith in
     rw e (slot-keys-at n (drop slot-width ws) i (omega arith) ∙ getD-drop slot-width ws (slot-width * i) 0)
 
+place-entries-length : (n : ℕ) (ws : List ℕ) → length (keys-of (place-entries n ws)) ≡ n
+unfolding place-entries
+place-entries-length zero ws = refl
+place-entries-length (suc n) ws = ap suc (place-entries-length n (drop place-width ws))
+
+place-entries-at : (n : ℕ) (ws : List ℕ) (i : ℕ) → i < n → getD (keys-of (place-entries n ws)) i 0 ≡ getD ws (place-width * i) 0
+unfolding place-entries
+place-entries-at zero ws i l = absurd (omega arith)
+place-entries-at (suc n) ws zero l = refl
+place-entries-at (suc n) ws (suc i) l =
+    let e : place-width * suc i ≡ place-width + place-width * i = omega arith in
+    rw e (place-entries-at n (drop place-width ws) i (omega arith) ∙ getD-drop place-width ws (place-width * i) 0)
+
 module _ (ws : List ℕ) where
   slots-at : (v : ℕ) → v < slots-of ws + slots-of ws
       → getD (slot-keys (slots-of ws + slots-of ws) (drop header-length ws)) v 0 ≡ getD ws (key-at v) 0
   slots-at v l = slot-keys-at (slots-of ws + slots-of ws) (drop header-length ws) v l ∙ getD-drop header-length ws (slot-width * v) 0
 
-  stash-part-at : (i : ℕ) → i < places-of ws → getD (stash-part ws) i 0 ≡ getD ws (stash-at (slots-of ws) + i) 0
-  stash-part-at i l = getD-take (places-of ws) (drop (stash-at (slots-of ws)) ws) i 0 l ∙ getD-drop (stash-at (slots-of ws)) ws i 0
+  places-at : (i : ℕ) → i < places-of ws → getD (keys-of (stash-entries ws)) i 0 ≡ getD ws (place-at (slots-of ws) i) 0
+  places-at i l =
+      place-entries-at (places-of ws) (drop (stash-at (slots-of ws)) ws) i l ∙ getD-drop (stash-at (slots-of ws)) ws (place-width * i) 0
 
-  pub stash-part-in : {c : ℕ} → In c (stash-part ws) → KeyWord ws c
-  stash-part-in i =
+  places-count : length (keys-of (stash-entries ws)) ≡ places-of ws
+  places-count = place-entries-length (places-of ws) (drop (stash-at (slots-of ws)) ws)
+
+  pub stash-key-in : {c : ℕ} → In c (keys-of (stash-entries ws)) → KeyWord ws c
+  stash-key-in i =
       let w = in-at i in
-      let l : w .0 < places-of ws = omega (arith, w .1, length-take (places-of ws) (drop (stash-at (slots-of ws)) ws)) in
-      in-stash (w .0) l (sym (stash-part-at (w .0) l) ∙ w .2)
+      let l : w .0 < places-of ws = omega (arith, w .1, places-count) in
+      in-stash (w .0) l (sym (places-at (w .0) l) ∙ w .2)
 
   in-key-words : {c : ℕ} → In c (key-words ws) → KeyWord ws c
   in-key-words {c} h = elim (List·Memᴰ·append-cases (slot-keys (slots-of ws + slots-of ws) (drop header-length ws)) h) [
@@ -80,21 +97,17 @@ module _ (ws : List ℕ) where
         let w = in-at i in
         let l : w .0 < slots-of ws + slots-of ws = omega (arith, w .1, slot-keys-length (slots-of ws + slots-of ws) (drop header-length ws)) in
         at-slot (w .0) l (sym (slots-at (w .0) l) ∙ w .2)
-    | inr i ↦ stash-part-in i
+    | inr i ↦ stash-key-in i
   ]
 
-  module _ (size : length ws ≡ words-length (slots-of ws) (places-of ws)) where
-    stash-part-length : length (stash-part ws) ≡ places-of ws
-    stash-part-length = simp (length-take, length-drop) (omega arith)
-
-    key-word-in : {c : ℕ} → KeyWord ws c → In c (key-words ws)
-    key-word-in (at-slot v l e) =
-        let ks = slot-keys (slots-of ws + slots-of ws) (drop header-length ws) in
-        let i = getD-in ks v (omega (arith, slot-keys-length (slots-of ws + slots-of ws) (drop header-length ws))) in
-        Memᴰ·append-left (stash-part ws) (rw (slots-at v l, e) at i)
-    key-word-in (in-stash j l e) =
-        let i = getD-in (stash-part ws) j (omega (arith, stash-part-length)) in
-        Memᴰ·append-right (slot-keys (slots-of ws + slots-of ws) (drop header-length ws)) (rw (stash-part-at j l, e) at i)
+  key-word-in : {c : ℕ} → KeyWord ws c → In c (key-words ws)
+  key-word-in (at-slot v l e) =
+      let ks = slot-keys (slots-of ws + slots-of ws) (drop header-length ws) in
+      let i = getD-in ks v (omega (arith, slot-keys-length (slots-of ws + slots-of ws) (drop header-length ws))) in
+      Memᴰ·append-left (keys-of (stash-entries ws)) (rw (slots-at v l, e) at i)
+  key-word-in (in-stash j l e) =
+      let i = getD-in (keys-of (stash-entries ws)) j (omega (arith, places-count)) in
+      Memᴰ·append-right (slot-keys (slots-of ws + slots-of ws) (drop header-length ws)) (rw (places-at j l, e) at i)
 
 -- the set of the keys that stand in given words
 
@@ -117,14 +130,14 @@ module _ (ws : List ℕ) where
       in-distinct-sorted (keep (λ w. not (eqb w 0)) (key-words ws)) c (in-keep (λ w. not (eqb w 0)) (key-words ws) (rw (ne-eqb c 0 n)) i)
 
   -- whatever the words, it is a set of keys
-  pub keys-in-valid : ValidSet (keys-in ws)
+  pub keys-in-valid : ValidKeys (keys-in ws)
   keys-in-valid = record { asc = keys-in-asc; none-blank = λ c i. blank-false c (keys-in-key i .1) }
 
-  -- in words with the shape of a dictionary, the keys that are the key word of a slot or a word of the stash, but for 0
-  pub keys-in-words : Shaped ws → (c : ℕ) → In c (keys-in ws) ↔ (KeyWord ws c × (c ≡ 0 → ⊥))
-  keys-in-words h c = (
+  -- the keys that are the key word of a slot or of a place of the stash, but for 0
+  pub keys-in-words : (c : ℕ) → In c (keys-in ws) ↔ (KeyWord ws c × (c ≡ 0 → ⊥))
+  keys-in-words c = (
     λ i. let k = keys-in-key i in (in-key-words ws (k .0), k .1),
-    λ k. key-keys-in (key-word-in ws (h .size) (k .0)) (k .1),
+    λ k. key-keys-in (key-word-in ws (k .0)) (k .1),
   )
 
 -- a set in its slots and its stash
@@ -145,7 +158,7 @@ module _ (a b : ℕ → ℕ) {S : List ℕ} (asc : Asc S) where
       ]
 
   -- a slot holds nothing else
-  slot-key-in : {c : ℕ} (v : ℕ) → slot-key a b S v ≡ c → (c ≡ 0 → ⊥) → In c S
+  pub slot-key-in : {c : ℕ} (v : ℕ) → slot-key a b S v ≡ c → (c ≡ 0 → ⊥) → In c S
   unfolding slot-key
   slot-key-in {c} v e n =
       elim (occupant-from a b (seated a b S) v) [
@@ -153,52 +166,109 @@ module _ (a b : ℕ → ℕ) {S : List ℕ} (asc : Asc S) where
         | inr h ↦ seated-sub a b S asc c (rw e at (h .0))
       ]
 
+-- what is looked at are key words
+pub looked-key-word : (tabulation ws : List ℕ) → 0 < slots-of ws → (key : ℕ) {c : ℕ} → In c (keys-of (looked-at tabulation ws key)) → KeyWord ws c
+looked-key-word tabulation ws some key i =
+    let F = tables tabulation (slots-of ws) in
+    elim i [
+      | here q ↦ at-slot (slot-0 F key) (omega (arith, slot-0-lt F some key)) (sym q)
+      | there j ↦ elim j [ here q ↦ at-slot (slot-1 F key) (slot-1-lt F some key) (sym q) | there k ↦ stash-key-in ws k ]
+    ]
+
 -- the image of a set
 
-in-zeros : (n : ℕ) {c : ℕ} → In c (replicate n 0) → c ≡ 0
+-- the places of keys and of nothing are read back
+places-none : (k : ℕ) → place-entries k (replicate (place-width * k) 0) ≡ replicate k no-entry
+unfolding place-entries
+places-none zero = refl
+places-none (suc k) = let e : place-width * suc k ≡ suc (suc (place-width * k)) = omega arith in rw (e, places-none k)
+
+places-read : (t : ℕ → ℕ) (R : List ℕ) (k : ℕ)
+    → place-entries (length R + k) (place-words t R ++ replicate (place-width * k) 0) ≡ tiered t R ++ replicate k no-entry
+unfolding place-entries
+places-read t [] k = let z : 0 + k ≡ k = omega arith in ap (λ (m : ℕ). place-entries m (replicate (place-width * k) 0)) z ∙ places-none k
+places-read t (c ∷ R) k = let e : length (c ∷ R) + k ≡ suc (length R + k) = omega arith in rw (e, places-read t R k)
+
+pub in-zeros : (n : ℕ) {c : ℕ} → In c (replicate n 0) → c ≡ 0
 in-zeros (suc n) (here q) = q
 in-zeros (suc n) (there h) = in-zeros n h
 
-module _ (P : Params) (S : List ℕ) where
-  stash-word-in : {c : ℕ} → In c (stash-words P S) → (c ≡ 0 → ⊥) → In c (stash-of P S)
-  stash-word-in i n =
-      elim (List·Memᴰ·append-cases (stash-of P S) i) [ inl k ↦ k | inr k ↦ absurd (n (in-zeros (P .places - length (stash-of P S)) k)) ]
+module _ (P : Params) (L : List Entry) (e : fits P (keys-of L) ≡ true) where
+  abbrev S : List ℕ
+  S = keys-of L
 
-  module _ (e : fits P S ≡ true) where
-    pub image-stash-part : stash-part (image P S) ≡ stash-words P S
+  abbrev empty-places : ℕ
+  empty-places = P .places - length (stash-of P S)
+
+  -- its stash as entries: the stashed keys with their tiers, then empty places
+  pub image-entries : stash-entries (image P L) ≡ tiered (tier-of L) (stash-of P S) ++ replicate empty-places no-entry
+  image-entries =
+      let n : P .places ≡ length (stash-of P S) + empty-places = omega (arith, fits-le P S e) in
+      rw (image-slots P L, image-places P L, image-stash P L)
+      (ap (λ (m : ℕ). place-entries m (stash-words P L)) n ∙ places-read (tier-of L) (stash-of P S) empty-places)
+
+  pub image-stash-keys : keys-of (stash-entries (image P L)) ≡ stash-of P S ++ replicate empty-places 0
+  image-stash-keys =
+      ap keys-of image-entries
+      ∙ keys-append (tiered (tier-of L) (stash-of P S)) (replicate empty-places no-entry)
+      ∙ (rw (keys-tiered (tier-of L) (stash-of P S), keys-none empty-places))
+
+  module _ (valid : ValidKeys S) where
+    -- every slot and every place has the tier of its key
+    pub slot-tier : (v : ℕ) → v < P .slots + P .slots → slot-entry (image P L) v .tier ≡ tier-of L (slot-entry (image P L) v .key)
+    slot-tier v l = image-tier P L v l ∙ ap (tier-of L) (sym (image-key P L v l))
+
+    pub place-tier : (x : Entry) → In x (stash-entries (image P L)) → x .tier ≡ tier-of L (x .key)
+    place-tier x i = elim (List·Memᴰ·append-cases (tiered (tier-of L) (stash-of P S)) (rw image-entries at i)) [
+      | inl k ↦ tiered-in (tier-of L) (stash-of P S) k
+      | inr k ↦ rw (none-in empty-places k) (sym (tier-absent L (zero-outside valid)))
+    ]
+
+    -- only keys of the set stand in the image,
+    pub image-key-in : {c : ℕ} → KeyWord (image P L) c → (c ≡ 0 → ⊥) → In c S
+    image-key-in (at-slot v l q) n =
+        let m : v < P .slots + P .slots = rw (image-slots P L) at l in
+        slot-key-in (slot-0 (family P)) (slot-1 (family P)) (valid .asc) v (sym (image-key P L v m) ∙ q) n
+    image-key-in {c} (in-stash i l q) n =
+        let k = getD-in (keys-of (stash-entries (image P L))) i (omega (arith, places-count (image P L))) in
+        let m : In c (stash-of P S ++ replicate empty-places 0) = rw image-stash-keys at (rw (places-at (image P L) i l, q) at k) in
+        elim (List·Memᴰ·append-cases (stash-of P S) m) [
+          | inl j ↦ stash-sub (slot-0 (family P)) (slot-1 (family P)) S c j
+          | inr j ↦ absurd (n (in-zeros empty-places j))
+        ]
+
+    -- and each of them does, where a lookup looks for it
+    pub image-in-looked : 0 < P .slots → {c : ℕ} → In c S → In c (keys-of (looked-at (P .tabulation) (image P L) c))
     unfolding image image-by
-    image-stash-part =
-        ap (take (P .places)) (image-stash P S)
-        ∙ take-all (P .places) (stash-words P S) (omega (arith, stash-words-length P S e))
+    image-in-looked some {c} i = elim (seen (slot-0 (family P)) (slot-1 (family P)) (valid .asc) i) [
+      | table-0 q ↦ here (sym (image-key P L (slot-0 (family P) c) (omega (arith, slot-0-lt (family P) some c)) ∙ q))
+      | table-1 q ↦ there (here (sym (image-key P L (slot-1 (family P) c) (slot-1-lt (family P) some c) ∙ q)))
+      | stashed k ↦
+          let m : In c (keys-of (stash-entries (image P L))) = rw image-stash-keys (Memᴰ·append-left (replicate empty-places 0) k) in
+          there (there m)
+    ]
 
-    module _ (valid : ValidSet S) where
-      -- only keys of the set stand in the image,
-      pub image-key-in : {c : ℕ} → KeyWord (image P S) c → (c ≡ 0 → ⊥) → In c S
-      unfolding image image-by
-      image-key-in (at-slot v l q) n = slot-key-in (slot-0 (family P)) (slot-1 (family P)) (valid .asc) v (sym (image-key P S v l) ∙ q) n
-      image-key-in {c} (in-stash i l q) n =
-          let k = getD-in (stash-words P S) i (omega (arith, stash-words-length P S e)) in
-          stash-sub (slot-0 (family P)) (slot-1 (family P)) S c (stash-word-in (rw (← image-stash-at P S i, q) at k) n)
+    -- So a set is read back from its image: its keys,
+    pub keys-in-image : 0 < P .slots → keys-in (image P L) ≡ S
+    keys-in-image some =
+        let ws = image P L in
+        asc-ext (keys-in ws) S (keys-in-asc ws) (valid .asc)
+        (λ c i. let k = keys-in-key ws i in image-key-in (in-key-words ws (k .0)) (k .1))
+        (λ c i. key-keys-in ws (key-word-in ws (looked-key-word (P .tabulation) ws (rw (image-slots P L) some) c (image-in-looked some i)))
+        (λ q. zero-outside valid (rw q at i)))
 
-      -- and each of them does.
-      image-in-key : 0 < P .slots → {c : ℕ} → In c S → KeyWord (image P S) c
-      unfolding image image-by
-      image-in-key some {c} i = elim (seen (slot-0 (family P)) (slot-1 (family P)) (valid .asc) i) [
-        | table-0 q ↦
-            let l : slot-0 (family P) c < P .slots + P .slots = omega (arith, slot-0-lt (family P) some c) in
-            at-slot (slot-0 (family P) c) l (image-key P S (slot-0 (family P) c) l ∙ q)
-        | table-1 q ↦
-            let l = slot-1-lt (family P) some c in
-            at-slot (slot-1 (family P) c) l (image-key P S (slot-1 (family P) c) l ∙ q)
-        | stashed k ↦
-            let w = in-at (Memᴰ·append-left (replicate (P .places - length (stash-of P S)) 0) k) in
-            in-stash (w .0) (omega (arith, w .1, stash-words-length P S e)) (image-stash-at P S (w .0) ∙ w .2)
-      ]
+    -- the tiers at which they are found,
+    pub tier-in-image : 0 < P .slots → {c : ℕ} → In c S → tier-in (P .tabulation) (image P L) c ≡ tier-of L c
+    unfolding tier-in image image-by
+    tier-in-image some {c} i =
+        tier-all (looked-at (P .tabulation) (image P L) c) (image-in-looked some i) (λ x k q. looked-tier x k ∙ ap (tier-of L) q)
+      where
+        looked-tier : (x : Entry) → In x (looked-at (P .tabulation) (image P L) c) → x .tier ≡ tier-of L (x .key)
+        looked-tier x (here q) = rw q (slot-tier (slot-0 (family P) c) (omega (arith, slot-0-lt (family P) some c)))
+        looked-tier x (there (here q)) = rw q (slot-tier (slot-1 (family P) c) (slot-1-lt (family P) some c))
+        looked-tier x (there (there k)) = place-tier x k
 
-      -- So a set is read back from its image.
-      pub keys-in-image : 0 < P .slots → keys-in (image P S) ≡ S
-      keys-in-image some =
-          let ws = image P S in
-          asc-ext (keys-in ws) S (keys-in-asc ws) (valid .asc)
-          (λ c i. let k = keys-in-key ws i in image-key-in (in-key-words ws (k .0)) (k .1))
-          (λ c i. key-keys-in ws (key-word-in ws (image-size P S e) (image-in-key some i)) (λ q. zero-outside valid (rw q at i)))
+    -- and so the set.
+    pub set-in-image : 0 < P .slots → set-in (P .tabulation) (image P L) ≡ L
+    set-in-image some =
+        rw (keys-in-image some) (tiered-agree S (λ c i. tier-in-image some i) ∙ tiered-self L (valid .asc))

@@ -10,15 +10,16 @@ pub struct Header {
     pub stashed: u32,
 }
 
-// A slot: its key and its next number, 0 and 0 where it is empty.
+// A slot: its key, its next number and its tier, zeros where it is empty.
 pub struct Slot {
     pub key: u32,
     pub next: u32,
+    pub tier: u32,
 }
 
-// What a lookup answers.
+// What a lookup answers: the key's tier, that it is not there, or a refusal.
 pub enum Found {
-    Present,
+    Listed(u32),
     Absent,
     Refused(u32),
 }

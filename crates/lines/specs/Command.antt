@@ -1,5 +1,6 @@
--- What a line of the console's input says: "Line 1 is r,s .. Then A (add), W (withdraw) or L (look up) with a card." A line of any other form is
--- `Other`. The forms accept exactly the texts `sizes-text` and `command-text` (`sizes-exact`, `sizes-given`, `command-exact`, `command-given`). Assumes nothing.
+-- What a line of the console's input says: "Line 1 is r,s .. Then A (add), W (withdraw) or L (look up) with a card", and "The program's A line
+-- gains the tier". A line of any other form is `Other`. The forms accept exactly the texts `pair-text`, `key-text` and `add-text` (`pair-exact`,
+-- `pair-given`, `command-exact`, `key-given`, `add-given`). Assumes nothing.
 use Prim.Native.Nat.{ℕ, suc, _+_, _≤_, _<_}
 use mathlib.Core.Path.{_≡_, refl, sym, _∙_, ap}
 use mathlib.Core.Bool.{true, false, cond, false≢true}
@@ -16,8 +17,8 @@ use Rattle.lines.specs.Number.{number-of, is-digit, all-digits, not-digi
 use Rattle.lines.specs.Parted.{comma, fields, parted, place-of, parted-some, parted-one, parted-first, parted-append, place-le, place-at}
 use Rattle.lines.specs.declared.Number.{Number}
 use Rattle.lines.specs.declared.Number.the-variants.{Value, Other as no-number}
-use Rattle.lines.specs.declared.Sizes.{Sizes}
-use Rattle.lines.specs.declared.Sizes.the-variants.{Given, Other as no-sizes}
+use Rattle.lines.specs.declared.Pair.{Pair}
+use Rattle.lines.specs.declared.Pair.the-variants.{Given, Other as no-pair}
 use Rattle.lines.specs.declared.Command.{Command}
 use Rattle.lines.specs.declared.Command.the-variants.{Insert, Remove, Lookup, Other as no-command}
 
@@ -31,36 +32,55 @@ letter-W = 87
 abbrev pub letter-L : ℕ
 letter-L = 76
 
--- a line of two fields is read by them; a line of fewer or more fields is of another form
-abbrev pub two-fields : {A : Type 0} → (List ℕ → Number → A) → A → List (List ℕ) → A
-two-fields read other [] = other
-two-fields read other (f ∷ []) = other
-two-fields read other (f ∷ g ∷ []) = read f (number-of g)
-two-fields read other (f ∷ g ∷ h ∷ fs) = other
+-- two numbers
+abbrev pub pair : Number → Number → Pair
+pair (Value a) (Value b) = Given a b
+pair (Value a) no-number = no-pair
+pair no-number y = no-pair
 
--- "Line 1 is r,s": two numbers
-abbrev pub sizes : Number → Number → Sizes
-sizes (Value r) (Value s) = Given r s
-sizes (Value r) no-number = no-sizes
-sizes no-number s = no-sizes
+-- a text of two fields is read as two numbers; one of fewer or more fields is of another form
+abbrev pub pair-in : List (List ℕ) → Pair
+pair-in [] = no-pair
+pair-in (f ∷ []) = no-pair
+pair-in (f ∷ g ∷ []) = pair (number-of f) (number-of g)
+pair-in (f ∷ g ∷ h ∷ fs) = no-pair
 
-unfoldable pub sizes-of : List ℕ → Sizes
-sizes-of line = two-fields (λ f. sizes (number-of f)) no-sizes (fields line)
+-- "Line 1 is r,s"
+unfoldable pub pair-of : List ℕ → Pair
+pair-of text = pair-in (fields text)
 
--- "Then A (add), W (withdraw) or L (look up) with a card": a letter and a number
+-- "W (withdraw) or L (look up) with a card": a letter and a key
 abbrev pub by-letter : ℕ → ℕ → Command
-by-letter b n = cond (eqb b letter-A) (Insert n) (cond (eqb b letter-W) (Remove n) (cond (eqb b letter-L) (Lookup n) no-command))
+by-letter b key = cond (eqb b letter-W) (Remove key) (cond (eqb b letter-L) (Lookup key) no-command)
 
-abbrev pub command : List ℕ → Number → Command
-command [] n = no-command
-command (b ∷ []) (Value n) = by-letter b n
-command (b ∷ []) no-number = no-command
-command (b ∷ c ∷ f) n = no-command
+abbrev pub with-key : List ℕ → Number → Command
+with-key [] x = no-command
+with-key (b ∷ []) (Value key) = by-letter b key
+with-key (b ∷ []) no-number = no-command
+with-key (b ∷ c ∷ f) x = no-command
+
+-- "A (add)", "The program's A line gains the tier": the letter, a key and a tier
+abbrev pub insertion : Pair → Command
+insertion (Given key tier) = Insert key tier
+insertion no-pair = no-command
+
+abbrev pub with-tier : List ℕ → Pair → Command
+with-tier [] x = no-command
+with-tier (b ∷ []) x = cond (eqb b letter-A) (insertion x) no-command
+with-tier (b ∷ c ∷ f) x = no-command
+
+-- a line of two fields is W or L, one of three is A; one of fewer or more fields is of another form
+abbrev pub command : List (List ℕ) → Command
+command [] = no-command
+command (f ∷ []) = no-command
+command (f ∷ g ∷ []) = with-key f (number-of g)
+command (f ∷ g ∷ h ∷ []) = with-tier f (pair (number-of g) (number-of h))
+command (f ∷ g ∷ h ∷ i ∷ fs) = no-command
 
 unfoldable pub command-of : List ℕ → Command
-command-of line = two-fields command no-command (fields line)
+command-of line = command (fields line)
 
--- ---- a text is one field, or several, and then it is no number
+-- The laws. A text is one field, or several, and then it is no number.
 data Fielded (t : List ℕ) : Type 0 where
   one : fields t ≡ t ∷ [] → Fielded t
   several : (f g : List ℕ) (fs : List (List ℕ)) → fields t ≡ f ∷ g ∷ fs → all-digits t ≡ false → Fielded t
@@ -77,48 +97,44 @@ fielded (b ∷ t) =
       ]
     ]
 
-sizes-right : (x : Number) → sizes x no-number ≡ no-sizes
-sizes-right (Value r) = refl
-sizes-right no-number = refl
-
-command-right : (f : List ℕ) → command f no-number ≡ no-command
-command-right [] = refl
-command-right (b ∷ []) = refl
-command-right (b ∷ c ∷ f) = refl
+pair-right : (x : Number) → pair x no-number ≡ no-pair
+pair-right (Value a) = refl
+pair-right no-number = refl
 
 -- what comes behind the first comma is the second field, or no number
-behind : {A : Type 0} (read : List ℕ → Number → A) (other : A) (f t : List ℕ) → read f no-number ≡ other
-    → two-fields read other (f ∷ fields t) ≡ read f (number-of t)
-behind read other f t none =
+pair-behind : (f t : List ℕ) → pair-in (f ∷ fields t) ≡ pair (number-of f) (number-of t)
+pair-behind f t =
     elim (fielded t) [
-      | one e ↦ ap (λ (fs : List (List ℕ)). two-fields read other (f ∷ fs)) e
+      | one e ↦ ap (λ (fs : List (List ℕ)). pair-in (f ∷ fs)) e
       | several g h gs e d ↦
-          ap (λ (fs : List (List ℕ)). two-fields read other (f ∷ fs)) e ∙ sym (ap (read f) (not-digits t d) ∙ none)
+          ap (λ (fs : List (List ℕ)). pair-in (f ∷ fs)) e
+          ∙ sym (ap (pair (number-of f)) (not-digits t d) ∙ pair-right (number-of f))
     ]
 
-sizes-behind : (f t : List ℕ) → two-fields (λ f. sizes (number-of f)) no-sizes (f ∷ fields t) ≡ sizes (number-of f) (number-of t)
-sizes-behind f t = behind (λ f. sizes (number-of f)) no-sizes f t (sizes-right (number-of f))
+-- ---- what `pair_of` tests
+pub pair-none : (l : List ℕ) → place-of comma l ≡ length l → pair-of l ≡ no-pair
+unfolding pair-of
+pair-none l e = ap pair-in (parted-one comma l e)
 
-command-behind : (f t : List ℕ) → two-fields command no-command (f ∷ fields t) ≡ command f (number-of t)
-command-behind f t = behind command no-command f t (command-right f)
-
--- ---- what `sizes_of` tests
-pub sizes-none : (l : List ℕ) → place-of comma l ≡ length l → sizes-of l ≡ no-sizes
-unfolding sizes-of
-sizes-none l e = ap (two-fields (λ f. sizes (number-of f)) no-sizes) (parted-one comma l e)
-
-pub sizes-split : (l : List ℕ) → place-of comma l < length l
-    → sizes-of l ≡ sizes (number-of (take (place-of comma l) l)) (number-of (drop (suc (place-of comma l)) l))
-unfolding sizes-of
-sizes-split l h =
-    ap (two-fields (λ f. sizes (number-of f)) no-sizes) (parted-first comma l h)
-    ∙ sizes-behind (take (place-of comma l) l) (drop (suc (place-of comma l)) l)
+pub pair-split : (l : List ℕ) → place-of comma l < length l
+    → pair-of l ≡ pair (number-of (take (place-of comma l) l)) (number-of (drop (suc (place-of comma l)) l))
+unfolding pair-of
+pair-split l h =
+    ap pair-in (parted-first comma l h) ∙ pair-behind (take (place-of comma l) l) (drop (suc (place-of comma l)) l)
 
 -- ---- what `command_of` tests
-long-field : (a b : ℕ) (p : List ℕ) (ps : List (List ℕ)) → two-fields command no-command ((a ∷ b ∷ p) ∷ ps) ≡ no-command
+-- the first field has one byte
+no-field : (fs : List (List ℕ)) → command ([] ∷ fs) ≡ no-command
+no-field [] = refl
+no-field (q ∷ []) = refl
+no-field (q ∷ r ∷ []) = refl
+no-field (q ∷ r ∷ s ∷ fs) = refl
+
+long-field : (a b : ℕ) (p : List ℕ) (fs : List (List ℕ)) → command ((a ∷ b ∷ p) ∷ fs) ≡ no-command
 long-field a b p [] = refl
 long-field a b p (q ∷ []) = refl
-long-field a b p (q ∷ r ∷ ps) = refl
+long-field a b p (q ∷ r ∷ []) = refl
+long-field a b p (q ∷ r ∷ s ∷ fs) = refl
 
 pub command-short : (l : List ℕ) → length l < 2 → command-of l ≡ no-command
 unfolding command-of parted
@@ -133,22 +149,54 @@ command-none (a ∷ []) h n = absurd (omega arith)
 command-none (a ∷ b ∷ t) h n =
     let (p, (ps, f)) = parted-some comma t in
     elim (eq? a comma) [
-      | inl e ↦ rw (eq-eqb a comma e) (command-behind [] (b ∷ t))
+      | inl e ↦ rw (eq-eqb a comma e) (no-field (fields (b ∷ t)))
       | inr m ↦ rw (ne-eqb a comma m, ne-eqb b comma n, f) (long-field a b p ps)
     ]
 
-pub command-split : (l : List ℕ) → 1 < length l → getD l 1 0 ≡ comma
-    → command-of l ≡ command (getD l 0 0 ∷ []) (number-of (drop 2 l))
-unfolding command-of parted
-command-split [] h e = absurd (omega arith)
-command-split (a ∷ []) h e = absurd (omega arith)
-command-split (a ∷ b ∷ t) h e =
-    elim (eq? a comma) [
-      | inl q ↦ rw (eq-eqb a comma q) (command-behind [] (b ∷ t) ∙ sym (rw q (not-letter (number-of t))))
-      | inr m ↦ rw (ne-eqb a comma m, eq-eqb b comma e) (command-behind (a ∷ []) t)
+-- behind an A comes a key and a tier, behind any other letter a key
+add-behind : (t : List ℕ) → command ((letter-A ∷ []) ∷ fields t) ≡ insertion (pair-of t)
+unfolding pair-of
+add-behind t =
+    elim (fielded t) [
+      | one e ↦ alike (fields t) e
+      | several f g [] e d ↦ rw e
+      | several f g (h ∷ fs) e d ↦ rw e
     ]
   where
-    not-letter : (x : Number) → command (comma ∷ []) x ≡ no-command
+    one-number : (x : Number) → with-key (letter-A ∷ []) x ≡ no-command
+    one-number (Value key) = refl
+    one-number no-number = refl
+
+    alike : (fs : List (List ℕ)) → fs ≡ t ∷ [] → command ((letter-A ∷ []) ∷ fs) ≡ insertion (pair-in fs)
+    alike fs e = rw e (one-number (number-of t))
+
+key-behind : (a : ℕ) (t : List ℕ) → (a ≡ letter-A → ⊥) → command ((a ∷ []) ∷ fields t) ≡ with-key (a ∷ []) (number-of t)
+key-behind a t n =
+    elim (fielded t) [
+      | one e ↦ rw e
+      | several f g [] e d ↦ rw (e, ne-eqb a letter-A n, not-digits t d)
+      | several f g (h ∷ fs) e d ↦ rw (e, not-digits t d)
+    ]
+
+pub command-add : (l : List ℕ) → 1 < length l → getD l 1 0 ≡ comma → getD l 0 0 ≡ letter-A
+    → command-of l ≡ insertion (pair-of (drop 2 l))
+unfolding command-of parted
+command-add [] h e a = absurd (omega arith)
+command-add (b ∷ []) h e a = absurd (omega arith)
+command-add (b ∷ c ∷ t) h e a = rw (a, eq-eqb c comma e) (add-behind t)
+
+pub command-key : (l : List ℕ) → 1 < length l → getD l 1 0 ≡ comma → (getD l 0 0 ≡ letter-A → ⊥)
+    → command-of l ≡ with-key (getD l 0 0 ∷ []) (number-of (drop 2 l))
+unfolding command-of parted
+command-key [] h e n = absurd (omega arith)
+command-key (a ∷ []) h e n = absurd (omega arith)
+command-key (a ∷ b ∷ t) h e n =
+    elim (eq? a comma) [
+      | inl q ↦ rw (eq-eqb a comma q) (no-field (fields (b ∷ t)) ∙ sym (rw q (not-letter (number-of t))))
+      | inr m ↦ rw (ne-eqb a comma m, eq-eqb b comma e) (key-behind a t n)
+    ]
+  where
+    not-letter : (x : Number) → with-key (comma ∷ []) x ≡ no-command
     not-letter (Value n) = refl
     not-letter no-number = refl
 
@@ -164,51 +212,67 @@ digits-place (b ∷ t) e =
     ]
 
 -- how a form is written
-abbrev pub sizes-text : ℕ → ℕ → List ℕ
-sizes-text r s = decimal r ++ (comma ∷ decimal s)
+abbrev pub pair-text : ℕ → ℕ → List ℕ
+pair-text a b = decimal a ++ (comma ∷ decimal b)
 
-abbrev pub command-text : ℕ → ℕ → List ℕ
-command-text letter n = letter ∷ comma ∷ decimal n
+abbrev pub key-text : ℕ → ℕ → List ℕ
+key-text letter key = letter ∷ comma ∷ decimal key
 
-pub sizes-given : (r s : ℕ) → r ≤ largest → s ≤ largest → sizes-of (sizes-text r s) ≡ Given r s
-unfolding sizes-of
-sizes-given r s h l =
-    ap (two-fields (λ f. sizes (number-of f)) no-sizes) (parted-append comma (decimal r) (decimal s) (digits-place (decimal r) (decimal-digits r)))
-    ∙ sizes-behind (decimal r) (decimal s)
-    ∙ rw (decimal-number r h, decimal-number s l)
+abbrev pub add-text : ℕ → ℕ → List ℕ
+add-text key tier = letter-A ∷ comma ∷ pair-text key tier
 
-pub command-given : (letter n : ℕ) → n ≤ largest → command-of (command-text letter n) ≡ by-letter letter n
-command-given letter n h = command-split (command-text letter n) (omega arith) refl ∙ rw (decimal-number n h)
+pub pair-given : (a b : ℕ) → a ≤ largest → b ≤ largest → pair-of (pair-text a b) ≡ Given a b
+unfolding pair-of
+pair-given a b h l =
+    ap pair-in (parted-append comma (decimal a) (decimal b) (digits-place (decimal a) (decimal-digits a)))
+    ∙ pair-behind (decimal a) (decimal b)
+    ∙ rw (decimal-number a h, decimal-number b l)
+
+pub add-given : (key tier : ℕ) → key ≤ largest → tier ≤ largest → command-of (add-text key tier) ≡ Insert key tier
+add-given key tier h l = command-add (add-text key tier) (omega arith) refl refl ∙ ap insertion (pair-given key tier h l)
+
+-- an add without its tier is of another form
+pub add-untiered : (key : ℕ) → command-of (key-text letter-A key) ≡ no-command
+add-untiered key =
+    command-add (key-text letter-A key) (omega arith) refl refl
+    ∙ ap insertion (pair-none (decimal key) (digits-place (decimal key) (decimal-digits key)))
+
+pub key-given : (letter key : ℕ) → key ≤ largest → command-of (key-text letter key) ≡ by-letter letter key
+key-given letter key h =
+    elim (eq? letter letter-A) [
+      | inl e ↦ rw e (add-untiered key)
+      | inr n ↦ command-key (key-text letter key) (omega arith) refl n ∙ rw (decimal-number key h)
+    ]
 
 -- what an accepted line is
-abbrev pub Sizes-text : Sizes → List ℕ → Type 0
-Sizes-text (Given r s) l = (l ≡ sizes-text r s) × (r ≤ largest) × (s ≤ largest)
-Sizes-text no-sizes l = Unit {0}
+abbrev pub Pair-text : Pair → List ℕ → Type 0
+Pair-text (Given a b) l = (l ≡ pair-text a b) × (a ≤ largest) × (b ≤ largest)
+Pair-text no-pair l = Unit {0}
 
 abbrev pub Command-text : Command → List ℕ → Type 0
-Command-text (Insert n) l = (l ≡ command-text letter-A n) × (n ≤ largest)
-Command-text (Remove n) l = (l ≡ command-text letter-W n) × (n ≤ largest)
-Command-text (Lookup n) l = (l ≡ command-text letter-L n) × (n ≤ largest)
+Command-text (Insert key tier) l = (l ≡ add-text key tier) × (key ≤ largest) × (tier ≤ largest)
+Command-text (Remove key) l = (l ≡ key-text letter-W key) × (key ≤ largest)
+Command-text (Lookup key) l = (l ≡ key-text letter-L key) × (key ≤ largest)
 Command-text no-command l = Unit {0}
 
-pub sizes-exact : (l : List ℕ) → Sizes-text (sizes-of l) l
-sizes-exact l =
+pub pair-exact : (l : List ℕ) → Pair-text (pair-of l) l
+pair-exact l =
     elim (le? (length l) (place-of comma l)) [
-      | inl h ↦ rw (sizes-none l (omega (arith, place-le comma l))) tt
-      | inr h ↦ rw (sizes-split l h) (both (number-of (take k l)) (number-of (drop (suc k) l)) refl refl h)
+      | inl h ↦ rw (pair-none l (omega (arith, place-le comma l))) tt
+      | inr h ↦ rw (pair-split l h) (both (number-of (take k l)) (number-of (drop (suc k) l)) refl refl h)
     ]
   where
     k : ℕ
     k = place-of comma l
 
-    both : (x y : Number) → number-of (take k l) ≡ x → number-of (drop (suc k) l) ≡ y → k < length l → Sizes-text (sizes x y) l
-    both (Value r) (Value s) e f h =
-        let a = number-decimal (take k l) e in
-        let b = number-decimal (drop (suc k) l) f in
+    both : (x y : Number) → number-of (take k l) ≡ x → number-of (drop (suc k) l) ≡ y → k < length l → Pair-text (pair x y) l
+    both (Value a) (Value b) e f h =
+        let p = number-decimal (take k l) e in
+        let q = number-decimal (drop (suc k) l) f in
         let d = split-at l k 0 h in
         let g = place-at comma l h in
         (cc, number-largest (take k l) e, number-largest (drop (suc k) l) f)
-    both (Value r) no-number e f h = tt
+    both (Value a) no-number e f h = tt
     both no-number y e f h = tt
 
 two-heads : (l : List ℕ) → 1 < length l → l ≡ getD l 0 0 ∷ getD l 1 0 ∷ drop 2 l
@@ -216,16 +280,13 @@ two-heads [] h = absurd (omega arith)
 two-heads (a ∷ []) h = absurd (omega arith)
 two-heads (a ∷ b ∷ l) h = refl
 
-letters : (l : List ℕ) (b n : ℕ) → l ≡ command-text b n → n ≤ largest → Command-text (by-letter b n) l
-letters l b n e h =
-    elim (eq? b letter-A) [
-      | inl q ↦ rw (eq-eqb b letter-A q) (rw q at e, h)
-      | inr m ↦ elim (eq? b letter-W) [
-        | inl q ↦ rw (ne-eqb b letter-A m, eq-eqb b letter-W q) (rw q at e, h)
-        | inr o ↦ elim (eq? b letter-L) [
-          | inl q ↦ rw (ne-eqb b letter-A m, ne-eqb b letter-W o, eq-eqb b letter-L q) (rw q at e, h)
-          | inr p ↦ rw (ne-eqb b letter-A m, ne-eqb b letter-W o, ne-eqb b letter-L p) tt
-        ]
+letters : (l : List ℕ) (b key : ℕ) → l ≡ key-text b key → key ≤ largest → Command-text (by-letter b key) l
+letters l b key e h =
+    elim (eq? b letter-W) [
+      | inl q ↦ rw (eq-eqb b letter-W q) (rw q at e, h)
+      | inr o ↦ elim (eq? b letter-L) [
+        | inl q ↦ rw (ne-eqb b letter-W o, eq-eqb b letter-L q) (rw q at e, h)
+        | inr p ↦ rw (ne-eqb b letter-W o, ne-eqb b letter-L p) tt
       ]
     ]
 
@@ -235,34 +296,46 @@ command-exact l =
       | inr h ↦ rw (command-short l h) tt
       | inl h ↦ elim (eq? (getD l 1 0) comma) [
         | inr n ↦ rw (command-none l h n) tt
-        | inl e ↦ rw (command-split l h e) (key h e (number-of (drop 2 l)) refl)
+        | inl e ↦ elim (eq? (getD l 0 0) letter-A) [
+          | inl a ↦ rw (command-add l h e a) (add h e a (pair-of (drop 2 l)) (pair-exact (drop 2 l)))
+          | inr n ↦ rw (command-key l h e n) (key h e (number-of (drop 2 l)) refl)
+        ]
       ]
     ]
   where
-    key : 1 < length l → getD l 1 0 ≡ comma → (x : Number) → number-of (drop 2 l) ≡ x → Command-text (command (getD l 0 0 ∷ []) x) l
+    add : 1 < length l → getD l 1 0 ≡ comma → getD l 0 0 ≡ letter-A → (x : Pair) → Pair-text x (drop 2 l) → Command-text (insertion x) l
+    add h e a (Given key tier) t =
+        let b = two-heads l h in
+        let d = t .0 in
+        (cc, t .1, t .2)
+    add h e a no-pair t = tt
+
+    key : 1 < length l → getD l 1 0 ≡ comma → (x : Number) → number-of (drop 2 l) ≡ x → Command-text (with-key (getD l 0 0 ∷ []) x) l
     key h e (Value n) f =
         let a = two-heads l h in
         let d = number-decimal (drop 2 l) f in
         letters l (getD l 0 0) n (cc) (number-largest (drop 2 l) f)
     key h e no-number f = tt
 
--- ---- a line longer than "4294967295,4294967295" is of another form
+-- ---- a line longer than "A,4294967295,4294967295" is of another form
 abbrev pub longest : ℕ
-longest = 21
+longest = 23
 
-pub sizes-long : (l : List ℕ) → longest < length l → sizes-of l ≡ no-sizes
-sizes-long l h = go (sizes-of l) refl (sizes-exact l)
+pair-length : (a b : ℕ) → a ≤ largest → b ≤ largest → length (pair-text a b) ≤ 21
+pair-length a b h l = omega (arith, length-append (decimal a) (comma ∷ decimal b), digits-32 a h, digits-32 b l)
+
+pub pair-long : (l : List ℕ) → longest < length l → pair-of l ≡ no-pair
+pair-long l h = go (pair-of l) refl (pair-exact l)
   where
-    go : (x : Sizes) → sizes-of l ≡ x → Sizes-text x l → sizes-of l ≡ no-sizes
-    go (Given r s) e t =
-        absurd (omega (arith, ap length (t .0), length-append (decimal r) (comma ∷ decimal s), digits-32 r (t .1), digits-32 s (t .2)))
-    go no-sizes e t = e
+    go : (x : Pair) → pair-of l ≡ x → Pair-text x l → pair-of l ≡ no-pair
+    go (Given a b) e t = absurd (omega (arith, ap length (t .0), pair-length a b (t .1) (t .2)))
+    go no-pair e t = e
 
 pub command-long : (l : List ℕ) → longest < length l → command-of l ≡ no-command
 command-long l h = go (command-of l) refl (command-exact l)
   where
     go : (x : Command) → command-of l ≡ x → Command-text x l → command-of l ≡ no-command
-    go (Insert n) e t = absurd (omega (arith, ap length (t .0), digits-32 n (t .1)))
-    go (Remove n) e t = absurd (omega (arith, ap length (t .0), digits-32 n (t .1)))
-    go (Lookup n) e t = absurd (omega (arith, ap length (t .0), digits-32 n (t .1)))
+    go (Insert key tier) e t = absurd (omega (arith, ap length (t .0), pair-length key tier (t .1) (t .2)))
+    go (Remove key) e t = absurd (omega (arith, ap length (t .0), digits-32 key (t .1)))
+    go (Lookup key) e t = absurd (omega (arith, ap length (t .0), digits-32 key (t .1)))
     go no-command e t = e

@@ -8,7 +8,7 @@ ghost use lib.Dec.{eqb};
 ghost use lib.ListN.{length};
 ghost use Rattle.lines.specs.Number.{no-leading-zero, number-of};
 ghost use Rattle.lines.specs.Parted.{place-of};
-ghost use Rattle.lines.specs.Command.{sizes, sizes-of, by-letter, command, command-of};
+ghost use Rattle.lines.specs.Command.{pair, pair-of, by-letter, with-key, insertion, command-of};
 ghost use Rattle.lines.specs.Buffer.{Buffers};
 
 // What ends a line, and what parts two fields.
@@ -16,10 +16,10 @@ pub const NEWLINE: u8 = b'\n';
 
 pub const COMMA: u8 = b',';
 
-// The bytes of the longest line of a known form, "4294967295,4294967295", and a count that says that there were more.
-pub const LONGEST: usize = 21;
+// The bytes of the longest line of a known form, "A,4294967295,4294967295", and a count that says that there were more.
+pub const LONGEST: usize = 23;
 
-const TOO_LONG: usize = 22;
+const TOO_LONG: usize = 24;
 
 // A text read as a number.
 pub enum Number {
@@ -27,15 +27,15 @@ pub enum Number {
     Other,
 }
 
-// Line 1, read: r,s or another form.
-pub enum Sizes {
+// Two numbers, read: r,s of line 1, or key,tier of an add; or another form.
+pub enum Pair {
     Given(u32, u32),
     Other,
 }
 
-// Any other line, read: A,key  W,key  L,key or another form.
+// Any line but line 1, read: A,key,tier  W,key  L,key or another form.
 pub enum Command {
-    Insert(u32),
+    Insert(u32, u32),
     Remove(u32),
     Lookup(u32),
     Other,
@@ -108,40 +108,47 @@ pub fn number_in(text: &[u8]) -> Number
     Number::Value(n as u32)
 }
 
-// Two numbers are sizes.
-fn both_sizes(first: Number, second: Number) -> Sizes
-    ensures { λ r. ⌜ r ≡ sizes first second ⌝ }
+// A pair of numbers.
+fn both(first: Number, second: Number) -> Pair
+    ensures { λ r. ⌜ r ≡ pair first second ⌝ }
 {
-    let Number::Value(r) = first else {
-        return Sizes::Other;
+    let Number::Value(a) = first else {
+        return Pair::Other;
     };
-    let Number::Value(s) = second else {
-        return Sizes::Other;
+    let Number::Value(b) = second else {
+        return Pair::Other;
     };
-    Sizes::Given(r, s)
+    Pair::Given(a, b)
 }
 
-// Line 1.
-pub fn sizes_of(line: &[u8]) -> Sizes
-    ensures { λ r. ⌜ r ≡ sizes-of (now (line .entry)) ⌝ }
+// Two numbers parted by a comma: line 1, and what an add has behind its letter.
+pub fn pair_of(text: &[u8]) -> Pair
+    ensures { λ r. ⌜ r ≡ pair-of (now (text .entry)) ⌝ }
 {
-    let end = find(line, COMMA);
-    if line.len() <= end {
-        return Sizes::Other;
+    let end = find(text, COMMA);
+    if text.len() <= end {
+        return Pair::Other;
     }
     let start = end + 1;
-    let first = number_in(&line[..end]);
-    let second = number_in(&line[start..]);
-    both_sizes(first, second)
+    let first = number_in(&text[..end]);
+    let second = number_in(&text[start..]);
+    both(first, second)
 }
 
-// A command with its letter.
+// An add: its key and its tier.
+fn insertion(numbers: Pair) -> Command
+    ensures { λ r. ⌜ r ≡ insertion numbers ⌝ }
+{
+    let Pair::Given(key, tier) = numbers else {
+        return Command::Other;
+    };
+    Command::Insert(key, tier)
+}
+
+// A command of a letter and a key.
 fn by_letter(letter: u8, key: u32) -> Command
     ensures { λ r. ⌜ r ≡ by-letter letter key ⌝ }
 {
-    if letter == b'A' {
-        return Command::Insert(key);
-    }
     if letter == b'W' {
         return Command::Remove(key);
     }
@@ -151,8 +158,8 @@ fn by_letter(letter: u8, key: u32) -> Command
     Command::Other
 }
 
-fn with_letter(letter: u8, number: Number) -> Command
-    ensures { λ r. ⌜ r ≡ command (letter ∷ []) number ⌝ }
+fn with_key(letter: u8, number: Number) -> Command
+    ensures { λ r. ⌜ r ≡ with-key (letter ∷ []) number ⌝ }
 {
     let Number::Value(key) = number else {
         return Command::Other;
@@ -171,8 +178,12 @@ pub fn command_of(line: &[u8]) -> Command
         return Command::Other;
     }
     let letter = line[0];
-    let second = number_in(&line[2..]);
-    with_letter(letter, second)
+    if letter == b'A' {
+        let numbers = pair_of(&line[2..]);
+        return insertion(numbers);
+    }
+    let number = number_in(&line[2..]);
+    with_key(letter, number)
 }
 
 // A line of which nothing was read yet.
@@ -208,15 +219,15 @@ pub fn is_empty(line: Line) -> bool
 }
 
 // What the line says, however long it was.
-pub fn sizes_in(line: Line) -> Sizes
-    ensures { λ r. ⌜ ((l : List ℕ) → Buffers line l → r ≡ sizes-of l) ⌝ }
+pub fn sizes_in(line: Line) -> Pair
+    ensures { λ r. ⌜ ((l : List ℕ) → Buffers line l → r ≡ pair-of l) ⌝ }
 {
     let count = line.count;
     if LONGEST < count {
-        return Sizes::Other;
+        return Pair::Other;
     }
     let bytes = line.bytes;
-    sizes_of(&bytes[..count])
+    pair_of(&bytes[..count])
 }
 
 pub fn command_in(line: Line) -> Command

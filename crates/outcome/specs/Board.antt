@@ -11,27 +11,28 @@ use Rattle.basics.specs.Sets.{member, without, below, none, some}
 use Rattle.ordered.specs.Keys.{with-key, above}
 use Rattle.refusals.specs.Refusal.{done, stash-full}
 use Rattle.tabulation.specs.Hash.{tabulation-length, slots-in-range, blank}
-use Rattle.layout.specs.Layout.{ValidSet, scratch-length, sizes-in-range}
-use Rattle.layout.specs.Board.{Row, rows, Shown, Full, board, board-tabulation, board-length, board-rows}
+use Rattle.layout.specs.Entries.{Entry, max-tier, keys-of, tiered, tier-of}
+use Rattle.layout.specs.Layout.{ValidKeys, ValidSet, scratch-length, sizes-in-range}
+use Rattle.layout.specs.Board.{Row, rows, plain, Shown, Full, board, board-tabulation, board-length, board-rows}
 use Rattle.layout.specs.Board as Board
-use Rattle.layout.specs.Smallest.{smallest, two-image, two-fit}
+use Rattle.layout.specs.Smallest.{smallest, two, two-image, two-fit}
 use Rattle.outcome.specs.declared.Change.the-variants.{Insert, Remove}
-use Rattle.outcome.specs.Outcome.{change-outcome}
+use Rattle.outcome.specs.Outcome.{changed, change-outcome}
 use Rattle.outcome.specs.Held.{Holds, one-too-many, held-new, held-remove, held-changed}
 
 -- the words of a row are a dictionary that holds its set
-shown-holds : {r s : ℕ} {S ws : List ℕ} → sizes-in-range r s ≡ true → Shown r s S ws → Holds (board r s) S ws
+shown-holds : {r s : ℕ} {L : List Entry} {ws : List ℕ} → sizes-in-range r s ≡ true → Shown r s L ws → Holds (board r s) L ws
 shown-holds range h = record { range = range; is = record { valid = h .valid; fit = h .fit; is = sym (h .words-are) } }
 
-module _ {r s : ℕ} {S ws : List ℕ} (range : sizes-in-range r s ≡ true) (h : Shown r s S ws) (scratch : List ℕ)
+module _ {r s : ℕ} {L : List Entry} {ws : List ℕ} (range : sizes-in-range r s ≡ true) (h : Shown r s L ws) (scratch : List ℕ)
     (room : scratch-length r s ≤ length scratch) (key : ℕ) (b : blank key ≡ false) where
   -- an insert that leads to a set which does not fit
-  insert-full : {R : List ℕ} → member key S ≡ false → with-key key S ≡ R → Full r s R
-      → change-outcome Insert board-tabulation ws scratch key .answer ≡ stash-full
-  insert-full m e f = held-new (shown-holds range h) board-length scratch room key b m ∙ (rw (e, f .unfit))
+  insert-full : (tier : ℕ) → tier ≤ max-tier → {R : List Entry} → member key (keys-of L) ≡ false → with-key key (keys-of L) ≡ keys-of R → Full r s R
+      → change-outcome (Insert tier) board-tabulation ws scratch key .answer ≡ stash-full
+  insert-full tier small m e f = held-new (shown-holds range h) board-length scratch room key b tier small m ∙ (rw (e, f .unfit))
 
   -- a removal that leads to the set of another row
-  remove-shown : {R us : List ℕ} → member key S ≡ true → without key S ≡ R → Shown r s R us
+  remove-shown : {R : List Entry} {us : List ℕ} → member key (keys-of L) ≡ true → changed Remove key L ≡ R → Shown r s R us
       → (change-outcome Remove board-tabulation ws scratch key .answer ≡ done) × (change-outcome Remove board-tabulation ws scratch key .words ≡ us)
   remove-shown m e g =
       let d = held-remove (shown-holds range h) board-length scratch room key b m in
@@ -57,52 +58,57 @@ module _ (scratch : List ℕ) (room : scratch-length 4 1 ≤ length scratch) whe
   unfolding sizes-in-range slots-in-range
   range = refl
 
-  k5 : Shown 4 1 (1 ∷ 65 ∷ 129 ∷ []) (4 ∷ 1 ∷ 3 ∷ 1 ∷ 0 ∷ 0 ∷ 1 ∷ 65 ∷ 0 ∷ 0 ∷ 0 ∷ 0 ∷ 65 ∷ 1 ∷ 0 ∷ 0 ∷ 0 ∷ 0 ∷ 0 ∷ 0 ∷ 129 ∷ [])
+  k5 : Shown 4 1 (plain (1 ∷ 65 ∷ 129 ∷ [])) (4 ∷ 1 ∷ 3 ∷ 1 ∷ 0 ∷ 0 ∷ 0 ∷ 1 ∷ 65 ∷ 0 ∷ 0 ∷ 0 ∷ 0 ∷ 0 ∷ 0 ∷ 0 ∷ 65 ∷ 1 ∷ 0 ∷ 0 ∷ 0 ∷ 0 ∷ 0 ∷ 0 ∷ 0 ∷ 0 ∷ 0 ∷ 0 ∷ 129 ∷ 0 ∷ [])
   k5 = row-holds 4 (omega arith)
 
-  k9 : Shown 4 1 (1 ∷ 33 ∷ 34 ∷ 65 ∷ 98 ∷ []) (4 ∷ 1 ∷ 5 ∷ 1 ∷ 0 ∷ 0 ∷ 1 ∷ 33 ∷ 34 ∷ 65 ∷ 0 ∷ 0 ∷ 65 ∷ 1 ∷ 0 ∷ 0 ∷ 33 ∷ 34 ∷ 0 ∷ 0 ∷ 98 ∷ [])
-  k9 = row-holds 9 (omega arith)
+  k9 : Shown 4 1 (plain (1 ∷ 33 ∷ 34 ∷ 65 ∷ 98 ∷ [])) (4 ∷ 1 ∷ 5 ∷ 1 ∷ 0 ∷ 0 ∷ 0 ∷ 1 ∷ 33 ∷ 0 ∷ 34 ∷ 65 ∷ 0 ∷ 0 ∷ 0 ∷ 0 ∷ 65 ∷ 1 ∷ 0 ∷ 0 ∷ 0 ∷ 0 ∷ 33 ∷ 34 ∷ 0 ∷ 0 ∷ 0 ∷ 0 ∷ 98 ∷ 0 ∷ [])
+  k9 = row-holds 11 (omega arith)
 
   -- "K6 K5 plus 193: refused 8."
-  pub k6 : change-outcome Insert board-tabulation
-      (4 ∷ 1 ∷ 3 ∷ 1 ∷ 0 ∷ 0 ∷ 1 ∷ 65 ∷ 0 ∷ 0 ∷ 0 ∷ 0 ∷ 65 ∷ 1 ∷ 0 ∷ 0 ∷ 0 ∷ 0 ∷ 0 ∷ 0 ∷ 129 ∷ []) scratch 193 .answer ≡ 8
+  pub k6 : change-outcome (Insert 0) board-tabulation
+      (4 ∷ 1 ∷ 3 ∷ 1 ∷ 0 ∷ 0 ∷ 0 ∷ 1 ∷ 65 ∷ 0 ∷ 0 ∷ 0 ∷ 0 ∷ 0 ∷ 0 ∷ 0 ∷ 65 ∷ 1 ∷ 0 ∷ 0 ∷ 0 ∷ 0 ∷ 0 ∷ 0 ∷ 0 ∷ 0 ∷ 0 ∷ 0 ∷ 129 ∷ 0 ∷ []) scratch 193 .answer ≡ 8
   unfolding blank with-key below above
-  k6 = insert-full range k5 scratch room 193 refl {R = 1 ∷ 65 ∷ 129 ∷ 193 ∷ []} refl refl (row-holds 5 (omega arith))
+  k6 = insert-full range k5 scratch room 193 refl 0 (omega arith) {R = plain (1 ∷ 65 ∷ 129 ∷ 193 ∷ [])} refl refl (row-holds 7 (omega arith))
 
   -- "K7 K5 less 65: 0.1 holds 1, 1.0 holds 129, drawer empty."
   pub k7 : (change-outcome Remove board-tabulation
-      (4 ∷ 1 ∷ 3 ∷ 1 ∷ 0 ∷ 0 ∷ 1 ∷ 65 ∷ 0 ∷ 0 ∷ 0 ∷ 0 ∷ 65 ∷ 1 ∷ 0 ∷ 0 ∷ 0 ∷ 0 ∷ 0 ∷ 0 ∷ 129 ∷ []) scratch 65 .answer ≡ 0)
+      (4 ∷ 1 ∷ 3 ∷ 1 ∷ 0 ∷ 0 ∷ 0 ∷ 1 ∷ 65 ∷ 0 ∷ 0 ∷ 0 ∷ 0 ∷ 0 ∷ 0 ∷ 0 ∷ 65 ∷ 1 ∷ 0 ∷ 0 ∷ 0 ∷ 0 ∷ 0 ∷ 0 ∷ 0 ∷ 0 ∷ 0 ∷ 0 ∷ 129 ∷ 0 ∷ []) scratch 65 .answer ≡ 0)
       × (change-outcome Remove board-tabulation
-      (4 ∷ 1 ∷ 3 ∷ 1 ∷ 0 ∷ 0 ∷ 1 ∷ 65 ∷ 0 ∷ 0 ∷ 0 ∷ 0 ∷ 65 ∷ 1 ∷ 0 ∷ 0 ∷ 0 ∷ 0 ∷ 0 ∷ 0 ∷ 129 ∷ []) scratch 65 .words
-      ≡ 4 ∷ 1 ∷ 2 ∷ 0 ∷ 0 ∷ 0 ∷ 1 ∷ 129 ∷ 0 ∷ 0 ∷ 0 ∷ 0 ∷ 129 ∷ 1 ∷ 0 ∷ 0 ∷ 0 ∷ 0 ∷ 0 ∷ 0 ∷ 0 ∷ [])
+      (4 ∷ 1 ∷ 3 ∷ 1 ∷ 0 ∷ 0 ∷ 0 ∷ 1 ∷ 65 ∷ 0 ∷ 0 ∷ 0 ∷ 0 ∷ 0 ∷ 0 ∷ 0 ∷ 65 ∷ 1 ∷ 0 ∷ 0 ∷ 0 ∷ 0 ∷ 0 ∷ 0 ∷ 0 ∷ 0 ∷ 0 ∷ 0 ∷ 129 ∷ 0 ∷ []) scratch 65 .words
+      ≡ 4 ∷ 1 ∷ 2 ∷ 0 ∷ 0 ∷ 0 ∷ 0 ∷ 1 ∷ 129 ∷ 0 ∷ 0 ∷ 0 ∷ 0 ∷ 0 ∷ 0 ∷ 0 ∷ 129 ∷ 1 ∷ 0 ∷ 0 ∷ 0 ∷ 0 ∷ 0 ∷ 0 ∷ 0 ∷ 0 ∷ 0 ∷ 0 ∷ 0 ∷ 0 ∷ [])
   unfolding blank without
-  k7 = remove-shown range k5 scratch room 65 refl refl refl (row-holds 7 (omega arith))
+  k7 = remove-shown range k5 scratch room 65 refl refl refl (row-holds 9 (omega arith))
 
   -- "K10 K9 less 33: 1.2 holds 98, the drawer is empty."
   pub k10 : (change-outcome Remove board-tabulation
-      (4 ∷ 1 ∷ 5 ∷ 1 ∷ 0 ∷ 0 ∷ 1 ∷ 33 ∷ 34 ∷ 65 ∷ 0 ∷ 0 ∷ 65 ∷ 1 ∷ 0 ∷ 0 ∷ 33 ∷ 34 ∷ 0 ∷ 0 ∷ 98 ∷ []) scratch 33 .answer ≡ 0)
+      (4 ∷ 1 ∷ 5 ∷ 1 ∷ 0 ∷ 0 ∷ 0 ∷ 1 ∷ 33 ∷ 0 ∷ 34 ∷ 65 ∷ 0 ∷ 0 ∷ 0 ∷ 0 ∷ 65 ∷ 1 ∷ 0 ∷ 0 ∷ 0 ∷ 0 ∷ 33 ∷ 34 ∷ 0 ∷ 0 ∷ 0 ∷ 0 ∷ 98 ∷ 0 ∷ []) scratch 33 .answer ≡ 0)
       × (change-outcome Remove board-tabulation
-      (4 ∷ 1 ∷ 5 ∷ 1 ∷ 0 ∷ 0 ∷ 1 ∷ 33 ∷ 34 ∷ 65 ∷ 0 ∷ 0 ∷ 65 ∷ 1 ∷ 0 ∷ 0 ∷ 33 ∷ 34 ∷ 0 ∷ 0 ∷ 98 ∷ []) scratch 33 .words
-      ≡ 4 ∷ 1 ∷ 4 ∷ 0 ∷ 0 ∷ 0 ∷ 1 ∷ 65 ∷ 34 ∷ 98 ∷ 0 ∷ 0 ∷ 65 ∷ 1 ∷ 0 ∷ 0 ∷ 98 ∷ 34 ∷ 0 ∷ 0 ∷ 0 ∷ [])
+      (4 ∷ 1 ∷ 5 ∷ 1 ∷ 0 ∷ 0 ∷ 0 ∷ 1 ∷ 33 ∷ 0 ∷ 34 ∷ 65 ∷ 0 ∷ 0 ∷ 0 ∷ 0 ∷ 65 ∷ 1 ∷ 0 ∷ 0 ∷ 0 ∷ 0 ∷ 33 ∷ 34 ∷ 0 ∷ 0 ∷ 0 ∷ 0 ∷ 98 ∷ 0 ∷ []) scratch 33 .words
+      ≡ 4 ∷ 1 ∷ 4 ∷ 0 ∷ 0 ∷ 0 ∷ 0 ∷ 1 ∷ 65 ∷ 0 ∷ 34 ∷ 98 ∷ 0 ∷ 0 ∷ 0 ∷ 0 ∷ 65 ∷ 1 ∷ 0 ∷ 0 ∷ 0 ∷ 0 ∷ 98 ∷ 34 ∷ 0 ∷ 0 ∷ 0 ∷ 0 ∷ 0 ∷ 0 ∷ [])
   unfolding blank without
-  k10 = remove-shown range k9 scratch room 33 refl refl refl (row-holds 10 (omega arith))
+  k10 = remove-shown range k9 scratch room 33 refl refl refl (row-holds 12 (omega arith))
 
--- "K12 r = 1, s = 0: two cards fit, the smaller in rack 0; a third is refused 8": for every tabulation, every two keys in it and every third.
+-- "K12 r = 1, s = 0: two cards fit, the smaller in rack 0; a third is refused 8": for every tabulation, every two keys in it and every third, whatever their
+-- tiers.
 pub k12 : (tabulation scratch : List ℕ) → length tabulation ≡ tabulation-length → scratch-length 1 0 ≤ length scratch
-    → (c d key : ℕ) → 0 < c → c < d → (key ≡ 0 → ⊥) → (key ≡ c → ⊥) → (key ≡ d → ⊥)
-    → change-outcome Insert tabulation (1 ∷ 0 ∷ 2 ∷ 0 ∷ c ∷ d ∷ d ∷ c ∷ []) scratch key .answer ≡ 8
+    → (c x d y tier key : ℕ) → 0 < c → c < d → x ≤ max-tier → y ≤ max-tier → tier ≤ max-tier → (key ≡ 0 → ⊥) → (key ≡ c → ⊥) → (key ≡ d → ⊥)
+    → change-outcome (Insert tier) tabulation (1 ∷ 0 ∷ 2 ∷ 0 ∷ c ∷ d ∷ x ∷ d ∷ c ∷ y ∷ []) scratch key .answer ≡ 8
 unfolding blank sizes-in-range slots-in-range
-k12 tabulation scratch full-length room c d key z l n nc nd =
+k12 tabulation scratch full-length room c x d y tier key z l small-x small-y small n nc nd =
     let P = smallest tabulation in
     let S : List ℕ = c ∷ d ∷ [] in
-    let valid : ValidSet S = record {
+    let keys : ValidKeys S = record {
       asc = some {c = c} {R = d ∷ []} (λ x i. elim i [ here q ↦ omega arith | there j ↦ elim j [ ] ]) (some {c = d} {R = []} (λ x i. elim i [ ]) none);
       none-blank = λ x i. elim i [ here q ↦ ne-eqb x 0 (omega arith) | there j ↦ elim j [ here q ↦ ne-eqb x 0 (omega arith) | there k ↦ elim k [ ] ] ];
     } in
-    let h : Holds P S (1 ∷ 0 ∷ 2 ∷ 0 ∷ c ∷ d ∷ d ∷ c ∷ []) = record {
+    let valid : ValidSet (two tabulation c x d y) = record {
+      keys = keys;
+      tiers = λ e i. elim i [ here q ↦ rw q small-x | there j ↦ elim j [ here q ↦ rw q small-y | there k ↦ elim k [ ] ] ];
+    } in
+    let h : Holds P (two tabulation c x d y) (1 ∷ 0 ∷ 2 ∷ 0 ∷ c ∷ d ∷ x ∷ d ∷ c ∷ y ∷ []) = record {
       range = refl;
-      is = record { valid = valid; fit = two-fit tabulation c d l; is = sym (two-image tabulation c d z l) };
+      is = record { valid = valid; fit = two-fit tabulation c d l; is = sym (two-image tabulation c x d y z l) };
     } in
     let b = ne-eqb key 0 n in
     let m : member key S ≡ false = rw (ne-eqb key c nc, ne-eqb key d nd) in
-    held-new h full-length scratch room key b m ∙ (rw (one-too-many P key (omega arith) valid b m (omega arith)))
+    held-new h full-length scratch room key b tier small m ∙ (rw (one-too-many P key (omega arith) keys b m (omega arith)))

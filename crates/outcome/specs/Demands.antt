@@ -2,14 +2,14 @@
 -- `history`. That memory is never touched outside its ends and that every call returns is the check of the code itself. Assumes nothing.
 use Prim.Native.Nat.{ℕ}
 use mathlib.Core.Path.{_≡_, refl}
-use mathlib.Core.Logic.{_↔_}
 use mathlib.Core.List.{List, [], _∷_, List·Memᴰ as In}
 use borrow.Author.Tests.{ne-eqb}
 use lib.ListN.{length, replicate}
 use Rattle.refusals.specs.Refusal.{done}
-use Rattle.layout.specs.Layout.{params-of, keys-in}
+use Rattle.layout.specs.Entries.{Entry}
+use Rattle.layout.specs.Layout.{params-of, set-in}
 use Rattle.layout.specs.Canonical.{ImageOf}
-use Rattle.layout.specs.Answers.{lookup-values, fresh-refusal, fresh-words, fresh-answer-in}
+use Rattle.layout.specs.Answers.{lookup-values, looked-up, fresh-refusal, fresh-words, fresh-answer-in}
 use Rattle.outcome.specs.declared.Change.{Change}
 use Rattle.outcome.specs.Outcome.{Outcome, changed, change-outcome, check-outcome}
 use Rattle.outcome.specs.Laws.{change-answers, check-answers, change-answer-in, check-answer-in, change-refused, change-scratch, check-words, check-scratch}
@@ -23,10 +23,10 @@ pub record Harmless (answers ws scratch : List ℕ) (o : Outcome) : Type 0 where
   pub cleared : o .scratch ≡ replicate (length scratch) 0
 
 -- Demand 2: "After an accepted add or withdrawal the list is, in every word, the canonical image of the new set. On such a list, with the same book, a look-up
--- says yes exactly for the set's cards."
-pub record Renewed (tabulation ws : List ℕ) (S us : List ℕ) : Type 0 where
-  pub image : ImageOf (params-of tabulation ws) S us
-  pub looked : (c : ℕ) → (lookup-values tabulation us c ≡ 1 ∷ []) ↔ In c S
+-- says yes exactly for the set's cards", with the tier of each.
+pub record Renewed (tabulation ws : List ℕ) (L : List Entry) (us : List ℕ) : Type 0 where
+  pub image : ImageOf (params-of tabulation ws) L us
+  pub looked : (c : ℕ) → lookup-values tabulation us c ≡ looked-up L c
 
 -- The laws: every call is harmless, and an accepted change renews the words.
 pub change-harmless : (kind : Change) (tabulation ws scratch : List ℕ) (key : ℕ)
@@ -55,7 +55,7 @@ init-harmless ws r s = record {
 }
 
 pub change-renewed : (kind : Change) (tabulation ws scratch : List ℕ) (key : ℕ) → change-outcome kind tabulation ws scratch key .answer ≡ done
-    → Renewed tabulation ws (changed kind key (keys-in ws)) (change-outcome kind tabulation ws scratch key .words)
+    → Renewed tabulation ws (changed kind key (set-in tabulation ws)) (change-outcome kind tabulation ws scratch key .words)
 change-renewed kind tabulation ws scratch key e = record {
   image = change-accepted kind tabulation ws scratch key e .is;
   looked = change-lookup kind tabulation ws scratch key e;

@@ -13,7 +13,8 @@ use Rattle.basics.specs.Tests.{test}
 use Rattle.basics.specs.Sets.{member}
 use Rattle.refusals.specs.Refusal.{done, wrong-tabulation, wrong-shape, short-scratch, not-canonical, blank-key, first-refusal, None, none, and, numbers, first-refusal-in, front-passes, none-applies, front-none}
 use Rattle.tabulation.specs.Hash.{tabulation-length, blank}
-use Rattle.layout.specs.Layout.{Params, params-of, slots-of, places-of, scratch-length, shaped, image, keys-in}
+use Rattle.layout.specs.Entries.{Entry}
+use Rattle.layout.specs.Layout.{Params, params-of, slots-of, places-of, scratch-length, shaped, image, set-in}
 use Rattle.layout.specs.Canonical.{canonical, ImageOf, canonical-iff, not-canonical-iff}
 use Rattle.outcome.specs.declared.Change.{Change}
 use Rattle.outcome.specs.declared.Change.the-variants.{Insert, Remove}
@@ -21,9 +22,9 @@ use Rattle.outcome.specs.Outcome.{Outcome, changed, set-refusals, early-
 
 -- the numbers
 
--- "Add can give 1 to 6 and 8; withdraw 1 to 5 and 7; check 1 to 4."
+-- "Add can give 1 to 6 and 8", and 9 after 5, 10 just before 6; "withdraw 1 to 5 and 7; check 1 to 4."
 abbrev pub change-answers : Change → List ℕ
-change-answers Insert = 0 ∷ 1 ∷ 2 ∷ 3 ∷ 4 ∷ 5 ∷ 6 ∷ 8 ∷ []
+change-answers (Insert tier) = 0 ∷ 1 ∷ 2 ∷ 3 ∷ 4 ∷ 5 ∷ 9 ∷ 10 ∷ 6 ∷ 8 ∷ []
 change-answers Remove = 0 ∷ 1 ∷ 2 ∷ 3 ∷ 4 ∷ 5 ∷ 7 ∷ []
 
 abbrev pub check-answers : List ℕ
@@ -31,13 +32,13 @@ check-answers = 0 ∷ 1 ∷ 2 ∷ 3 ∷ 4 ∷ []
 
 -- the refusals of insert and remove after 4
 abbrev pub later-refusals : Change → List ℕ → List ℕ → ℕ → List (ℕ × Bool)
-later-refusals kind tabulation ws key = (blank-key, blank key) ∷ set-refusals kind (params-of tabulation ws) key (keys-in ws)
+later-refusals kind tabulation ws key = (blank-key, blank key) ∷ set-refusals kind (params-of tabulation ws) key (set-in tabulation ws)
 
 pub change-answer-in : (kind : Change) (tabulation ws scratch : List ℕ) (key : ℕ)
     → In (change-outcome kind tabulation ws scratch key .answer) (change-answers kind)
 unfolding change-outcome change-refusal
-change-answer-in Insert tabulation ws scratch key =
-    first-refusal-in (first-refusals tabulation ws scratch ++ later-refusals Insert tabulation ws key)
+change-answer-in (Insert tier) tabulation ws scratch key =
+    first-refusal-in (first-refusals tabulation ws scratch ++ later-refusals (Insert tier) tabulation ws key)
 change-answer-in Remove tabulation ws scratch key =
     first-refusal-in (first-refusals tabulation ws scratch ++ later-refusals Remove tabulation ws key)
 
@@ -60,10 +61,10 @@ module _ (tabulation ws scratch : List ℕ) where
 
     -- Accepted, the words are the image of the new set;
     pub change-done : change-outcome kind tabulation ws scratch key .answer ≡ done
-        → change-outcome kind tabulation ws scratch key .words ≡ image (params-of tabulation ws) (changed kind key (keys-in ws))
+        → change-outcome kind tabulation ws scratch key .words ≡ image (params-of tabulation ws) (changed kind key (set-in tabulation ws))
     unfolding change-outcome
     change-done e =
-        ap (λ (t : Bool). cond t (image (params-of tabulation ws) (changed kind key (keys-in ws))) ws)
+        ap (λ (t : Bool). cond t (image (params-of tabulation ws) (changed kind key (set-in tabulation ws))) ws)
         (eq-eqb (change-refusal kind tabulation ws scratch key) done e)
 
     -- "Every refusal leaves list and book unchanged".
@@ -153,12 +154,18 @@ module _ (tabulation ws scratch : List ℕ) where
 late-first : (rs : List (ℕ × Bool)) → ((n : ℕ) → In n (numbers rs) → not-canonical < n) → Late (first-refusal rs)
 late-first rs f = elim (first-refusal-in rs) [ here q ↦ inl q | there i ↦ inr (f (first-refusal rs) i) ]
 
-rest-late : (kind : Change) (P : Params) (key : ℕ) (S : List ℕ) → Late (first-refusal ((blank-key, blank key) ∷ set-refusals kind P key S))
-rest-late Insert P key S = late-first ((blank-key, blank key) ∷ set-refusals Insert P key S) (λ n i. elim i [
+rest-late : (kind : Change) (P : Params) (key : ℕ) (L : List Entry) → Late (first-refusal ((blank-key, blank key) ∷ set-refusals kind P key L))
+rest-late (Insert tier) P key L = late-first ((blank-key, blank key) ∷ set-refusals (Insert tier) P key L) (λ n i. elim i [
   | here q ↦ omega arith
-  | there j ↦ elim j [ here q ↦ omega arith | there k ↦ elim k [ here q ↦ omega arith | there l ↦ elim l [ ] ] ]
+  | there j ↦ elim j [
+    | here q ↦ omega arith
+    | there k ↦ elim k [
+      | here q ↦ omega arith
+      | there l ↦ elim l [ here q ↦ omega arith | there m ↦ elim m [ here q ↦ omega arith | there o ↦ elim o [ ] ] ]
+    ]
+  ]
 ])
-rest-late Remove P key S = late-first ((blank-key, blank key) ∷ set-refusals Remove P key S) (λ n i. elim i [
+rest-late Remove P key L = late-first ((blank-key, blank key) ∷ set-refusals Remove P key L) (λ n i. elim i [
   | here q ↦ omega arith
   | there j ↦ elim j [ here q ↦ omega arith | there k ↦ elim k [ ] ]
 ])
@@ -166,7 +173,7 @@ rest-late Remove P key S = late-first ((blank-key, blank key) ∷ set-refusals R
 module _ (tabulation ws scratch : List ℕ) where
   -- "the list is the canonical image of no set"
   abbrev pub Tampered : Type 0
-  Tampered = (P : Params) (S : List ℕ) → P .tabulation ≡ tabulation → ImageOf P S ws → ⊥
+  Tampered = (P : Params) (L : List Entry) → P .tabulation ≡ tabulation → ImageOf P L ws → ⊥
 
   -- rows 1 to 4 of insert and remove
   module _ (kind : Change) (key : ℕ) where
@@ -205,7 +212,7 @@ module _ (tabulation ws scratch : List ℕ) where
     pub change-tampered : Ready tabulation ws scratch → (change-outcome kind tabulation ws scratch key .answer ≡ not-canonical) ↔ Tampered
     change-tampered h = (
       λ e. not-canonical-iff tabulation ws (h .shape) .0 (elim (test (canonical tabulation ws)) [
-        | inl c ↦ absurd (true≢false (late-other (rw (← change-set h c, e) at (rest-late kind (params-of tabulation ws) key (keys-in ws)))))
+        | inl c ↦ absurd (true≢false (late-other (rw (← change-set h c, e) at (rest-late kind (params-of tabulation ws) key (set-in tabulation ws)))))
         | inr c ↦ c
       ]),
       λ n. let c = not-canonical-iff tabulation ws (h .shape) .1 n in change-ready h ∙ (rw c),
@@ -239,7 +246,7 @@ module _ (tabulation ws scratch : List ℕ) where
   )
 
   pub check-done : (check-outcome tabulation ws scratch .answer ≡ done)
-      ↔ (Ready tabulation ws scratch × ((S : List ℕ) × ImageOf (params-of tabulation ws) S ws))
+      ↔ (Ready tabulation ws scratch × ((L : List Entry) × ImageOf (params-of tabulation ws) L ws))
   unfolding check-outcome
   check-done = (
     λ e. let p = head-passed tabulation ws scratch [] (inl e) in (p .0, canonical-iff tabulation ws (p .0 .shape) .0 (p .1)),

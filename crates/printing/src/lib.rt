@@ -41,13 +41,21 @@ fn make_room(out: &[u8; ROOM], at: usize) -> usize
     0
 }
 
-pub fn add_change(out: &mut [u8; ROOM], at: usize, kind: Change, key: u32, answer: u32) -> usize
+// The tier is printed for an insert only.
+pub fn add_change(
+    out: &mut [u8; ROOM],
+    at: usize,
+    kind: Change,
+    key: u32,
+    tier: u32,
+    answer: u32,
+) -> usize
     requires { ⌜ at ≤ room ⌝ }
     ensures { λ next. ⌜ next ≤ room ⌝ }
 {
     let start = make_room(&*out, at);
     match kind {
-        Change::Insert => rows::put_insert(&mut *out, start, key, answer),
+        Change::Insert => rows::put_insert(&mut *out, start, key, tier, answer),
         Change::Remove => rows::put_remove(&mut *out, start, key, answer),
     }
 }
@@ -58,7 +66,7 @@ pub fn add_lookup(out: &mut [u8; ROOM], at: usize, key: u32, found: Found) -> us
 {
     let start = make_room(&*out, at);
     match found {
-        Found::Present => rows::put_lookup(&mut *out, start, key, Looked::Present),
+        Found::Listed(tier) => rows::put_lookup(&mut *out, start, key, Looked::Listed(tier)),
         Found::Absent => rows::put_lookup(&mut *out, start, key, Looked::Absent),
         Found::Refused(number) => rows::put_lookup(&mut *out, start, key, Looked::Refused(number)),
     }
@@ -79,20 +87,21 @@ pub fn add_slot(
     slot: u32,
     key: u32,
     next: u32,
+    tier: u32,
 ) -> usize
     requires { ⌜ at ≤ room ⌝ }
     ensures { λ end. ⌜ end ≤ room ⌝ }
 {
     let start = make_room(&*out, at);
-    rows::put_slot(&mut *out, start, table, slot, key, next)
+    rows::put_slot(&mut *out, start, table, slot, key, next, tier)
 }
 
-pub fn add_stashed(out: &mut [u8; ROOM], at: usize, key: u32) -> usize
+pub fn add_stashed(out: &mut [u8; ROOM], at: usize, key: u32, tier: u32) -> usize
     requires { ⌜ at ≤ room ⌝ }
     ensures { λ next. ⌜ next ≤ room ⌝ }
 {
     let start = make_room(&*out, at);
-    rows::put_stashed(&mut *out, start, key)
+    rows::put_stashed(&mut *out, start, key, tier)
 }
 
 fn add_no_book(out: &mut [u8; ROOM], at: usize) -> usize

@@ -4,23 +4,25 @@ ghost use lib.ListN.{length};
 ghost use Rattle.layout.specs.Shape.{Shaped};
 ghost use Rattle.printing.specs.Short.{room};
 use crate::ROOM;
+use access::PLACE_WIDTH;
 use access::SLOT_WIDTH;
+use layout::Slot;
 use words::wide;
 
 // One slot, if it is filled.
-fn list_slot(out: &mut [u8; ROOM], at: usize, table: u32, slot: u32, key: u32, next: u32) -> usize
+fn list_slot(out: &mut [u8; ROOM], at: usize, table: u32, slot: u32, held: Slot) -> usize
     requires { ⌜ at ≤ room ⌝ }
     ensures { λ end. ⌜ end ≤ room ⌝ }
 {
-    if key == 0 {
+    if held.key == 0 {
         return at;
     }
-    crate::add_slot(out, at, table, slot, key, next)
+    crate::add_slot(out, at, table, slot, held.key, held.next, held.tier)
 }
 
 // The filled slots of one table.
 fn list_table(slots: &[u32], table: u32, out: &mut [u8; ROOM], start: usize) -> usize
-    requires { ⌜ (length (now slots) ≤ 2048) × (start ≤ room) ⌝ }
+    requires { ⌜ (length (now slots) ≤ 3072) × (start ≤ room) ⌝ }
     ensures { λ end. ⌜ end ≤ room ⌝ }
 {
     let count = slots.len() / SLOT_WIDTH;
@@ -28,21 +30,27 @@ fn list_table(slots: &[u32], table: u32, out: &mut [u8; ROOM], start: usize) -> 
     let mut slot: u32 = 0;
     while wide(slot) < count {
         let held = access::slot_in(slots, wide(slot));
-        at = list_slot(&mut *out, at, table, slot, held.key, held.next);
+        at = list_slot(&mut *out, at, table, slot, held);
         slot += 1;
     }
     at
 }
 
-// The stashed keys.
-fn list_stash(keys: &[u32], out: &mut [u8; ROOM], start: usize) -> usize
+// The filled places of the stash.
+fn list_stash(places: &[u32], out: &mut [u8; ROOM], start: usize) -> usize
     requires { ⌜ start ≤ room ⌝ }
     ensures { λ end. ⌜ end ≤ room ⌝ }
 {
+    let count = places.len() / PLACE_WIDTH;
     let mut at = start;
     let mut i = 0;
-    while i < keys.len() {
-        at = crate::add_stashed(&mut *out, at, keys[i]);
+    while i < count {
+        at = crate::add_stashed(
+            &mut *out,
+            at,
+            places[PLACE_WIDTH * i],
+            places[PLACE_WIDTH * i + 1],
+        );
         i += 1;
     }
     at

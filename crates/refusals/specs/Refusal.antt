@@ -44,14 +44,22 @@ key-absent = 7
 abbrev pub stash-full : ℕ
 stash-full = 8
 
+-- 9, "tier above 7"
+abbrev pub wrong-tier : ℕ
+wrong-tier = 9
+
+-- 10, "add of a listed card with another tier"
+abbrev pub other-tier : ℕ
+other-tier = 10
+
 -- the number of the first refusal whose test holds, or done
 abbrev pub first-refusal : List (ℕ × Bool) → ℕ
 first-refusal [] = done
 first-refusal (r ∷ rs) = cond (r .1) (r .0) (first-refusal rs)
 
 -- The laws. The numbers are those of document 01's table, in its order.
-pub table : done ∷ wrong-tabulation ∷ wrong-shape ∷ short-scratch ∷ not-canonical ∷ blank-key ∷ key-present ∷ key-absent ∷ stash-full ∷ []
-    ≡ 0 ∷ 1 ∷ 2 ∷ 3 ∷ 4 ∷ 5 ∷ 6 ∷ 7 ∷ 8 ∷ []
+pub table : done ∷ wrong-tabulation ∷ wrong-shape ∷ short-scratch ∷ not-canonical ∷ blank-key ∷ key-present ∷ key-absent ∷ stash-full ∷ wrong-tier ∷ other-tier ∷ []
+    ≡ 0 ∷ 1 ∷ 2 ∷ 3 ∷ 4 ∷ 5 ∷ 6 ∷ 7 ∷ 8 ∷ 9 ∷ 10 ∷ []
 table = refl
 
 -- The first that applies is given: the first of the list, if its test holds,

@@ -24,3 +24,9 @@ pub const KEY_ABSENT: u32 = 7;
 
 // The stash of the new set would have more keys than there are places.
 pub const STASH_FULL: u32 = 8;
+
+// Insert with a tier above 7.
+pub const WRONG_TIER: u32 = 9;
+
+// Insert of a key that is in the set, with another tier.
+pub const OTHER_TIER: u32 = 10;

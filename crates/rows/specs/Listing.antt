@@ -1,5 +1,6 @@
--- Document 01's worked listing through the definitions, by computation: its input splits into these lines and commands, and its listed answers
--- give these bytes. Beside it, lines that are of another form, and the edges of numbers and of the end of the input. Assumes nothing.
+-- Document 01's worked listing through the definitions, by computation, each card at tier 0: its input splits into these lines and commands, and
+-- its listed answers give these bytes. Beside it, the same with tiers, lines that are of another form, and the edges of numbers and of the end of
+-- the input. Assumes nothing.
 use Prim.Native.Nat.{ℕ}
 use Prim.Native.Char.{code}
 use Prim.Native.String.{String, [] as end, _∷_ as _then_}
@@ -9,48 +10,64 @@ use lib.ListN.{replicate}
 use Rattle.lines.specs.Decimal.{digits, decimal}
 use Rattle.lines.specs.Number.{all-digits, no-leading-zero, value, number-of}
 use Rattle.lines.specs.Parted.{parted, but-empty-last, lines-of}
-use Rattle.lines.specs.Command.{sizes-of, command-of}
+use Rattle.lines.specs.Command.{pair-of, command-of}
 use Rattle.rows.specs.Row.{insert-row, remove-row, lookup-row, error-row, slot-row, stash-row, book-row}
 use Rattle.lines.specs.declared.Number.the-variants.{Value, Other as no-number}
-use Rattle.lines.specs.declared.Sizes.the-variants.{Given, Other as no-sizes}
-use Rattle.lines.specs.declared.Command.the-variants.{Insert, Lookup, Other as no-command}
-use Rattle.rows.specs.declared.Looked.the-variants.{Present, Absent, Refused}
+use Rattle.lines.specs.declared.Pair.the-variants.{Given, Other as no-pair}
+use Rattle.lines.specs.declared.Command.the-variants.{Insert, Remove, Lookup, Other as no-command}
+use Rattle.rows.specs.declared.Looked.the-variants.{Listed, Absent, Refused}
 
 -- the bytes of an ASCII text
 abbrev bytes : String → List ℕ
 bytes end = []
 bytes (c then s) = code c ∷ bytes s
 
--- "input 2,1 / A,65 / A,1 / A,33 / A,97 / L,65 (one a line)"
-pub listing-lines : lines-of (bytes "2,1\nA,65\nA,1\nA,33\nA,97\nL,65\n")
-    ≡ bytes "2,1" ∷ bytes "A,65" ∷ bytes "A,1" ∷ bytes "A,33" ∷ bytes "A,97" ∷ bytes "L,65" ∷ []
+-- "input 2,1 / A,65 / A,1 / A,33 / A,97 / L,65 (one a line)", with a tier behind each card that is added
+pub listing-lines : lines-of (bytes "2,1\nA,65,0\nA,1,0\nA,33,0\nA,97,0\nL,65\n")
+    ≡ bytes "2,1" ∷ bytes "A,65,0" ∷ bytes "A,1,0" ∷ bytes "A,33,0" ∷ bytes "A,97,0" ∷ bytes "L,65" ∷ []
 unfolding lines-of but-empty-last parted
 listing-lines = refl
 
-pub listing-sizes : sizes-of (bytes "2,1") ≡ Given 2 1
-unfolding sizes-of parted number-of no-leading-zero all-digits value
+pub listing-sizes : pair-of (bytes "2,1") ≡ Given 2 1
+unfolding pair-of parted number-of no-leading-zero all-digits value
 listing-sizes = refl
 
-pub listing-commands : map command-of (bytes "A,65" ∷ bytes "A,1" ∷ bytes "A,33" ∷ bytes "A,97" ∷ bytes "L,65" ∷ [])
-    ≡ Insert 65 ∷ Insert 1 ∷ Insert 33 ∷ Insert 97 ∷ Lookup 65 ∷ []
+pub listing-commands : map command-of (bytes "A,65,0" ∷ bytes "A,1,0" ∷ bytes "A,33,0" ∷ bytes "A,97,0" ∷ bytes "L,65" ∷ [])
+    ≡ Insert 65 0 ∷ Insert 1 0 ∷ Insert 33 0 ∷ Insert 97 0 ∷ Lookup 65 ∷ []
 unfolding command-of parted number-of no-leading-zero all-digits value
 listing-commands = refl
 
 -- ".. prints:"
 pub listing-output :
-    insert-row 65 0
-    ++ (insert-row 1 0
-    ++ (insert-row 33 0
-    ++ (insert-row 97 8
-    ++ (lookup-row 65 Present ++ (slot-row 0 1 1 33 ++ (slot-row 1 0 33 1 ++ stash-row 65))))))
-    ≡ bytes "A,65,0\nA,1,0\nA,33,0\nA,97,8\nL,65,1\nP,0,1,1,33\nP,1,0,33,1\nD,65\n"
+    insert-row 65 0 0
+    ++ (insert-row 1 0 0
+    ++ (insert-row 33 0 0
+    ++ (insert-row 97 0 8
+    ++ (lookup-row 65 (Listed 0) ++ (slot-row 0 1 1 33 0 ++ (slot-row 1 0 33 1 0 ++ stash-row 65 0))))))
+    ≡ bytes "A,65,0,0\nA,1,0,0\nA,33,0,0\nA,97,0,8\nL,65,0\nP,0,1,1,33,0\nP,1,0,33,1,0\nD,65,0\n"
 unfolding insert-row lookup-row slot-row stash-row decimal digits
 listing-output = refl
+
+-- the same with tiers; a tier above 7 has the right form, and its answer is 9
+pub tier-commands :
+    map command-of
+    (bytes "A,65,7" ∷ bytes "A,1,3" ∷ bytes "A,33,5" ∷ bytes "A,97,8" ∷ bytes "A,97,4294967295" ∷ bytes "W,97" ∷ bytes "L,65" ∷ [])
+    ≡ Insert 65 7 ∷ Insert 1 3 ∷ Insert 33 5 ∷ Insert 97 8 ∷ Insert 97 4294967295 ∷ Remove 97 ∷ Lookup 65 ∷ []
+unfolding command-of parted number-of no-leading-zero all-digits value
+tier-commands = refl
+
+pub tier-output :
+    insert-row 65 7 0
+    ++ (insert-row 97 8 9
+    ++ (remove-row 97 7 ++ (lookup-row 65 (Listed 7) ++ (slot-row 0 1 1 33 3 ++ (slot-row 1 0 33 1 5 ++ stash-row 65 7)))))
+    ≡ bytes "A,65,7,0\nA,97,8,9\nW,97,7\nL,65,7\nP,0,1,1,33,3\nP,1,0,33,1,5\nD,65,7\n"
+unfolding insert-row remove-row lookup-row slot-row stash-row decimal digits
+tier-output = refl
 
 -- the rows that the listing does not have
 pub other-rows :
     remove-row 4294967295 7 ++ (lookup-row 17 Absent ++ (lookup-row 0 (Refused 5) ++ (error-row 4294967296 ++ book-row)))
-    ≡ bytes "W,4294967295,7\nL,17,0\nL,0,R5\nE,4294967296\nB\n"
+    ≡ bytes "W,4294967295,7\nL,17,N\nL,0,R5\nE,4294967296\nB\n"
 unfolding remove-row lookup-row error-row book-row decimal digits
 other-rows = refl
 
@@ -80,17 +97,26 @@ no-numbers = refl
 -- lines of another form: empty, with a carriage return, a space, quotes, a further comma, a small letter, another letter, a field too few
 pub no-commands :
     map command-of
-    (bytes "" ∷ bytes "A,65\r" ∷ bytes "A, 65" ∷ bytes " A,65" ∷ bytes "A,\"65\"" ∷ bytes "\"A\",65" ∷ bytes "A,65,"
-    ∷ bytes "A,65,1" ∷ bytes ",A,65" ∷ bytes "a,65" ∷ bytes "B,65" ∷ bytes "AA,65" ∷ bytes "A" ∷ bytes "A65"
-    ∷ bytes "A," ∷ bytes ",65" ∷ bytes "," ∷ bytes "2,1" ∷ [])
-    ≡ replicate 18 no-command
+    (bytes "" ∷ bytes "A,65,0\r" ∷ bytes "A, 65,0" ∷ bytes " A,65,0" ∷ bytes "A,\"65\",0" ∷ bytes "\"A\",65,0" ∷ bytes "A,65,0,"
+    ∷ bytes "A,65,0,1" ∷ bytes ",A,65,0" ∷ bytes "a,65,0" ∷ bytes "w,65" ∷ bytes "B,65" ∷ bytes "B,65,0" ∷ bytes "AA,65,0"
+    ∷ bytes "WW,65" ∷ bytes "A" ∷ bytes "W" ∷ bytes "W65" ∷ bytes "W," ∷ bytes ",65" ∷ bytes "," ∷ bytes ",," ∷ bytes "2,1" ∷ [])
+    ≡ replicate 23 no-command
 unfolding command-of parted number-of no-leading-zero all-digits value
 no-commands = refl
 
-pub no-sizes-at-all :
-    map sizes-of
+-- an add without a tier, with one that is no number; a tier where none belongs
+pub no-tiers :
+    map command-of
+    (bytes "A,65" ∷ bytes "A,65," ∷ bytes "A,,0" ∷ bytes "A,65,00" ∷ bytes "A,65,07" ∷ bytes "A,65,4294967296" ∷ bytes "A,065,0"
+    ∷ bytes "W,5,0" ∷ bytes "L,5,0" ∷ [])
+    ≡ replicate 9 no-command
+unfolding command-of parted number-of no-leading-zero all-digits value
+no-tiers = refl
+
+pub no-sizes :
+    map pair-of
     (bytes "" ∷ bytes "2" ∷ bytes "2,1\r" ∷ bytes "2, 1" ∷ bytes "2,1," ∷ bytes "2,1,1" ∷ bytes ",2,1" ∷ bytes "02,1" ∷ bytes "2,01"
     ∷ bytes "4294967296,1" ∷ bytes "2," ∷ bytes ",1" ∷ bytes "A,65" ∷ [])
-    ≡ replicate 13 no-sizes
-unfolding sizes-of parted number-of no-leading-zero all-digits value
-no-sizes-at-all = refl
+    ≡ replicate 13 no-pair
+unfolding pair-of parted number-of no-leading-zero all-digits value
+no-sizes = refl

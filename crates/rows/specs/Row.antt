@@ -1,14 +1,17 @@
 -- What the console prints, byte by byte: a row of fields parted by commas and ended by a newline. Assumes nothing.
 use Prim.Native.Nat.{ℕ}
+use mathlib.Core.Path.{_≡_, refl, ap}
 use mathlib.Core.List.{List, [], _∷_, _++_}
+use native.Mathlib.Omega.{arith}
+use lib.ListN.{length, getD}
 use Rattle.refusals.specs.Refusal.{done}
 use Rattle.lines.specs.Decimal.{decimal}
 use Rattle.lines.specs.Parted.{newline, comma}
 use Rattle.lines.specs.Command.{letter-A, letter-W, letter-L}
 use Rattle.rows.specs.declared.Looked.{Looked}
-use Rattle.rows.specs.declared.Looked.the-variants.{Present, Absent, Refused}
+use Rattle.rows.specs.declared.Looked.the-variants.{Listed, Absent, Refused}
 
--- ASCII: 'P', 'D', 'E', 'B' and 'R'
+-- ASCII: 'P', 'D', 'E', 'B', 'N' and 'R'
 abbrev pub letter-P : ℕ
 letter-P = 80
 
@@ -21,6 +24,9 @@ letter-E = 69
 abbrev pub letter-B : ℕ
 letter-B = 66
 
+abbrev pub letter-N : ℕ
+letter-N = 78
+
 abbrev pub letter-R : ℕ
 letter-R = 82
 
@@ -30,34 +36,33 @@ row [] = newline ∷ []
 row (f ∷ []) = f ++ (newline ∷ [])
 row (f ∷ g ∷ fs) = f ++ (comma ∷ row (g ∷ fs))
 
--- "It prints each of these lines with its answer": A,key,number and W,key,number
+-- "It prints each of these lines with its answer": W,key,number
 abbrev pub answer-row : ℕ → ℕ → ℕ → List ℕ
 answer-row letter key answer = row ((letter ∷ []) ∷ decimal key ∷ decimal answer ∷ [])
-
-unfoldable pub insert-row : ℕ → ℕ → List ℕ
-insert-row key answer = answer-row letter-A key answer
 
 unfoldable pub remove-row : ℕ → ℕ → List ℕ
 remove-row key answer = answer-row letter-W key answer
 
--- document 01's number of a lookup's answer, and its value: 1 yes, 0 no
+-- "The program's A line gains the tier before its answer": A,key,tier,number
+unfoldable pub insert-row : ℕ → ℕ → ℕ → List ℕ
+insert-row key tier answer = row ((letter-A ∷ []) ∷ decimal key ∷ decimal tier ∷ decimal answer ∷ [])
+
+-- "Look-up answers the tier or that the card isn't listed": document 01's number of a lookup's answer, and its value, the tier
 abbrev pub number : Looked → ℕ
-number Present = done
+number (Listed tier) = done
 number Absent = done
 number (Refused n) = n
 
 abbrev pub values : Looked → List ℕ
-values Present = 1 ∷ []
-values Absent = 0 ∷ []
+values (Listed tier) = tier ∷ []
+values Absent = []
 values (Refused n) = []
 
--- "for L, 1 yes and 0 no, a refusal as R and its number": the value of an answer that has one, and the number of an answer that has none
-abbrev pub value-or-number : List ℕ → ℕ → List ℕ
-value-or-number [] n = letter-R ∷ decimal n
-value-or-number (v ∷ vs) n = decimal v
-
+-- "L prints the tier or N"; "a refusal as R and its number"
 abbrev pub lookup-answer : Looked → List ℕ
-lookup-answer looked = value-or-number (values looked) (number looked)
+lookup-answer (Listed tier) = decimal tier
+lookup-answer Absent = letter-N ∷ []
+lookup-answer (Refused n) = letter-R ∷ decimal n
 
 unfoldable pub lookup-row : ℕ → Looked → List ℕ
 lookup-row key looked = row ((letter-L ∷ []) ∷ decimal key ∷ lookup-answer looked ∷ [])
@@ -66,18 +71,30 @@ lookup-row key looked = row ((letter-L ∷ []) ∷ decimal key ∷ lookup-answer
 unfoldable pub error-row : ℕ → List ℕ
 error-row line = row ((letter-E ∷ []) ∷ decimal line ∷ [])
 
--- "P,rack,pocket,card,next for each filled pocket in order"
-unfoldable pub slot-row : ℕ → ℕ → ℕ → ℕ → List ℕ
-slot-row table slot key next = row ((letter-P ∷ []) ∷ decimal table ∷ decimal slot ∷ decimal key ∷ decimal next ∷ [])
+-- "P,rack,pocket,card,next for each filled pocket in order"; "P and D lines gain it last": the tier
+unfoldable pub slot-row : ℕ → ℕ → ℕ → ℕ → ℕ → List ℕ
+slot-row table slot key next tier =
+    row ((letter-P ∷ []) ∷ decimal table ∷ decimal slot ∷ decimal key ∷ decimal next ∷ decimal tier ∷ [])
 
--- "then D,card"
-unfoldable pub stash-row : ℕ → List ℕ
-stash-row key = row ((letter-D ∷ []) ∷ decimal key ∷ [])
+-- "then D,card"; ".. and D lines gain it last"
+unfoldable pub stash-row : ℕ → ℕ → List ℕ
+stash-row key tier = row ((letter-D ∷ []) ∷ decimal key ∷ decimal tier ∷ [])
 
 -- "if it is missing or of another length, the program prints B"
 unfoldable pub book-row : List ℕ
 book-row = row ((letter-B ∷ []) ∷ [])
 
--- no row of numbers of 32 bits is longer than "P,4294967295,4294967295,4294967295,4294967295" and its newline, nor an error row of 64 bits
+-- no row of numbers of 32 bits is longer than "P" with five of them and its newline, nor an error row of 64 bits
 abbrev pub row-room : ℕ
-row-room = 46
+row-room = 57
+
+-- The laws. What a lookup's row shows of the number and the value: the value of an answer that has one, the number of a refusal.
+pub lookup-valued : (looked : Looked) (tier : ℕ) → values looked ≡ tier ∷ [] → lookup-answer looked ≡ decimal tier
+lookup-valued (Listed t) tier e = ap (λ (l : List ℕ). decimal (getD l 0 0)) e
+lookup-valued Absent tier e = absurd (omega (arith, ap length e))
+lookup-valued (Refused n) tier e = absurd (omega (arith, ap length e))
+
+pub lookup-refused : (looked : Looked) → (number looked ≡ done → ⊥) → lookup-answer looked ≡ letter-R ∷ decimal (number looked)
+lookup-refused (Listed tier) h = absurd (h refl)
+lookup-refused Absent h = absurd (h refl)
+lookup-refused (Refused n) h = refl

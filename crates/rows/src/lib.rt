@@ -14,11 +14,11 @@ use lines::COMMA;
 use lines::NEWLINE;
 
 // Every row that is printed fits into so many bytes.
-pub const ROW_ROOM: usize = 46;
+pub const ROW_ROOM: usize = 57;
 
-// What a lookup answers: yes, no, or the number of its refusal.
+// What a lookup answers: the key's tier, that it is not listed, or the number of its refusal.
 pub enum Looked {
-    Present,
+    Listed(u32),
     Absent,
     Refused(u32),
 }
@@ -107,12 +107,16 @@ fn put_answer(out: &mut [u8], at: usize, letter: u8, key: u32, answer: u32) -> u
     put_byte(&mut *out, end, NEWLINE)
 }
 
-// A,key,answer
-pub fn put_insert(out: &mut [u8], at: usize, key: u32, answer: u32) -> usize
+// A,key,tier,answer
+pub fn put_insert(out: &mut [u8], at: usize, key: u32, tier: u32, answer: u32) -> usize
     requires { ⌜ at + row-room ≤ length (now out) ⌝ }
-    ensures { λ next. ⌜ Written (insert-row key answer) (now (out .entry)) at (now (out .exit)) next ⌝ }
+    ensures { λ next. ⌜ Written (insert-row key tier answer) (now (out .entry)) at (now (out .exit)) next ⌝ }
 {
-    put_answer(out, at, b'A', key, answer)
+    let second = put_byte(&mut *out, at, b'A');
+    let third = put_field(&mut *out, second, key);
+    let fourth = put_field(&mut *out, third, tier);
+    let end = put_field(&mut *out, fourth, answer);
+    put_byte(&mut *out, end, NEWLINE)
 }
 
 // W,key,answer
@@ -137,14 +141,26 @@ fn put_refused(out: &mut [u8], at: usize, key: u32, refusal: u32) -> usize
     put_byte(&mut *out, end, NEWLINE)
 }
 
-// L,key,1  L,key,0  or a refusal
+// L,key,N
+fn put_absent(out: &mut [u8], at: usize, key: u32) -> usize
+    requires { ⌜ at + row-room ≤ length (now out) ⌝ }
+    ensures { λ next. ⌜ Written (lookup-row key Looked.Absent) (now (out .entry)) at (now (out .exit)) next ⌝ }
+{
+    let second = put_byte(&mut *out, at, b'L');
+    let third = put_field(&mut *out, second, key);
+    let letter = put_byte(&mut *out, third, COMMA);
+    let end = put_byte(&mut *out, letter, b'N');
+    put_byte(&mut *out, end, NEWLINE)
+}
+
+// L,key,tier  L,key,N  or a refusal
 pub fn put_lookup(out: &mut [u8], at: usize, key: u32, looked: Looked) -> usize
     requires { ⌜ at + row-room ≤ length (now out) ⌝ }
     ensures { λ next. ⌜ Written (lookup-row key looked) (now (out .entry)) at (now (out .exit)) next ⌝ }
 {
     match looked {
-        Looked::Present => put_answer(out, at, b'L', key, 1),
-        Looked::Absent => put_answer(out, at, b'L', key, 0),
+        Looked::Listed(tier) => put_answer(out, at, b'L', key, tier),
+        Looked::Absent => put_absent(out, at, key),
         Looked::Refused(refusal) => put_refused(out, at, key, refusal),
     }
 }
@@ -160,26 +176,36 @@ pub fn put_error(out: &mut [u8], at: usize, line: u64) -> usize
     put_byte(&mut *out, end, NEWLINE)
 }
 
-// P,table,slot,key,next
-pub fn put_slot(out: &mut [u8], at: usize, table: u32, slot: u32, key: u32, next: u32) -> usize
+// P,table,slot,key,next,tier
+pub fn put_slot(
+    out: &mut [u8],
+    at: usize,
+    table: u32,
+    slot: u32,
+    key: u32,
+    next: u32,
+    tier: u32,
+) -> usize
     requires { ⌜ at + row-room ≤ length (now out) ⌝ }
-    ensures { λ end. ⌜ Written (slot-row table slot key next) (now (out .entry)) at (now (out .exit)) end ⌝ }
+    ensures { λ end. ⌜ Written (slot-row table slot key next tier) (now (out .entry)) at (now (out .exit)) end ⌝ }
 {
     let second = put_byte(&mut *out, at, b'P');
     let third = put_field(&mut *out, second, table);
     let fourth = put_field(&mut *out, third, slot);
     let fifth = put_field(&mut *out, fourth, key);
-    let end = put_field(&mut *out, fifth, next);
+    let sixth = put_field(&mut *out, fifth, next);
+    let end = put_field(&mut *out, sixth, tier);
     put_byte(&mut *out, end, NEWLINE)
 }
 
-// D,key
-pub fn put_stashed(out: &mut [u8], at: usize, key: u32) -> usize
+// D,key,tier
+pub fn put_stashed(out: &mut [u8], at: usize, key: u32, tier: u32) -> usize
     requires { ⌜ at + row-room ≤ length (now out) ⌝ }
-    ensures { λ next. ⌜ Written (stash-row key) (now (out .entry)) at (now (out .exit)) next ⌝ }
+    ensures { λ next. ⌜ Written (stash-row key tier) (now (out .entry)) at (now (out .exit)) next ⌝ }
 {
     let second = put_byte(&mut *out, at, b'D');
-    let end = put_field(&mut *out, second, key);
+    let third = put_field(&mut *out, second, key);
+    let end = put_field(&mut *out, third, tier);
     put_byte(&mut *out, end, NEWLINE)
 }
 

@@ -1,24 +1,31 @@
-//! What a call gives back: accepted, or one of the eight refusals of document 01's table.
+//! What a call gives back: accepted, one of the refusals of document 01's table (with those that
+//! request One adds to it), or what a lookup found.
 //! Every other module names refusals by this enum; the paper's numbers stand only here.
 
 /// Why a call was refused.
 ///
 /// Paper: the table under "What a call gives back". "They are tried in this order, and none is
-/// given otherwise."
+/// given otherwise." Request One puts 9 and 10 between 5 and 6; the variants stand in the order in
+/// which they are tried.
 #[derive(Clone, Copy, Debug, PartialEq, Eq, PartialOrd, Ord, Hash)]
 pub enum Refusal {
     /// Paper: 1, "wrong book": "book not 2,048 long".
     WrongTabulation = 1,
     /// Paper: 2, "wrong shape": "list shorter than 4 words, r or s outside its range, or length not
-    /// 4 + 4r + s".
+    /// 4 + 4r + s"; request One: "the length becomes 4 + 6r + 2s".
     WrongShape = 2,
-    /// Paper: 3, "short sheet": "work sheet shorter than 8r + 4s".
+    /// Paper: 3, "short sheet": "work sheet shorter than 8r + 4s"; request One: "at least
+    /// 12r + 8s".
     ShortScratch = 3,
     /// Paper: 4, "tampered": "the list is the canonical image of no set". (For the stash view: "4
     /// when word 3 exceeds s".)
     NotCanonical = 4,
     /// Paper: 5, "blank card": "number 0".
     BlankKey = 5,
+    /// Request One: "9 (tier above 7) after 5".
+    WrongTier = 9,
+    /// Request One: "10 (add of a listed card with another tier) just before 6".
+    OtherTier = 10,
     /// Paper: 6, "listed": "add of a card in the set".
     Listed = 6,
     /// Paper: 7, "not listed": "withdrawal of a card outside the set".
@@ -32,6 +39,18 @@ impl Refusal {
     pub fn number(self) -> u32 {
         self as u32
     }
+}
+
+/// What a lookup gives that is not refused.
+///
+/// Request One: "Look-up answers the tier or that the card isn't listed".
+#[derive(Clone, Copy, Debug, PartialEq, Eq)]
+pub enum Found {
+    /// The key is listed with this tier. It is the word as it stands, so in a damaged list it can
+    /// be above 7.
+    Listed(u32),
+    /// The key is not listed.
+    Absent,
 }
 
 /// What init, insert, remove and check give back; `Ok` is the paper's 0, "done": "accepted".

@@ -2,11 +2,12 @@
 //! tabulation, words and scratch may have any length and content. The engine given says how images
 //! are worked out.
 
-use crate::answer::{Answer, Refusal};
+use crate::answer::{Answer, Found, Refusal};
 use crate::counters::Counters;
 use crate::hash::{hashes, TABULATION_LEN};
 use crate::image::Engine;
-use crate::layout::{Shape, Slot};
+use crate::layout::{Shape, Slot, PLACE_LEN};
+use crate::set::{members, set, Set, MAX_TIER};
 
 /// Makes the words an empty list (the paper's "lay").
 ///
@@ -29,11 +30,11 @@ fn init_words(r: u32, s: u32, words: &mut [u32]) -> Answer {
     Ok(())
 }
 
-/// Puts a key into the set (the paper's "add").
+/// Puts a key with its tier into the set (the paper's "add").
 ///
-/// Paper: "Add can give 1 to 6 and 8". The words become the image of the new set; "Every refusal
-/// leaves list and book unchanged". The scratch "is zero over its full length after every call that
-/// borrows it".
+/// Paper: "Add can give 1 to 6 and 8"; by request One also 9 and 10. The words become the image of
+/// the new set; "Every refusal leaves list and book unchanged". The scratch "is zero over its full
+/// length after every call that borrows it".
 pub fn insert(
     engine: &impl Engine,
     tabulation: &[u16],
@@ -41,12 +42,13 @@ pub fn insert(
     scratch: &mut [u32],
     counters: &mut Counters,
     key: u32,
+    tier: u32,
 ) -> Answer {
-    let new_words = with_key(engine, tabulation, words, scratch.len(), key);
+    let new_words = with_key(engine, tabulation, words, scratch.len(), key, tier);
     finish(new_words, words, scratch, counters)
 }
 
-/// Takes a key out of the set (the paper's "withdraw").
+/// Takes a key out of the set, whatever its tier (the paper's "withdraw").
 ///
 /// Paper: "withdraw 1 to 5 and 7".
 pub fn remove(
@@ -70,34 +72,38 @@ pub fn check(
     words: &[u32],
     scratch: &mut [u32],
 ) -> Answer {
-    let answer = listed_keys(engine, tabulation, words, scratch.len());
+    let answer = listed_set(engine, tabulation, words, scratch.len());
     scratch.fill(0);
     answer.map(|_| ())
 }
 
-/// Says whether a key stands in the words (the paper's "look-up").
+/// Says whether a key stands in the words, and with which tier (the paper's "look-up").
 ///
 /// Paper: "Look-up borrows no sheet. It gives 1, 2, 5, or else yes exactly when the number stands
 /// as a card number in its rack 0 place, its rack 1 place or one of the s drawer words, tampered
-/// list or not."
-pub fn lookup(tabulation: &[u16], words: &[u32], key: u32) -> Result<bool, Refusal> {
+/// list or not." Request One: "Look-up answers the tier or that the card isn't listed [..]; should
+/// a tampered list show the card more than once, the first in word order counts."
+pub fn lookup(tabulation: &[u16], words: &[u32], key: u32) -> Result<Found, Refusal> {
     if tabulation.len() != TABULATION_LEN {
         return Err(Refusal::WrongTabulation);
     }
     let shape = Shape::of(words)?;
     let hashes = hashes(tabulation, shape.r(), key)?;
-    let holds = |table: usize| {
-        let slot = Slot { table, index: hashes[table] as usize };
-        words[shape.slot_at(slot)] == key
-    };
-    Ok(holds(0) || holds(1) || words[shape.stash_at()..].contains(&key))
+    let own_slots = [0, 1].map(|table| Slot { table, index: hashes[table] as usize });
+    let entries = own_slots.into_iter().filter_map(|slot| shape.entry(words, slot));
+    let stored = entries.map(|entry| (entry.key, entry.tier));
+    let mut in_order = stored.chain(shape.places(words));
+    Ok(match in_order.find(|&(other, _)| other == key) {
+        Some((_, tier)) => Found::Listed(tier),
+        None => Found::Absent,
+    })
 }
 
 /// The filled part of the stash, as part of the borrowed words (the paper's "drawer view").
 ///
 /// Paper: "The view answers with the filled stretch of the drawer as part of the lent list, without
 /// copying. Refused, the stretch is empty, and a call beside it gives the number." That call is
-/// [`stash_answer`].
+/// [`stash_answer`]. Request One: "The drawer view shows both words of each filled place."
 pub fn stash(words: &[u32]) -> &[u32] {
     stash_part(words).unwrap_or(&[])
 }
@@ -115,19 +121,20 @@ fn stash_part(words: &[u32]) -> Result<&[u32], Refusal> {
     if filled > shape.s() {
         return Err(Refusal::NotCanonical);
     }
-    Ok(&words[shape.stash_at()..][..filled as usize])
+    Ok(&words[shape.stash_at()..][..PLACE_LEN * filled as usize])
 }
 
-/// The keys of the set whose image the words are, ascending; or 1, 2, 3 or 4, in this order.
+/// The set whose image the words are; or 1, 2, 3 or 4, in this order.
 ///
-/// Every key of a set stands in the set's image, in a slot or in the stash, and no other does. So
-/// the words are the image of the keys that stand in them, or of no set at all.
-fn listed_keys(
+/// Every key of a set stands in the set's image, in a slot or in the stash, with its tier beside
+/// it, and no other does. So the words are the image of the keys and tiers that stand in them, or
+/// of no set at all.
+fn listed_set(
     engine: &impl Engine,
     tabulation: &[u16],
     words: &[u32],
     scratch_len: usize,
-) -> Result<Vec<u32>, Refusal> {
+) -> Result<Set, Refusal> {
     if tabulation.len() != TABULATION_LEN {
         return Err(Refusal::WrongTabulation);
     }
@@ -135,12 +142,12 @@ fn listed_keys(
     if scratch_len < shape.scratch_len() {
         return Err(Refusal::ShortScratch);
     }
-    let keys = shape.keys(words);
-    let image = engine.image(tabulation, shape.r(), shape.s(), &keys);
+    let members = shape.members(words);
+    let image = engine.image(tabulation, shape.r(), shape.s(), &members);
     if image.as_deref() != Some(words) {
         return Err(Refusal::NotCanonical);
     }
-    Ok(keys)
+    set(&members).ok_or(Refusal::NotCanonical)
 }
 
 /// The words after an insert, or its refusal.
@@ -150,16 +157,21 @@ fn with_key(
     words: &[u32],
     scratch_len: usize,
     key: u32,
+    tier: u32,
 ) -> Result<Vec<u32>, Refusal> {
-    let mut keys = listed_keys(engine, tabulation, words, scratch_len)?;
+    let mut set = listed_set(engine, tabulation, words, scratch_len)?;
     if key == 0 {
         return Err(Refusal::BlankKey);
     }
-    match keys.binary_search(&key) {
-        Ok(_) => return Err(Refusal::Listed),
-        Err(at) => keys.insert(at, key),
+    if tier > MAX_TIER {
+        return Err(Refusal::WrongTier);
     }
-    engine.image(tabulation, words[0], words[1], &keys).ok_or(Refusal::FullStash)
+    match set.insert(key, tier) {
+        Some(listed) if listed != tier => return Err(Refusal::OtherTier),
+        Some(_) => return Err(Refusal::Listed),
+        None => {}
+    }
+    engine.image(tabulation, words[0], words[1], &members(&set)).ok_or(Refusal::FullStash)
 }
 
 /// The words after a remove, or its refusal.
@@ -170,15 +182,14 @@ fn without_key(
     scratch_len: usize,
     key: u32,
 ) -> Result<Vec<u32>, Refusal> {
-    let mut keys = listed_keys(engine, tabulation, words, scratch_len)?;
+    let mut set = listed_set(engine, tabulation, words, scratch_len)?;
     if key == 0 {
         return Err(Refusal::BlankKey);
     }
-    match keys.binary_search(&key) {
-        Ok(at) => keys.remove(at),
-        Err(_) => return Err(Refusal::NotListed),
-    };
-    let image = engine.image(tabulation, words[0], words[1], &keys);
+    if set.remove(&key).is_none() {
+        return Err(Refusal::NotListed);
+    }
+    let image = engine.image(tabulation, words[0], words[1], &members(&set));
     Ok(image.expect("a smaller set needs no more stash places"))
 }
 

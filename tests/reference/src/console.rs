@@ -1,12 +1,12 @@
 //! The console program as a function from bytes to bytes: the book's bytes and the input in, the
 //! output out. The binary `console` only reads the files and prints.
 
-use crate::answer::{number, Refusal};
+use crate::answer::{number, Found, Refusal};
 use crate::calls;
 use crate::counters::Counters;
 use crate::hash::TABULATION_LEN;
 use crate::image::Engine;
-use crate::layout::Shape;
+use crate::layout::{Shape, PLACE_LEN};
 
 /// Everything a run of the console leaves.
 #[derive(Clone, Debug, Default, PartialEq, Eq)]
@@ -74,8 +74,9 @@ impl Session {
 
     /// Executes one later line.
     ///
-    /// Paper: "It prints each of these lines with its answer (for L, 1 yes and 0 no, a refusal as R
-    /// and its number)".
+    /// Paper: "It prints each of these lines with its answer (for L, [..] a refusal as R and its
+    /// number)". Request One: "The program's A line gains the tier before its answer, [..] and L
+    /// prints the tier or N."
     fn execute(
         &mut self,
         engine: &impl Engine,
@@ -85,9 +86,9 @@ impl Session {
     ) {
         let (words, counters) = (&mut self.words, &mut self.counters);
         let line = match *command {
-            Command::Insert(key) => {
-                let answer = calls::insert(engine, tabulation, words, scratch, counters, key);
-                format!("A,{key},{}", number(answer))
+            Command::Insert(key, tier) => {
+                let answer = calls::insert(engine, tabulation, words, scratch, counters, key, tier);
+                format!("A,{key},{tier},{}", number(answer))
             }
             Command::Remove(key) => {
                 let answer = calls::remove(engine, tabulation, words, scratch, counters, key);
@@ -101,18 +102,19 @@ impl Session {
         self.print(&line);
     }
 
-    /// Paper: "then P,rack,pocket,card,next for each filled pocket in order, then D,card".
+    /// Paper: "then P,rack,pocket,card,next for each filled pocket in order, then D,card". Request
+    /// One: "P and D lines gain it last", the tier.
     fn print_list(&mut self, shape: Shape) {
         for slot in shape.slots() {
             if let Some(entry) = shape.entry(&self.words, slot) {
                 self.print(&format!(
-                    "P,{},{},{},{}",
-                    slot.table, slot.index, entry.key, entry.next
+                    "P,{},{},{},{},{}",
+                    slot.table, slot.index, entry.key, entry.next, entry.tier
                 ));
             }
         }
-        for key in calls::stash(&self.words).to_vec() {
-            self.print(&format!("D,{key}"));
+        for place in calls::stash(&self.words).to_vec().chunks_exact(PLACE_LEN) {
+            self.print(&format!("D,{},{}", place[0], place[1]));
         }
     }
 
@@ -122,17 +124,18 @@ impl Session {
     }
 }
 
-/// A line after line 1. Paper: "Then A (add), W (withdraw) or L (look up) with a card."
+/// A line after line 1. Paper: "Then A (add), W (withdraw) or L (look up) with a card." With
+/// request One an A line has the tier after the card.
 enum Command {
-    Insert(u32),
+    Insert(u32, u32),
     Remove(u32),
     Lookup(u32),
 }
 
-fn found_text(found: Result<bool, Refusal>) -> String {
+fn found_text(found: Result<Found, Refusal>) -> String {
     match found {
-        Ok(true) => "1".to_string(),
-        Ok(false) => "0".to_string(),
+        Ok(Found::Listed(tier)) => tier.to_string(),
+        Ok(Found::Absent) => "N".to_string(),
         Err(refusal) => format!("R{}", refusal.number()),
     }
 }
@@ -146,27 +149,23 @@ fn lines(input: &[u8]) -> Vec<&[u8]> {
     lines
 }
 
-/// Two fields of a line. Paper: "fields parted by commas, no quoting".
-fn two_fields(line: &[u8]) -> Option<(&[u8], &[u8])> {
-    let fields: Vec<&[u8]> = line.split(|&byte| byte == b',').collect();
-    match fields[..] {
-        [first, second] => Some((first, second)),
+/// The fields of a line. Paper: "fields parted by commas, no quoting".
+fn fields(line: &[u8]) -> Vec<&[u8]> {
+    line.split(|&byte| byte == b',').collect()
+}
+
+fn parse_shape(line: &[u8]) -> Option<(u32, u32)> {
+    match fields(line)[..] {
+        [r, s] => Some((parse_number(r)?, parse_number(s)?)),
         _ => None,
     }
 }
 
-fn parse_shape(line: &[u8]) -> Option<(u32, u32)> {
-    let (r, s) = two_fields(line)?;
-    Some((parse_number(r)?, parse_number(s)?))
-}
-
 fn parse_command(line: &[u8]) -> Option<Command> {
-    let (letter, key) = two_fields(line)?;
-    let key = parse_number(key)?;
-    match letter {
-        b"A" => Some(Command::Insert(key)),
-        b"W" => Some(Command::Remove(key)),
-        b"L" => Some(Command::Lookup(key)),
+    match fields(line)[..] {
+        [b"A", key, tier] => Some(Command::Insert(parse_number(key)?, parse_number(tier)?)),
+        [b"W", key] => Some(Command::Remove(parse_number(key)?)),
+        [b"L", key] => Some(Command::Lookup(parse_number(key)?)),
         _ => None,
     }
 }

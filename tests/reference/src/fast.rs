@@ -2,60 +2,68 @@
 //! listed cycles, and peeling instead of trying. Near n log n; the tests hold it against the slow
 //! definition.
 
-use crate::answer::Refusal;
+use crate::answer::{Found, Refusal};
 use crate::hash::TABULATION_LEN;
 use crate::image::Engine;
-use crate::layout::{Shape, HEADER_LEN};
+use crate::layout::{Shape, HEADER_LEN, PLACE_LEN, SLOT_LEN};
+use crate::set::{Member, MAX_TIER};
 
 /// The engine that works by [`image`] of this module.
 #[derive(Clone, Copy, Debug, Default)]
 pub struct Fast;
 
 impl Engine for Fast {
-    fn image(&self, tabulation: &[u16], r: u32, s: u32, keys: &[u32]) -> Option<Vec<u32>> {
-        image(tabulation, r, s, keys)
+    fn image(&self, tabulation: &[u16], r: u32, s: u32, members: &[Member]) -> Option<Vec<u32>> {
+        image(tabulation, r, s, members)
     }
 }
 
-/// The words of the canonical image of a set of keys; the same as [`crate::image::image`].
+/// The words of the canonical image of a set; the same as [`crate::image::image`].
 ///
 /// Paper: "The canonical image".
-pub fn image(tabulation: &[u16], r: u32, s: u32, keys: &[u32]) -> Option<Vec<u32>> {
+pub fn image(tabulation: &[u16], r: u32, s: u32, members: &[Member]) -> Option<Vec<u32>> {
     let shape = Shape::new(r, s).ok()?;
     let tabulation: &[u16; TABULATION_LEN] = tabulation.try_into().ok()?;
-    let mut keys = keys.to_vec();
-    keys.sort_unstable();
-    keys.dedup();
-    if keys.first() == Some(&0) {
+    let mut members = members.to_vec();
+    members.sort_unstable();
+    members.dedup();
+    let (keys, tiers): (Vec<u32>, Vec<u32>) = members.into_iter().unzip();
+    let two_tiers = keys.windows(2).any(|pair| pair[0] == pair[1]);
+    if keys.first() == Some(&0) || two_tiers || tiers.iter().any(|&tier| tier > MAX_TIER) {
         return None;
     }
     let ends: Vec<[u32; 2]> = keys.iter().map(|&key| ends(tabulation, r, key)).collect();
     let parts = Parts::new(2 * r as usize, &ends);
-    let stash: Vec<u32> = parts.in_stash().map(|i| keys[i]).collect();
-    if stash.len() > s as usize {
+    let stashed = parts.in_stash().count();
+    if stashed > s as usize {
         return None;
     }
     let mut words = vec![0; shape.words_len()];
-    words[..HEADER_LEN].copy_from_slice(&[r, s, keys.len() as u32, stash.len() as u32]);
+    words[..HEADER_LEN].copy_from_slice(&[r, s, keys.len() as u32, stashed as u32]);
     let next = next_keys(&keys, &parts);
     for (slot, &i) in assignment(&ends, &parts).iter().enumerate() {
         if i != NONE {
-            words[HEADER_LEN + 2 * slot] = keys[i as usize];
-            words[HEADER_LEN + 2 * slot + 1] = next[i as usize];
+            let i = i as usize;
+            words[HEADER_LEN + SLOT_LEN * slot..][..SLOT_LEN]
+                .copy_from_slice(&[keys[i], next[i], tiers[i]]);
         }
     }
-    words[shape.stash_at()..][..stash.len()].copy_from_slice(&stash);
+    let places = words[shape.stash_at()..].chunks_exact_mut(PLACE_LEN);
+    for (place, i) in places.zip(parts.in_stash()) {
+        place.copy_from_slice(&[keys[i], tiers[i]]);
+    }
     Some(words)
 }
 
-/// Says whether a key stands in the words; the same as [`crate::calls::lookup`], with less to do at
-/// run time. It is the partner for benchmarks.
+/// Says whether a key stands in the words, and with which tier; the same as
+/// [`crate::calls::lookup`], with less to do at run time. It is the partner for benchmarks.
 ///
 /// Paper: "Look-up borrows no sheet. It gives 1, 2, 5, or else yes exactly when the number stands
 /// as a card number in its rack 0 place, its rack 1 place or one of the s drawer words, tampered
-/// list or not."
+/// list or not." Request One: "Look-up answers the tier or that the card isn't listed [..]; should
+/// a tampered list show the card more than once, the first in word order counts."
 #[inline]
-pub fn lookup(tabulation: &[u16], words: &[u32], key: u32) -> Result<bool, Refusal> {
+pub fn lookup(tabulation: &[u16], words: &[u32], key: u32) -> Result<Found, Refusal> {
     let Ok(tabulation) = <&[u16; TABULATION_LEN]>::try_from(tabulation) else {
         return Err(Refusal::WrongTabulation);
     };
@@ -63,9 +71,18 @@ pub fn lookup(tabulation: &[u16], words: &[u32], key: u32) -> Result<bool, Refus
     if key == 0 {
         return Err(Refusal::BlankKey);
     }
-    let [end0, end1] = ends(tabulation, shape.r(), key);
-    let holds = |end: u32| words[HEADER_LEN + 2 * end as usize] == key;
-    Ok(holds(end0) || holds(end1) || words[shape.stash_at()..].contains(&key))
+    for end in ends(tabulation, shape.r(), key) {
+        let at = HEADER_LEN + SLOT_LEN * end as usize;
+        if words[at] == key {
+            return Ok(Found::Listed(words[at + 2]));
+        }
+    }
+    for place in words[shape.stash_at()..].chunks_exact(PLACE_LEN) {
+        if place[0] == key {
+            return Ok(Found::Listed(place[1]));
+        }
+    }
+    Ok(Found::Absent)
 }
 
 /// Stands for "no key" among key numbers.

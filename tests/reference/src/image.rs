@@ -7,20 +7,22 @@ use std::collections::{BTreeMap, BTreeSet};
 use crate::answer::Refusal;
 use crate::graph::{components, edges, simple_cycles, Edge};
 use crate::layout::{Contents, Entry, Shape, Slot};
+use crate::set::{set, Member, Set};
 
 /// A way to work out canonical images. [`Slow`] is the definition, [`crate::fast::Fast`] another
 /// way; the calls, the reference model and the console take either.
 pub trait Engine {
-    /// The words of the canonical image of a set of keys, given in any order (a repeated key counts
-    /// once). `None` when there is none: the stash would need more than `s` places, or the
-    /// tabulation, `r`, `s` or a key is one that no list has.
-    fn image(&self, tabulation: &[u16], r: u32, s: u32, keys: &[u32]) -> Option<Vec<u32>>;
+    /// The words of the canonical image of a set, its members (key, tier) given in any order (a
+    /// repeated one counts once). `None` when there is none: the stash would need more than `s`
+    /// places, or the tabulation, `r`, `s`, a key or a tier is one that no list has, or a key
+    /// stands with two tiers.
+    fn image(&self, tabulation: &[u16], r: u32, s: u32, members: &[Member]) -> Option<Vec<u32>>;
 }
 
 /// Lets a borrowed engine, also one behind `dyn`, stand where an engine is asked for.
 impl<E: Engine + ?Sized> Engine for &E {
-    fn image(&self, tabulation: &[u16], r: u32, s: u32, keys: &[u32]) -> Option<Vec<u32>> {
-        (**self).image(tabulation, r, s, keys)
+    fn image(&self, tabulation: &[u16], r: u32, s: u32, members: &[Member]) -> Option<Vec<u32>> {
+        (**self).image(tabulation, r, s, members)
     }
 }
 
@@ -29,25 +31,28 @@ impl<E: Engine + ?Sized> Engine for &E {
 pub struct Slow;
 
 impl Engine for Slow {
-    fn image(&self, tabulation: &[u16], r: u32, s: u32, keys: &[u32]) -> Option<Vec<u32>> {
-        image(tabulation, r, s, keys)
+    fn image(&self, tabulation: &[u16], r: u32, s: u32, members: &[Member]) -> Option<Vec<u32>> {
+        image(tabulation, r, s, members)
     }
 }
 
 /// An assignment: which key each filled slot holds.
 pub type Assignment = BTreeMap<Slot, u32>;
 
-/// The words of the canonical image of a set of keys, by the definition; see [`Engine::image`].
+/// The words of the canonical image of a set, by the definition; see [`Engine::image`].
 ///
-/// Paper: "The canonical image", from document 000, section 3.1.
-pub fn image(tabulation: &[u16], r: u32, s: u32, keys: &[u32]) -> Option<Vec<u32>> {
+/// Paper: "The canonical image", from document 000, section 3.1. It speaks of keys and slots only;
+/// the tiers are written beside the keys in the end.
+pub fn image(tabulation: &[u16], r: u32, s: u32, members: &[Member]) -> Option<Vec<u32>> {
     let shape = Shape::new(r, s).ok()?;
-    let edges = edges(tabulation, r, keys).ok()?;
+    let tiers = set(members)?;
+    let keys: Vec<u32> = tiers.keys().copied().collect();
+    let edges = edges(tabulation, r, &keys).ok()?;
     let mut contents = Contents::default();
     for component in components(&edges) {
         let (kept, stashed) = split_stash(&component);
-        contents.stash.extend(stashed);
-        contents.entries.extend(entries(&kept));
+        contents.stash.extend(stashed.into_iter().map(|key| (key, tiers[&key])));
+        contents.entries.extend(entries(&kept, &tiers));
     }
     (contents.stash.len() <= s as usize).then(|| shape.write(&contents))
 }
@@ -132,12 +137,12 @@ fn try_assignments(
     }
 }
 
-/// The filled slots of a component with at most one cycle, with their next numbers.
-fn entries(kept: &[Edge]) -> BTreeMap<Slot, Entry> {
+/// The filled slots of a component with at most one cycle, with their next numbers and tiers.
+fn entries(kept: &[Edge], tiers: &Set) -> BTreeMap<Slot, Entry> {
     let next = next_keys(kept.iter().map(|edge| edge.key));
     assignment(kept)
         .into_iter()
-        .map(|(slot, key)| (slot, Entry { key, next: next[&key] }))
+        .map(|(slot, key)| (slot, Entry { key, next: next[&key], tier: tiers[&key] }))
         .collect()
 }
 

@@ -5,6 +5,7 @@ use std::collections::{BTreeMap, BTreeSet};
 
 use crate::answer::Refusal;
 use crate::hash::MAX_R;
+use crate::set::{Member, Set};
 
 /// The largest s. Paper: "s (drawer places, 0 to 64)".
 pub const MAX_S: u32 = 64;
@@ -12,6 +13,12 @@ pub const MAX_S: u32 = 64;
 /// The length of the header. Paper: "Words 0 to 3 are r [..], s [..], the number of cards, and the
 /// number of cards in the drawer."
 pub const HEADER_LEN: usize = 4;
+
+/// The length of a slot. Request One: "A pocket becomes card, next, tier".
+pub const SLOT_LEN: usize = 3;
+
+/// The length of a stash place. Request One: "a drawer place becomes card, tier".
+pub const PLACE_LEN: usize = 2;
 
 /// A slot of a table (the paper's "pocket"; it writes "0.1" for rack 0, pocket 1).
 #[derive(Clone, Copy, Debug, PartialEq, Eq, PartialOrd, Ord, Hash)]
@@ -22,22 +29,24 @@ pub struct Slot {
     pub index: usize,
 }
 
-/// What a filled slot holds. Paper: "A pocket is two words: card number, then next number."
+/// What a filled slot holds. Request One: "A pocket becomes card, next, tier".
 #[derive(Clone, Copy, Debug, PartialEq, Eq)]
 pub struct Entry {
     /// The key (the paper's "card number").
     pub key: u32,
     /// The next key of the component (the paper's "next number").
     pub next: u32,
+    /// The tier of the key.
+    pub tier: u32,
 }
 
 /// Everything that stands in a list besides r, s and the two counts.
 #[derive(Clone, Debug, Default, PartialEq, Eq)]
 pub struct Contents {
-    /// The filled slots. Paper: "An empty pocket is 0, 0."
+    /// The filled slots. Request One: "empty ones are zeros".
     pub entries: BTreeMap<Slot, Entry>,
-    /// The stash (the paper's "drawer"); the set keeps it ascending.
-    pub stash: BTreeSet<u32>,
+    /// The stash (the paper's "drawer"); the set keeps it ascending by key.
+    pub stash: Set,
 }
 
 /// An r and an s within their ranges.
@@ -58,7 +67,8 @@ impl Shape {
 
     /// The shape that borrowed words have by their own words 0 and 1.
     ///
-    /// Paper, 2: "list shorter than 4 words, r or s outside its range, or length not 4 + 4r + s".
+    /// Paper, 2: "list shorter than 4 words, r or s outside its range, or length not 4 + 4r + s",
+    /// which request One makes 4 + 6r + 2s.
     pub fn of(words: &[u32]) -> Result<Shape, Refusal> {
         if words.len() < HEADER_LEN {
             return Err(Refusal::WrongShape);
@@ -80,24 +90,29 @@ impl Shape {
         self.s
     }
 
-    /// Paper: "The length is exactly 4 + 4r + s words". No wrap: r and s are within their ranges.
+    /// Request One: "the length becomes 4 + 6r + 2s". No wrap: r and s are within their ranges.
     pub fn words_len(self) -> usize {
-        self.stash_at() + self.s as usize
+        self.place_at(self.s as usize)
     }
 
-    /// Paper: "a work sheet of at least 8r + 4s words".
+    /// Request One: "the work sheet at least 12r + 8s".
     pub fn scratch_len(self) -> usize {
-        8 * self.r as usize + 4 * self.s as usize
+        12 * self.r as usize + 8 * self.s as usize
     }
 
-    /// The position of a slot's key word; its next word follows.
+    /// The position of a slot's key word; its next word and its tier word follow.
     pub fn slot_at(self, slot: Slot) -> usize {
-        HEADER_LEN + 2 * (slot.table * self.r as usize + slot.index)
+        HEADER_LEN + SLOT_LEN * (slot.table * self.r as usize + slot.index)
     }
 
     /// The position of the first stash word. Paper: "Then come rack 0, rack 1 and the drawer."
     pub fn stash_at(self) -> usize {
-        HEADER_LEN + 4 * self.r as usize
+        HEADER_LEN + SLOT_LEN * 2 * self.r as usize
+    }
+
+    /// The position of a stash place's key word, places counted from 0; its tier word follows.
+    pub fn place_at(self, place: usize) -> usize {
+        self.stash_at() + PLACE_LEN * place
     }
 
     /// All slots in the order of the words: table 0 first, indexes ascending.
@@ -110,19 +125,26 @@ impl Shape {
     /// card").
     pub fn entry(self, words: &[u32], slot: Slot) -> Option<Entry> {
         let at = self.slot_at(slot);
-        (words[at] != 0).then(|| Entry { key: words[at], next: words[at + 1] })
+        (words[at] != 0).then(|| Entry { key: words[at], next: words[at + 1], tier: words[at + 2] })
     }
 
-    /// All keys that stand in words of this shape, as slot keys or in any of the s stash words,
-    /// ascending and each once.
-    pub fn keys(self, words: &[u32]) -> Vec<u32> {
-        let slot_keys = words[HEADER_LEN..self.stash_at()].iter().step_by(2);
-        let stash_keys = words[self.stash_at()..].iter();
-        let mut keys: Vec<u32> =
-            slot_keys.chain(stash_keys).copied().filter(|&key| key != 0).collect();
-        keys.sort_unstable();
-        keys.dedup();
-        keys
+    /// What the filled ones of the s stash places of words of this shape hold, in the order of the
+    /// words.
+    pub fn places(self, words: &[u32]) -> impl Iterator<Item = Member> + '_ {
+        let places = words[self.stash_at()..].chunks_exact(PLACE_LEN);
+        places.map(|place| (place[0], place[1])).filter(|&(key, _)| key != 0)
+    }
+
+    /// All keys that stand in words of this shape, in a slot or in any of the s stash places, each
+    /// with the tier beside it; ascending and each pair once. In words that are no image a key can
+    /// come with several tiers, and a tier can be any word.
+    pub fn members(self, words: &[u32]) -> Vec<Member> {
+        let entries = self.slots().filter_map(|slot| self.entry(words, slot));
+        let stored = entries.map(|entry| (entry.key, entry.tier));
+        let mut members: Vec<Member> = stored.chain(self.places(words)).collect();
+        members.sort_unstable();
+        members.dedup();
+        members
     }
 
     /// The words with these contents; the stash must fit.
@@ -130,16 +152,18 @@ impl Shape {
     /// Word 2, "the number of cards", counts a key once that sits in both its slots, and counts the
     /// stash. Paper: "The drawer is ascending, then zeros."
     pub fn write(self, contents: &Contents) -> Vec<u32> {
-        let mut keys = contents.stash.clone();
+        let mut keys: BTreeSet<u32> = contents.stash.keys().copied().collect();
         let mut words = vec![0; self.words_len()];
         for (&slot, entry) in &contents.entries {
             let at = self.slot_at(slot);
             words[at] = entry.key;
             words[at + 1] = entry.next;
+            words[at + 2] = entry.tier;
             keys.insert(entry.key);
         }
-        for (place, &key) in contents.stash.iter().enumerate() {
-            words[self.stash_at() + place] = key;
+        for (place, (&key, &tier)) in contents.stash.iter().enumerate() {
+            words[self.place_at(place)] = key;
+            words[self.place_at(place) + 1] = tier;
         }
         words[0] = self.r;
         words[1] = self.s;

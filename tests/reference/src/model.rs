@@ -1,12 +1,12 @@
-//! The reference model (the paper's "plain register"): a set of keys that answers every call of a
-//! sequence without ever seeing the words. The calls on real words must answer as it does.
+//! The reference model (the paper's "plain register"): a set of keys with tiers that answers every
+//! call of a sequence without ever seeing the words. The calls on real words must answer as it
+//! does.
 
-use std::collections::BTreeSet;
-
-use crate::answer::{Answer, Refusal};
+use crate::answer::{Answer, Found, Refusal};
 use crate::hash::TABULATION_LEN;
 use crate::image::Engine;
 use crate::layout::{Shape, HEADER_LEN};
+use crate::set::{members, Set, MAX_TIER};
 
 /// A call of a sequence, as the model is fed it.
 ///
@@ -23,6 +23,8 @@ pub enum Call {
         scratch_len: usize,
         /// The key to put in.
         key: u32,
+        /// Its tier.
+        tier: u32,
     },
     /// The paper's "withdrawal".
     Remove {
@@ -62,21 +64,23 @@ pub enum Reply {
     /// To an insert, remove, check or call of another kind.
     Answer(Answer),
     /// To a lookup.
-    Lookup(Result<bool, Refusal>),
-    /// To a stash view, which is never refused in a sequence (its number is 0).
+    Lookup(Result<Found, Refusal>),
+    /// To a stash view, which is never refused in a sequence (its number is 0): key and tier of
+    /// each filled place.
     Stash(Vec<u32>),
 }
 
 /// The reference model.
 ///
 /// Paper: "The register has the sequence's book [..]; of the list it knows only what lay was given.
-/// Its state is a set of cards, empty at first."
+/// Its state is a set of cards, empty at first." Request One: ""set" means cards with their tiers
+/// everywhere".
 #[derive(Clone, Debug)]
 pub struct Model<E> {
     engine: E,
     tabulation: Vec<u16>,
     shape: Shape,
-    set: BTreeSet<u32>,
+    set: Set,
 }
 
 impl<E: Engine> Model<E> {
@@ -85,11 +89,11 @@ impl<E: Engine> Model<E> {
     pub fn new(engine: E, tabulation: &[u16], r: u32, s: u32) -> Result<Self, Refusal> {
         refuse_tabulation(tabulation.len())?;
         let shape = Shape::new(r, s)?;
-        Ok(Model { engine, tabulation: tabulation.to_vec(), shape, set: BTreeSet::new() })
+        Ok(Model { engine, tabulation: tabulation.to_vec(), shape, set: Set::new() })
     }
 
-    /// The set of keys.
-    pub fn set(&self) -> &BTreeSet<u32> {
+    /// The set: the tier of each key.
+    pub fn set(&self) -> &Set {
         &self.set
     }
 
@@ -106,10 +110,10 @@ impl<E: Engine> Model<E> {
     /// takes its card out. Nothing else changes the set."
     pub fn feed(&mut self, call: &Call) -> Reply {
         match *call {
-            Call::Insert { tabulation_len, scratch_len, key } => {
-                let answer = self.try_insert(tabulation_len, scratch_len, key);
+            Call::Insert { tabulation_len, scratch_len, key, tier } => {
+                let answer = self.try_insert(tabulation_len, scratch_len, key, tier);
                 if answer.is_ok() {
-                    self.set.insert(key);
+                    self.set.insert(key, tier);
                 }
                 Reply::Answer(answer)
             }
@@ -133,42 +137,52 @@ impl<E: Engine> Model<E> {
         }
     }
 
-    fn try_insert(&self, tabulation_len: usize, scratch_len: usize, key: u32) -> Answer {
+    /// Request One: "9 (tier above 7) after 5; 10 (add of a listed card with another tier) just
+    /// before 6".
+    fn try_insert(&self, tabulation_len: usize, scratch_len: usize, key: u32, tier: u32) -> Answer {
         self.refuse_lengths(tabulation_len, scratch_len)?;
         refuse_blank(key)?;
-        let mut new_set = self.set.clone();
-        if !new_set.insert(key) {
+        if tier > MAX_TIER {
+            return Err(Refusal::WrongTier);
+        }
+        if self.set.get(&key).is_some_and(|&listed| listed != tier) {
+            return Err(Refusal::OtherTier);
+        }
+        if self.set.contains_key(&key) {
             return Err(Refusal::Listed);
         }
+        let mut new_set = self.set.clone();
+        new_set.insert(key, tier);
         self.image(&new_set).map(|_| ()).ok_or(Refusal::FullStash)
     }
 
     fn try_remove(&self, tabulation_len: usize, scratch_len: usize, key: u32) -> Answer {
         self.refuse_lengths(tabulation_len, scratch_len)?;
         refuse_blank(key)?;
-        if !self.set.contains(&key) {
+        if !self.set.contains_key(&key) {
             return Err(Refusal::NotListed);
         }
         Ok(())
     }
 
-    /// Paper: "A look-up not refused says whether the card is in the set."
-    fn try_lookup(&self, tabulation_len: usize, key: u32) -> Result<bool, Refusal> {
+    /// Paper: "A look-up not refused says whether the card is in the set." Request One: "Look-up
+    /// answers the tier or that the card isn't listed, in the plain register too".
+    fn try_lookup(&self, tabulation_len: usize, key: u32) -> Result<Found, Refusal> {
         refuse_tabulation(tabulation_len)?;
         refuse_blank(key)?;
-        Ok(self.set.contains(&key))
+        Ok(self.set.get(&key).map_or(Found::Absent, |&tier| Found::Listed(tier)))
     }
 
     /// Paper: "A view gives the words of the filled drawer places in the set's canonical image."
     fn stash(&self) -> Vec<u32> {
         let words = self.words();
-        let start = HEADER_LEN + 4 * self.shape.r() as usize;
-        words[start..].iter().copied().filter(|&word| word != 0).collect()
+        let start = HEADER_LEN + 6 * self.shape.r() as usize;
+        let filled = words[start..].chunks(2).filter(|place| place[0] != 0);
+        filled.flatten().copied().collect()
     }
 
-    fn image(&self, set: &BTreeSet<u32>) -> Option<Vec<u32>> {
-        let keys: Vec<u32> = set.iter().copied().collect();
-        self.engine.image(&self.tabulation, self.shape.r(), self.shape.s(), &keys)
+    fn image(&self, set: &Set) -> Option<Vec<u32>> {
+        self.engine.image(&self.tabulation, self.shape.r(), self.shape.s(), &members(set))
     }
 
     fn refuse_lengths(&self, tabulation_len: usize, scratch_len: usize) -> Answer {

@@ -5,6 +5,7 @@ use std::collections::BTreeSet;
 
 use crate::hash::TABULATION_LEN;
 use crate::rng::Rng;
+use crate::set::{Member, MAX_TIER};
 
 /// The paper's "test book".
 ///
@@ -43,4 +44,23 @@ pub fn random_keys(rng: &mut Rng, count: usize) -> Vec<u32> {
         }
     }
     keys.into_iter().collect()
+}
+
+/// A random tier: half of the time 0, else any from 0 to 7.
+pub fn random_tier(rng: &mut Rng) -> u32 {
+    if rng.one_in(2) {
+        0
+    } else {
+        rng.below(MAX_TIER as usize + 1) as u32
+    }
+}
+
+/// The keys, each with a random tier.
+pub fn random_tiers(rng: &mut Rng, keys: &[u32]) -> Vec<Member> {
+    keys.iter().map(|&key| (key, random_tier(rng))).collect()
+}
+
+/// The keys, each with tier 0, as document 01's boards have them.
+pub fn tier_0(keys: &[u32]) -> Vec<Member> {
+    keys.iter().map(|&key| (key, 0)).collect()
 }

@@ -1,6 +1,8 @@
--- `access::lookup` meets its contract: each `return` is the first refusal whose test holds, or whether the key stands.
-use mathlib.Core.Path.{sym, _∙_}
+-- `access::lookup` meets its contract: each `return` is the first refusal whose test holds, or where the key is found.
+use mathlib.Core.Path.{_≡_, sym, _∙_}
+use mathlib.Core.Bool.{true}
 use borrow.Author.Tests.{eq-eqb, ne-eqb, not-true, not-false}
+use Rattle.layout.specs.Layout.{shaped}
 use Rattle.layout.specs.Shape.{shape}
 use Rattle.layout.specs.Answers.{lookup-refusal, lookup-values}
 use borrow.Author.Needs.{needs}
@@ -33,32 +35,23 @@ returns-3 c =
     let v = sym (c .before .is-blank .ensures) ∙ c .if3 .taken in
     (simp (t, u, v), simp (t, u, v))
 
-is-standing-requires : tie.Need-is-standing-requires
-is-standing-requires c κs =
-    let d = c .before .before in
-    (search needs, shape _ (sym (d .before .is-shaped .ensures) ∙ not-false _ (d .if2 .left)))
+-- none of 1, 2 and 5 applies
+abbrev ranged : tie.Else3 → tie.Else2
+ranged e = e .before .before
+
+formed : (e : tie.Else3) → shaped (ranged e .before .before .before .before .before .args .words .now) ≡ true
+formed e = sym (ranged e .before .is-shaped .ensures) ∙ not-false _ (ranged e .if2 .left)
+
+find-requires : tie.Need-find-requires
+find-requires c κs = (search needs, shape _ (formed c))
 
 returns-4 : tie.Need-returns-4
 unfolding lookup-refusal lookup-values
 returns-4 c =
-    let b = c .before .before in
-    let d = b .before .before in
-    let t = eq-eqb _ _ (d .before .before .if1 .left) in
-    let u = sym (d .before .is-shaped .ensures) ∙ not-false _ (d .if2 .left) in
-    let v = sym (b .before .is-blank .ensures) ∙ b .if3 .left in
-    let w = sym (c .before .is-standing .ensures) ∙ c .if4 .taken in
-    (simp (t, u, v), simp (t, u, v, w))
-
-returns-5 : tie.Need-returns-5
-unfolding lookup-refusal lookup-values
-returns-5 c =
-    let b = c .before .before in
-    let d = b .before .before in
-    let t = eq-eqb _ _ (d .before .before .if1 .left) in
-    let u = sym (d .before .is-shaped .ensures) ∙ not-false _ (d .if2 .left) in
-    let v = sym (b .before .is-blank .ensures) ∙ b .if3 .left in
-    let w = sym (c .before .is-standing .ensures) ∙ c .if4 .left in
-    (simp (t, u, v), simp (t, u, v, w))
+    let e = c .before in
+    let t = eq-eqb _ _ (ranged e .before .before .if1 .left) in
+    let v = sym (e .before .is-blank .ensures) ∙ e .if3 .left in
+    (c .find .ensures .0 ∙ sym (simp (t, formed e, v)), c .find .ensures .1 ∙ sym (simp (t, formed e, v)))
 
 pub lookup-spec : {M : Type 1} → statement M
 lookup-spec =
@@ -69,6 +62,5 @@ lookup-spec =
     returns-2
     is-blank-requires
     returns-3
-    is-standing-requires
-    returns-4
-    returns-5)
+    find-requires
+    returns-4)

@@ -45,6 +45,9 @@ wide-requires c κs = search needs
 abbrev granted : tie.After-wide → tie.Else1
 granted w = w .before .before .before .before
 
+mul-end : tie.Need-mul-end
+mul-end c = omega (arith, viewed _ (accepted (granted c)))
+
 add-end : tie.Need-add-end
 add-end c = omega (arith, viewed _ (accepted (granted c)))
 
@@ -77,6 +80,7 @@ stash-spec =
     stash-start-requires
     shared-slice-read-wide
     wide-requires
+    mul-end
     add-end
     mul-result
     sub-result-2

@@ -75,14 +75,14 @@ returns-3 c =
     let k = c .before .before .before in
     left-blank _ _ _ _ _ (ready (readable (read k))) (read k .read-set .ensures .1 .0) (k .reading .given .1) (c .if2 .taken) (c .before .is-blank .ensures)
 
-enum-told-2 : tie.Need-enum-told-2
-enum-told-2 c = search needs
+enum-known-kind : tie.Need-enum-known-kind
+enum-known-kind c = search needs
 
 insert-key-requires : tie.Need-insert-key-requires
-insert-key-requires c κs = set (c .before .before .before .before)
+insert-key-requires c κs = set (c .before .before .before .before .before)
 
-enum-told-3 : tie.Need-enum-told-3
-enum-told-3 c = search needs
+enum-told-2 : tie.Need-enum-told-2
+enum-told-2 c = search needs
 
 remove-key-requires : tie.Need-remove-key-requires
 remove-key-requires c κs = set (c .before .before .before .before)
@@ -96,8 +96,9 @@ same-length-7 c = search needs
 returns-4 : tie.Need-returns-4
 returns-4 c =
     let i = c .before .before .before .before in
-    let z = i .before .before .before .before .before in
-    rw (i .before .before .before .enum-told2 .given .1) (left-set _ _ _ _ _ (ready (opened z)) (set z) (i .insert-key .ensures))
+    let k = i .before .before .before .before in
+    let z = k .before .before in
+    rw (k .kind .given .1) (left-set _ _ _ _ _ (ready (opened z)) (set z) (i .insert-key .ensures))
 
 same-length-8 : tie.Need-same-length-8
 same-length-8 c = search needs
@@ -109,7 +110,7 @@ returns-5 : tie.Need-returns-5
 returns-5 c =
     let i = c .before .before .before .before in
     let z = i .before .before .before .before .before in
-    rw (i .before .before .before .enum-told3 .given .1) (left-set _ _ _ _ _ (ready (opened z)) (set z) (i .remove-key .ensures))
+    rw (i .before .before .before .enum-told2 .given .1) (left-set _ _ _ _ _ (ready (opened z)) (set z) (i .remove-key .ensures))
 
 pub change-words-spec : {M : Type 1} → statement M
 change-words-spec =
@@ -128,9 +129,9 @@ change-words-spec =
     same-length-4
     same-length-5
     returns-3
-    enum-told-2
+    enum-known-kind
     insert-key-requires
-    enum-told-3
+    enum-told-2
     remove-key-requires
     same-length-6
     same-length-7

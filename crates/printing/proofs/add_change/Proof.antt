@@ -27,7 +27,7 @@ start m = m .before .before
 returns : tie.Need-returns
 returns c =
     let m = c .before .before .before .before in
-    omega (arith, m .make-room .ensures, c .put-insert .ensures .moved, insert-short (start m .args .key) (start m .args .answer) (omega arith) (omega arith))
+    omega (arith, m .make-room .ensures, c .put-insert .ensures .moved, insert-short (start m .args .key) (start m .args .tier) (start m .args .answer) (omega arith) (omega arith) (omega arith))
 
 returns-2 : tie.Need-returns-2
 returns-2 c =

@@ -14,7 +14,7 @@ put-slot-requires c κs = search needs
 returns : tie.Need-returns
 returns c =
     let a = c .before .before .before .before .args in
-    omega (arith, c .put-slot .ensures .moved, slot-short (a .table) (a .slot) (a .key) (a .next) (omega arith) (omega arith) (omega arith) (omega arith))
+    omega (arith, c .put-slot .ensures .moved, slot-short (a .table) (a .slot) (a .key) (a .next) (a .tier) (omega arith) (omega arith) (omega arith) (omega arith) (omega arith))
 
 pub add-slot-spec : {M : Type 1} → statement M
 add-slot-spec = tie.close (tie.spec make-room-requires put-slot-requires returns)

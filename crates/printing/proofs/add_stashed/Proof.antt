@@ -14,7 +14,7 @@ put-stashed-requires c κs = search needs
 returns : tie.Need-returns
 returns c =
     let a = c .before .before .before .before .args in
-    omega (arith, c .put-stashed .ensures .moved, stash-short (a .key) (omega arith))
+    omega (arith, c .put-stashed .ensures .moved, stash-short (a .key) (a .tier) (omega arith) (omega arith))
 
 pub add-stashed-spec : {M : Type 1} → statement M
 add-stashed-spec = tie.close (tie.spec make-room-requires put-stashed-requires returns)

@@ -1,18 +1,46 @@
--- `rows::put_insert` meets its contract.
+-- `rows::put_insert` meets its contract: the row field by field.
+use Rattle.rows.specs.Written.{_then_}
 use Rattle.rows.specs.Row.{insert-row}
 use borrow.Author.Needs.{needs}
 use Rattle.rows.proofs.put_insert.Statement.{statement}
 use Rattle.rows.proofs.put_insert.Tie as tie
 
-put-answer-requires : tie.Need-put-answer-requires
-put-answer-requires c κs = search needs
+put-byte-requires : tie.Need-put-byte-requires
+put-byte-requires c κs = search needs
+
+put-field-requires : tie.Need-put-field-requires
+put-field-requires c κs = search needs
+
+put-field-requires-2 : tie.Need-put-field-requires-2
+put-field-requires-2 c κs = search needs
+
+put-field-requires-3 : tie.Need-put-field-requires-3
+put-field-requires-3 c κs = search needs
+
+put-byte-requires-2 : tie.Need-put-byte-requires-2
+put-byte-requires-2 c κs = search needs
 
 same-length : tie.Need-same-length
 same-length c = search needs
 
 returns : tie.Need-returns
 unfolding insert-row
-returns c = c .before .before .put-answer .ensures
+returns c =
+    let f = c .before .before in
+    let e = f .before .before .before .before in
+    let d = e .before .before .before .before in
+    let b = d .before .before .before .before in
+    let a = b .before .before .before .before in
+    a .put-byte .ensures then b .put-field .ensures .0 then d .put-field2 .ensures .0 then e .put-field3 .ensures .0 then f .put-byte2 .ensures
 
 pub put-insert-spec : {M : Type 1} → statement M
-put-insert-spec = tie.close (tie.spec put-answer-requires same-length returns)
+put-insert-spec =
+    tie.close
+    (tie.spec
+    put-byte-requires
+    put-field-requires
+    put-field-requires-2
+    put-field-requires-3
+    put-byte-requires-2
+    same-length
+    returns)

@@ -11,6 +11,9 @@ put-byte-requires c κs = search needs
 put-field-requires : tie.Need-put-field-requires
 put-field-requires c κs = search needs
 
+put-field-requires-2 : tie.Need-put-field-requires-2
+put-field-requires-2 c κs = search needs
+
 put-byte-requires-2 : tie.Need-put-byte-requires-2
 put-byte-requires-2 c κs = search needs
 
@@ -20,12 +23,19 @@ same-length c = search needs
 returns : tie.Need-returns
 unfolding stash-row
 returns c =
-    let d = c .before .before in
+    let e = c .before .before in
+    let d = e .before .before .before .before in
     let b = d .before .before .before .before in
     let a = b .before .before .before .before in
-    a .put-byte .ensures then b .put-field .ensures .0 then d .put-byte2 .ensures
+    a .put-byte .ensures then b .put-field .ensures .0 then d .put-field2 .ensures .0 then e .put-byte2 .ensures
 
 pub put-stashed-spec : {M : Type 1} → statement M
 put-stashed-spec =
     tie.close
-    (tie.spec put-byte-requires put-field-requires put-byte-requires-2 same-length returns)
+    (tie.spec
+    put-byte-requires
+    put-field-requires
+    put-field-requires-2
+    put-byte-requires-2
+    same-length
+    returns)

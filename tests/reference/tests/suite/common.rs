@@ -8,27 +8,39 @@ use reference::calls;
 use reference::counters::Counters;
 use reference::fast::Fast;
 use reference::image::{Engine, Slow};
+use reference::set::Member;
 
 /// Both engines with their names.
 pub fn engines() -> [(&'static str, &'static dyn Engine); 2] {
     [("slow", &Slow), ("fast", &Fast)]
 }
 
-/// A filled slot as the paper's boards give it: table, index, key, next.
-pub type HandEntry = (usize, usize, u32, u32);
+/// A filled slot as the paper's boards give it: table, index, key, next; and its tier.
+pub type HandEntry = (usize, usize, u32, u32, u32);
 
 /// The words of a list written out by hand; `count` is word 2. Deliberately not by `layout`.
-pub fn hand_words(r: u32, s: u32, count: u32, entries: &[HandEntry], stash: &[u32]) -> Vec<u32> {
-    let per_table = 2 * r as usize;
-    let mut words = vec![0; 4 + 2 * per_table + s as usize];
+pub fn hand_words(r: u32, s: u32, count: u32, entries: &[HandEntry], stash: &[Member]) -> Vec<u32> {
+    let per_table = 3 * r as usize;
+    let mut words = vec![0; 4 + 2 * per_table + 2 * s as usize];
     words[..4].copy_from_slice(&[r, s, count, stash.len() as u32]);
-    for &(table, index, key, next) in entries {
-        let at = 4 + table * per_table + 2 * index;
-        words[at] = key;
-        words[at + 1] = next;
+    for &(table, index, key, next, tier) in entries {
+        let at = 4 + table * per_table + 3 * index;
+        words[at..at + 3].copy_from_slice(&[key, next, tier]);
     }
-    words[4 + 2 * per_table..][..stash.len()].copy_from_slice(stash);
+    for (place, &(key, tier)) in stash.iter().enumerate() {
+        let at = 4 + 2 * per_table + 2 * place;
+        words[at..at + 2].copy_from_slice(&[key, tier]);
+    }
     words
+}
+
+/// The positions of the tier words with the positions of their key words, read off without the
+/// layout module.
+pub fn tier_words(words: &[u32]) -> Vec<(usize, usize)> {
+    let stash_at = 4 + 6 * words[0] as usize;
+    let slots = (4..stash_at).step_by(3).map(|at| (at + 2, at));
+    let places = (stash_at..words.len()).step_by(2).map(|at| (at + 1, at));
+    slots.chain(places).collect()
 }
 
 /// A list with all that its calls borrow. Each call checks what every call promises beside
@@ -44,17 +56,17 @@ pub struct Harness<'a> {
 impl<'a> Harness<'a> {
     /// A fresh list; the words held something else before.
     pub fn new(engine: &'a dyn Engine, tabulation: &[u16], r: u32, s: u32) -> Self {
-        let mut words = vec![7; (4 + 4 * r + s) as usize];
+        let mut words = vec![7; (4 + 6 * r + 2 * s) as usize];
         let mut counters = Counters::default();
         assert_eq!(calls::init(r, s, &mut words, &mut counters), Ok(()));
         assert_eq!(counters, Counters { done: 1, refused: 0 });
-        let scratch_len = (8 * r + 4 * s) as usize;
+        let scratch_len = (12 * r + 8 * s) as usize;
         Harness { engine, tabulation: tabulation.to_vec(), words, scratch_len, counters }
     }
 
-    pub fn insert(&mut self, key: u32) -> Answer {
+    pub fn insert(&mut self, key: u32, tier: u32) -> Answer {
         self.change(|engine, tabulation, words, scratch, counters| {
-            calls::insert(&engine, tabulation, words, scratch, counters, key)
+            calls::insert(&engine, tabulation, words, scratch, counters, key, tier)
         })
     }
 
@@ -116,14 +128,14 @@ impl Tally {
     }
 }
 
-/// All orders of the keys.
-pub fn permutations(keys: &[u32]) -> Vec<Vec<u32>> {
-    if keys.is_empty() {
+/// All orders of the items.
+pub fn permutations<T: Copy>(items: &[T]) -> Vec<Vec<T>> {
+    if items.is_empty() {
         return vec![Vec::new()];
     }
     let mut orders = Vec::new();
-    for (at, &first) in keys.iter().enumerate() {
-        let mut rest = keys.to_vec();
+    for (at, &first) in items.iter().enumerate() {
+        let mut rest = items.to_vec();
         rest.remove(at);
         for mut order in permutations(&rest) {
             order.insert(0, first);
@@ -136,4 +148,20 @@ pub fn permutations(keys: &[u32]) -> Vec<Vec<u32>> {
 /// The keys that a bit mask picks.
 pub fn subset(keys: &[u32], mask: usize) -> Vec<u32> {
     keys.iter().enumerate().filter(|(i, _)| mask >> i & 1 == 1).map(|(_, &key)| key).collect()
+}
+
+/// All sets over these keys with tiers among these, as their members.
+pub fn all_sets(keys: &[u32], tiers: &[u32]) -> Vec<Vec<Member>> {
+    let Some((&key, rest)) = keys.split_first() else {
+        return vec![Vec::new()];
+    };
+    let mut sets = all_sets(rest, tiers);
+    for without in sets.clone() {
+        for &tier in tiers {
+            let mut with = without.clone();
+            with.insert(0, (key, tier));
+            sets.push(with);
+        }
+    }
+    sets
 }

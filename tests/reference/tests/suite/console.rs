@@ -1,11 +1,11 @@
-//! The console program: the paper's worked listing, its grammar, random inputs against the
-//! reference model, and the binary itself.
+//! The console program: the paper's worked listing (with tier 0, and with other tiers), its
+//! grammar, random inputs against the reference model, and the binary itself.
 
 use std::io::Write;
 use std::path::PathBuf;
 use std::process::{Command, Stdio};
 
-use reference::answer::number;
+use reference::answer::{number, Found};
 use reference::console::{run, session};
 use reference::counters::Counters;
 use reference::fast::Fast;
@@ -16,9 +16,15 @@ use reference::samples::{random_tabulation, test_tabulation};
 
 use crate::common::{engines, Tally};
 
-const LISTING_INPUT: &str = "2,1\nA,65\nA,1\nA,33\nA,97\nL,65\n";
+const LISTING_INPUT: &str = "2,1\nA,65,0\nA,1,0\nA,33,0\nA,97,0\nL,65\n";
 const LISTING_OUTPUT: &str =
-    "A,65,0\nA,1,0\nA,33,0\nA,97,8\nL,65,1\nP,0,1,1,33\nP,1,0,33,1\nD,65\n";
+    "A,65,0,0\nA,1,0,0\nA,33,0,0\nA,97,0,8\nL,65,0\nP,0,1,1,33,0\nP,1,0,33,1,0\nD,65,0\n";
+
+/// The same with other tiers and some more lines.
+const TIERS_INPUT: &str =
+    "2,1\nA,65,7\nA,1,2\nA,33,5\nA,97,3\nA,65,6\nA,65,8\nA,65,7\nL,65\nL,33\nL,97\nW,97\n";
+const TIERS_OUTPUT: &str = "A,65,7,0\nA,1,2,0\nA,33,5,0\nA,97,3,8\nA,65,6,10\nA,65,8,9\nA,65,7,6\n\
+    L,65,7\nL,33,5\nL,97,N\nW,97,7\nP,0,1,1,33,2\nP,1,0,33,1,5\nD,65,7\n";
 
 fn bytes_of(tabulation: &[u16]) -> Vec<u8> {
     tabulation.iter().flat_map(|entry| [(entry % 256) as u8, (entry / 256) as u8]).collect()
@@ -36,8 +42,21 @@ fn worked_listing_and_its_words() {
     for (_, engine) in engines() {
         let session = session(&engine, Some(&book), LISTING_INPUT.as_bytes());
         assert_eq!(String::from_utf8(session.output).unwrap(), LISTING_OUTPUT);
-        assert_eq!(session.words, [2, 1, 3, 1, 0, 0, 1, 33, 33, 1, 0, 0, 65]);
+        let slots = [0, 0, 0, 1, 33, 0, 33, 1, 0, 0, 0, 0];
+        assert_eq!(session.words, [&[2, 1, 3, 1], &slots[..], &[65, 0]].concat());
         assert_eq!(session.counters, Counters { done: 4, refused: 1 });
+    }
+}
+
+#[test]
+fn the_listing_with_other_tiers_and_its_words() {
+    let book = bytes_of(&test_tabulation());
+    for (_, engine) in engines() {
+        let session = session(&engine, Some(&book), TIERS_INPUT.as_bytes());
+        assert_eq!(String::from_utf8(session.output).unwrap(), TIERS_OUTPUT);
+        let slots = [0, 0, 0, 1, 33, 2, 33, 1, 5, 0, 0, 0];
+        assert_eq!(session.words, [&[2, 1, 3, 1], &slots[..], &[65, 7]].concat());
+        assert_eq!(session.counters, Counters { done: 4, refused: 5 });
     }
 }
 
@@ -56,18 +75,19 @@ fn a_book_of_another_length_prints_b_whatever_the_input() {
 fn the_book_is_read_low_byte_first() {
     let mut bytes = vec![0; 4_096];
     bytes[2 * 9 + 1] = 2; // entry 9 is 512
-    assert_eq!(run(&Fast, Some(&bytes), b"1000,0\nA,9"), b"A,9,0\nP,0,512,9,9\nP,1,0,9,9\n");
+    let printed = b"A,9,4,0\nP,0,512,9,9,4\nP,1,0,9,9,4\n";
+    assert_eq!(run(&Fast, Some(&bytes), b"1000,0\nA,9,4"), printed);
 }
 
 /// Line 1 of every form that is not accepted: E,1 and nothing more, whatever follows.
 #[test]
 fn a_bad_line_1_stops_the_program() {
-    let refused = "0,1|1025,1|1,65|4294967295,1|1,4294967295|1073741825,1";
+    let refused = "0,1|1025,1|1,65|4294967295,1|1,4294967295|2147483649,1|1,2147483649";
     let other_forms =
         "|2|2,|,1|,|2,1,|2,1,1|2;1|02,1|2,01|00,1|+2,1|-2,1|2,-0|2, 1| 2,1|2,1 |2,1\r|2.0,1\
-        |0x2,1|4294967296,1|2,4294967296|2,99999999999999999999|A,65|\"2\",1|2,1\0|٢,1";
+        |0x2,1|4294967296,1|2,4294967296|2,99999999999999999999|A,65|A,65,0|\"2\",1|2,1\0|٢,1";
     for line in refused.split('|').chain(other_forms.split('|')) {
-        for rest in ["", "\n", "\nA,65\n", "\n2,1\nA,65\n"] {
+        for rest in ["", "\n", "\nA,65,0\n", "\n2,1\nA,65,0\n"] {
             assert_eq!(printed(format!("{line}{rest}")), "E,1\n", "{line:?} {rest:?}");
         }
     }
@@ -86,35 +106,41 @@ fn an_accepted_line_1_prints_nothing() {
 #[test]
 fn lines_of_another_form_print_their_number() {
     let other_forms =
-        "|,|A|A,|,5|A,5,|A,,5|A,5,5|A;5|a,5|w,5|l,5|AA,5|B,5|C,5|P,0,1,1,1|D,65|E,2|2,1\
-        |A,05|A,00|A,+5|A,-5|A,-0|A, 5|A,5 | A,5|A ,5|A,5\r|\r| |A,5.0|A,5e0|A,0x5|A,4294967296\
-        |A,4294967300|A,42949672950|A,10000000000|W,4294967296|L,4294967296|A,18446744073709551621\
-        |A,\"5\"|A,5\0|L,|L,01|W,01|A\t5|A,5\t|A,٥|A,4 294|A,5,B";
+        "|,|A|A,|,5|A,5|A,5,|A,,5|A,,|,,|,5,5|A,5,5,|A,,5,5|A,5,,5|A,5,5,5|A,5,5,0|A;5,0|A,5;0\
+        |a,5,0|w,5|l,5|AA,5,0|B,5,0|B,5|C,5|P,0,1,1,1|P,0,1,1,1,0|D,65|D,65,0|E,2|2,1|2,1,0|5,0\
+        |5,A,0|A,05,0|A,00,0|A,+5,0|A,-5,0|A,-0,0|A, 5,0|A,5 ,0| A,5,0|A ,5,0|A,5,0\r|\r| \
+        |A,5.0,0|A,5e0,0|A,0x5,0|A,4294967296,0|A,4294967300,0|A,42949672950,0\
+        |A,10000000000,0|W,4294967296|L,4294967296|A,18446744073709551621,0|A,\"5\",0\
+        |A,5\0,0|A,5,0\0|L,|L,01|W,01|W,|W|L|A\t5,0|A,5\t,0|A,٥,0|A,4 294,0|A,5,B|A,B,5|A,5,N\
+        |A,5,R5|A,5,00|A,5,01|A,5,07|A,5,010|A,5,+1|A,5,-1|A,5,-0|A,5, 1|A,5,1 |A,5,1.0\
+        |A,5,0x1|A,5,\"1\"|A,5,٣|A,5,1\t|A,5,4294967296|A,5,4294967303|A,5,18446744073709551617\
+        |A,0,4294967296|A,0,08|W,5,0|L,5,0|W,5,3|L,5,3|W,0,0|L,0,0|W,5,|L,5,";
     for line in other_forms.split('|') {
-        let expected = "A,5,0\nE,3\nL,5,1\nP,0,1,5,5\nP,1,0,5,5\n";
-        assert_eq!(printed(format!("2,1\nA,5\n{line}\nL,5\n")), expected, "{line:?}");
+        let expected = "A,5,3,0\nE,3\nL,5,3\nP,0,1,5,5,3\nP,1,0,5,5,3\n";
+        assert_eq!(printed(format!("2,1\nA,5,3\n{line}\nL,5\n")), expected, "{line:?}");
     }
-    assert_eq!(printed(b"2,1\nA,\xff\n\xc3\x28\n"), "E,2\nE,3\n");
+    assert_eq!(printed(b"2,1\nA,\xff,0\n\xc3\x28\nA,1,\xff\n"), "E,2\nE,3\nE,4\n");
     // A line may be of any length.
-    let long = format!("2,1\nA,{}\nA,1{}\n", "0".repeat(100_000), "0".repeat(100_000));
-    assert_eq!(printed(long), "E,2\nE,3\n");
+    let zeros = "0".repeat(100_000);
+    let long = format!("2,1\nA,{zeros},0\nA,1{zeros},0\nA,1,{zeros}\nA,1,1{zeros}\n");
+    assert_eq!(printed(long), "E,2\nE,3\nE,4\nE,5\n");
 }
 
 #[test]
 fn every_line_counts_for_its_number() {
-    let input = format!("2,1\n{}\nA,x\n", "L,1\n\n".repeat(60));
+    let input = format!("2,1\n{}\nA,x,0\n", "L,1\n\n".repeat(60));
     let expected: String =
-        (0..60).map(|i| format!("L,1,0\nE,{}\n", 3 + 2 * i)).collect::<String>() + "E,122\nE,123\n";
+        (0..60).map(|i| format!("L,1,N\nE,{}\n", 3 + 2 * i)).collect::<String>() + "E,122\nE,123\n";
     assert_eq!(printed(input), expected);
 }
 
 #[test]
 fn a_newline_or_the_end_of_input_ends_a_line() {
-    let listed = "A,5,0\nP,0,1,5,5\nP,1,0,5,5\n";
-    assert_eq!(printed("2,1\nA,5"), listed, "the last newline is missing");
-    assert_eq!(printed("2,1\nA,5\n"), listed, "nothing after the last newline is no line");
+    let listed = "A,5,1,0\nP,0,1,5,5,1\nP,1,0,5,5,1\n";
+    assert_eq!(printed("2,1\nA,5,1"), listed, "the last newline is missing");
+    assert_eq!(printed("2,1\nA,5,1\n"), listed, "nothing after the last newline is no line");
     assert_eq!(
-        printed("2,1\nA,5\n\n"),
+        printed("2,1\nA,5,1\n\n"),
         listed.replacen("P", "E,3\nP", 1),
         "an empty line is a line"
     );
@@ -124,15 +150,24 @@ fn a_newline_or_the_end_of_input_ends_a_line() {
 
 #[test]
 fn answers_and_refusals_are_printed_by_number() {
-    assert_eq!(printed("2,1\nL,0\nA,0\nW,0\n"), "L,0,R5\nA,0,5\nW,0,5\n");
-    assert_eq!(printed("2,1\nW,7\nA,7\nA,7\nW,7\nL,7\n"), "W,7,7\nA,7,0\nA,7,6\nW,7,0\nL,7,0\n");
-    let last = "A,4294967295,0\nL,4294967295,1\n\
-        P,0,1,4294967295,4294967295\nP,1,1,4294967295,4294967295\n";
-    assert_eq!(printed("2,1\nA,4294967295\nL,4294967295"), last);
-    // Three keys in the stash are printed in ascending order, one a line.
-    let full =
-        "A,9,0\nA,7,0\nA,5,0\nA,3,0\nA,1,0\nA,2,8\nA,9,6\nP,0,0,1,3\nP,1,0,3,1\nD,5\nD,7\nD,9\n";
-    assert_eq!(printed("1,3\nA,9\nA,7\nA,5\nA,3\nA,1\nA,2\nA,9\n"), full);
+    assert_eq!(printed("2,1\nL,0\nA,0,0\nW,0\nA,0,8\n"), "L,0,R5\nA,0,0,5\nW,0,5\nA,0,8,5\n");
+    assert_eq!(
+        printed("2,1\nW,7\nA,7,2\nA,7,2\nA,7,0\nL,7\nW,7\nL,7\n"),
+        "W,7,7\nA,7,2,0\nA,7,2,6\nA,7,0,10\nL,7,2\nW,7,0\nL,7,N\n"
+    );
+    // A tier above 7 is of a right form, and refused with 9, before 10 and 6.
+    assert_eq!(
+        printed("2,1\nA,7,8\nA,7,4294967295\nA,7,7\nA,7,8\nW,7\n"),
+        "A,7,8,9\nA,7,4294967295,9\nA,7,7,0\nA,7,8,9\nW,7,0\n"
+    );
+    let last = "A,4294967295,7,0\nL,4294967295,7\n\
+        P,0,1,4294967295,4294967295,7\nP,1,1,4294967295,4294967295,7\n";
+    assert_eq!(printed("2,1\nA,4294967295,7\nL,4294967295"), last);
+    // Three keys in the stash are printed in ascending order, one a line; 10 and 9 go before 8.
+    let full = "A,9,1,0\nA,7,6,0\nA,5,0,0\nA,3,4,0\nA,1,3,0\nA,2,0,8\nA,9,1,6\nA,9,2,10\nA,2,8,9\n\
+        P,0,0,1,3,3\nP,1,0,3,1,4\nD,5,0\nD,7,6\nD,9,1\n";
+    let input = "1,3\nA,9,1\nA,7,6\nA,5,0\nA,3,4\nA,1,3\nA,2,0\nA,9,1\nA,9,2\nA,2,8\n";
+    assert_eq!(printed(input), full);
 }
 
 /// A random line: mostly of a right form, else with something inserted, dropped or swapped.
@@ -142,7 +177,16 @@ fn random_line(rng: &mut Rng) -> String {
         1 => u64::from(u32::MAX) + rng.below(3) as u64 - 1,
         _ => rng.below(9) as u64,
     };
-    let mut line = format!("{},{key}", rng.pick(&["A", "A", "A", "W", "L"]));
+    let tier = match rng.below(12) {
+        0 => 8,
+        1 => u64::from(u32::MAX) + rng.below(3) as u64 - 1,
+        2 => rng.below(8) as u64,
+        _ => rng.pick(&[0, 3]),
+    };
+    let mut line = match rng.pick(&["A", "A", "A", "W", "L"]) {
+        "A" => format!("A,{key},{tier}"),
+        letter => format!("{letter},{key}"),
+    };
     if rng.one_in(4) {
         let at = rng.below(line.len() + 1);
         match rng.below(3) {
@@ -156,28 +200,36 @@ fn random_line(rng: &mut Rng) -> String {
     line
 }
 
-/// What a line says, found by writing numbers out again instead of reading digits.
-fn reread(line: &str) -> Option<(&str, u32)> {
-    let (letter, field) = line.split_once(',')?;
-    let key: u32 = field.parse().ok()?;
-    (["A", "W", "L"].contains(&letter) && key.to_string() == field).then_some((letter, key))
+/// What a line says (for W and L with tier 0), found by writing it out again instead of reading
+/// digits.
+fn reread(line: &str) -> Option<(&str, u32, u32)> {
+    let (letter, fields) = line.split_once(',')?;
+    let (key, tier) = fields.split_once(',').unwrap_or((fields, "0"));
+    let (key, tier): (u32, u32) = (key.parse().ok()?, tier.parse().ok()?);
+    let rewritten = match letter {
+        "A" => format!("A,{key},{tier}"),
+        "W" | "L" => format!("{letter},{key}"),
+        _ => return None,
+    };
+    (rewritten == line).then_some((letter, key, tier))
 }
 
 /// What the console should print for a line, by the reference model.
 fn answered(model: &mut Model<Slow>, line: &str, line_number: usize, tally: &mut Tally) -> String {
     let (tabulation_len, scratch_len) = (2_048, 10_000);
-    let Some((letter, key)) = reread(line) else {
+    let Some((letter, key, tier)) = reread(line) else {
         tally.add("lines of another form");
         return format!("E,{line_number}\n");
     };
     let call = match letter {
-        "A" => Call::Insert { tabulation_len, scratch_len, key },
+        "A" => Call::Insert { tabulation_len, scratch_len, key, tier },
         "W" => Call::Remove { tabulation_len, scratch_len, key },
         _ => Call::Lookup { tabulation_len, key },
     };
     let answer = match model.feed(&call) {
         Reply::Answer(answer) => number(answer).to_string(),
-        Reply::Lookup(Ok(found)) => u32::from(found).to_string(),
+        Reply::Lookup(Ok(Found::Listed(tier))) => tier.to_string(),
+        Reply::Lookup(Ok(Found::Absent)) => "N".to_string(),
         Reply::Lookup(Err(refusal)) => format!("R{}", refusal.number()),
         Reply::Stash(_) => unreachable!("no view was asked for"),
     };
@@ -188,11 +240,13 @@ fn answered(model: &mut Model<Slow>, line: &str, line_number: usize, tally: &mut
 /// The P and D lines of words, read off without the layout module.
 fn listing(words: &[u32]) -> String {
     let r = words[0] as usize;
-    let slots = (0..2 * r).filter(|slot| words[4 + 2 * slot] != 0);
+    let slots = (0..2 * r).filter(|slot| words[4 + 3 * slot] != 0);
     let filled = slots.map(|slot| {
-        format!("P,{},{},{},{}\n", slot / r, slot % r, words[4 + 2 * slot], words[5 + 2 * slot])
+        let [key, next, tier] = [4, 5, 6].map(|at| words[at + 3 * slot]);
+        format!("P,{},{},{key},{next},{tier}\n", slot / r, slot % r)
     });
-    let stash = words[4 + 4 * r..].iter().filter(|&&key| key != 0).map(|key| format!("D,{key}\n"));
+    let places = (4 + 6 * r..words.len()).step_by(2).filter(|&at| words[at] != 0);
+    let stash = places.map(|at| format!("D,{},{}\n", words[at], words[at + 1]));
     filled.chain(stash).collect()
 }
 
@@ -229,11 +283,14 @@ fn random_inputs_print_what_the_reference_model_answers() {
         "A 5",
         "A 6",
         "A 8",
+        "A 9",
+        "A 10",
         "W 0",
         "W 5",
         "W 7",
         "L 0",
-        "L 1",
+        "L 3",
+        "L N",
         "L R5",
     ];
     tally.report("console", &wanted);
@@ -266,6 +323,8 @@ fn the_binary_reads_book_bin_and_standard_input() {
     let book = bytes_of(&test_tabulation());
     let listing = LISTING_INPUT.as_bytes();
     assert_eq!(run_binary("listing", Some(&book), listing), LISTING_OUTPUT.as_bytes());
+    let tiers = TIERS_INPUT.as_bytes();
+    assert_eq!(run_binary("tiers", Some(&book), tiers), TIERS_OUTPUT.as_bytes());
     assert_eq!(run_binary("no-input", Some(&book), b""), b"E,1\n");
     assert_eq!(run_binary("no-book", None, listing), b"B\n");
     assert_eq!(run_binary("short-book", Some(&book[1..]), listing), b"B\n");

@@ -1,5 +1,6 @@
-//! Damage of single words: check finds it, unless the damaged words are the image of another set.
-//! Which words are images is told by a table of the images of all sets over a few keys.
+//! Damage of single words, tier words included: check finds it, unless the damaged words are the
+//! image of another set. Which words are images is told by a table of the images of all sets over a
+//! few keys and tiers.
 
 use std::collections::BTreeMap;
 
@@ -8,21 +9,23 @@ use reference::calls::check;
 use reference::image::{Engine, Slow};
 use reference::rng::Rng;
 use reference::samples::chosen_tabulation;
+use reference::set::Member;
 
-use crate::common::{engines, hand_words, subset, Tally};
+use crate::common::{all_sets, engines, hand_words, tier_words, Tally};
 
 /// The answer of check, the same from both engines.
 fn checked(tabulation: &[u16], words: &[u32]) -> Result<(), Refusal> {
-    let mut scratch = vec![1; 8 * 1_024 + 4 * 64];
+    let mut scratch = vec![1; 12 * 1_024 + 8 * 64];
     let [slow, fast] = engines().map(|(_, engine)| check(&engine, tabulation, words, &mut scratch));
     assert_eq!(slow, fast);
     slow
 }
 
-/// A small board: its tabulation and the images of all sets of keys from 1 to 5.
+/// A small board: its tabulation and the images of all sets of keys from 1 to 5 with tiers from 0
+/// to 2.
 struct Images {
     tabulation: Vec<u16>,
-    sets: BTreeMap<Vec<u32>, Vec<u32>>,
+    sets: BTreeMap<Vec<u32>, Vec<Member>>,
 }
 
 impl Images {
@@ -31,12 +34,26 @@ impl Images {
         let ends: Vec<[u16; 2]> =
             (0..6).map(|_| [rng.below(2) as u16, rng.below(2) as u16]).collect();
         let tabulation = chosen_tabulation(&ends);
-        let keys: Vec<u32> = (1..=5).collect();
-        let images = (0..1 << keys.len()).filter_map(|mask| {
-            let set = subset(&keys, mask);
-            Some((Slow.image(&tabulation, r, s, &set)?, set))
-        });
-        Images { sets: images.collect(), tabulation }
+        let sets = all_sets(&[1, 2, 3, 4, 5], &[0, 1, 2]);
+        let images = sets
+            .into_iter()
+            .filter_map(|set| Some((Slow.image(&tabulation, r, s, &set)?, set)))
+            .collect();
+        Images { sets: images, tabulation }
+    }
+
+    /// The image of the empty set and some others.
+    fn some(&self, rng: &mut Rng) -> Vec<(&Vec<u32>, &Vec<Member>)> {
+        self.sets.iter().filter(|(_, set)| set.is_empty() || rng.one_in(16)).collect()
+    }
+}
+
+/// What kind of word this is, for the tally.
+fn kind(words: &[u32], at: usize) -> &'static str {
+    match tier_words(words).into_iter().find(|&(tier_at, _)| tier_at == at) {
+        Some((_, key_at)) if words[key_at] == 0 => "tier beside no key",
+        Some(_) => "tier beside a key",
+        None => "other word",
     }
 }
 
@@ -46,24 +63,42 @@ fn a_damaged_word_is_found_unless_the_words_are_another_image() {
     let mut tally = Tally::default();
     for _ in 0..16 {
         let images = Images::new(&mut rng);
-        for (words, set) in &images.sets {
+        for (words, set) in images.some(&mut rng) {
             assert_eq!(checked(&images.tabulation, words), Ok(()));
             for at in 2..words.len() {
-                // Values of the few keys, so that the table of images tells the answer.
-                for value in (0..=5).filter(|&value| value != words[at]) {
+                // Values of the few keys and tiers, and tiers above 7, so that the table of images
+                // tells the answer.
+                let kind = kind(words, at);
+                let values = if kind == "other word" {
+                    [0, 1, 2, 3, 4, 5]
+                } else {
+                    [0, 1, 2, 8, 9, u32::MAX]
+                };
+                for value in values.into_iter().filter(|&value| value != words[at]) {
                     let mut damaged = words.clone();
                     damaged[at] = value;
                     let other = images.sets.get(&damaged);
                     assert_ne!(other, Some(set));
                     let expected = other.map(|_| ()).ok_or(Refusal::NotCanonical);
                     assert_eq!(checked(&images.tabulation, &damaged), expected, "{damaged:?}");
-                    tally.add(if other.is_some() { "another image" } else { "found" });
+                    let outcome = if other.is_some() { "another image" } else { "found" };
+                    tally.add(format!("{kind}: {outcome}"));
+                    assert!(kind != "tier beside no key" || other.is_none());
                 }
             }
+            tally.add("images");
         }
-        tally.add_many("images", images.sets.len());
+        tally.add_many("table of images", images.sets.len());
     }
-    tally.report("damaged words", &["images", "found", "another image"]);
+    let wanted = [
+        "images",
+        "other word: found",
+        "other word: another image",
+        "tier beside a key: found",
+        "tier beside a key: another image",
+        "tier beside no key: found",
+    ];
+    tally.report("damaged words", &wanted);
 }
 
 #[test]
@@ -72,30 +107,73 @@ fn any_value_in_a_word_is_found_unless_the_words_are_another_image() {
     let mut tally = Tally::default();
     for _ in 0..16 {
         let images = Images::new(&mut rng);
-        for (words, set) in &images.sets {
-            let stash_at = 4 + 4 * words[0] as usize;
+        for (words, set) in images.some(&mut rng) {
             for at in 2..words.len() {
                 let value = words[at]
-                    ^ if rng.one_in(2) { rng.next_u32().max(1) } else { 1 << rng.below(32) };
+                    ^ match rng.below(4) {
+                        0 => rng.next_u32().max(1),
+                        1 => 1 << rng.below(32),
+                        _ => 1 + rng.below(7) as u32,
+                    };
                 let mut damaged = words.clone();
                 damaged[at] = value;
-                if checked(&images.tabulation, &damaged) == Err(Refusal::NotCanonical) {
-                    tally.add("found");
-                    continue;
-                }
-                // Only a stash key stands in a single word, so only that can turn into another set.
-                assert!(at >= stash_at && words[at] != 0);
-                let other: Vec<u32> =
-                    set.iter().map(|&key| if key == words[at] { value } else { key }).collect();
-                assert_eq!(
-                    Slow.image(&images.tabulation, words[0], words[1], &other),
-                    Some(damaged)
-                );
-                tally.add("another image");
+                let answer = checked(&images.tabulation, &damaged);
+                assert_eq!(answer, expected_of(&images.tabulation, words, set, at, value));
+                let outcome = if answer.is_ok() { "another image" } else { "found" };
+                tally.add(format!("{}: {outcome}", kind(words, at)));
             }
         }
     }
-    tally.report("damaged words, any value", &["found", "another image"]);
+    let wanted = [
+        "other word: found",
+        "other word: another image",
+        "tier beside a key: found",
+        "tier beside a key: another image",
+        "tier beside no key: found",
+    ];
+    tally.report("damaged words, any value", &wanted);
+}
+
+/// What check should answer with this value in one word of the image of a set.
+///
+/// Only a stash key, or the tier of a key that stands in one place only, is told by a single word;
+/// only with such a word changed can the words be the image of another set.
+fn expected_of(
+    tabulation: &[u16],
+    words: &[u32],
+    set: &[Member],
+    at: usize,
+    value: u32,
+) -> Result<(), Refusal> {
+    let stash_at = 4 + 6 * words[0] as usize;
+    let key_words: Vec<usize> = tier_words(words).into_iter().map(|(_, key_at)| key_at).collect();
+    let beside = tier_words(words).into_iter().find(|&(tier_at, _)| tier_at == at);
+    let mut other = set.to_vec();
+    let mut damaged = words.to_vec();
+    damaged[at] = value;
+    if let Some((_, key_at)) = beside {
+        let key = words[key_at];
+        let copies = key_words.iter().filter(|&&key_at| words[key_at] == key).count();
+        let is_set = key != 0 && copies == 1 && value <= 7;
+        let found = other.iter_mut().filter(|member| member.0 == key);
+        found.for_each(|member| member.1 = value);
+        if is_set {
+            let image = Slow.image(tabulation, words[0], words[1], &other);
+            assert_eq!(image, Some(damaged), "tiers decide over no place");
+        }
+        return if is_set { Ok(()) } else { Err(Refusal::NotCanonical) };
+    }
+    if !key_words.contains(&at) || at < stash_at || words[at] == 0 {
+        return Err(Refusal::NotCanonical);
+    }
+    let found = other.iter_mut().filter(|member| member.0 == words[at]);
+    found.for_each(|member| member.0 = value);
+    let image = Slow.image(tabulation, words[0], words[1], &other);
+    if image == Some(damaged) {
+        Ok(())
+    } else {
+        Err(Refusal::NotCanonical)
+    }
 }
 
 #[test]
@@ -104,10 +182,10 @@ fn damage_of_r_or_s_alone_is_a_wrong_shape() {
     let mut tally = Tally::default();
     for _ in 0..16 {
         let images = Images::new(&mut rng);
-        for words in images.sets.keys() {
+        for (words, _) in images.some(&mut rng) {
             for at in 0..2 {
                 // A length fixes r once s is given, and s once r is: no other value keeps the
-                // shape. The last two would, if 4 + 4r + s wrapped at 32 bits.
+                // shape. The last would, if 4 + 6r + 2s wrapped at 32 bits.
                 let far = [1_024, 1_025, u32::MAX, words[at] ^ 1 << 30, words[at] ^ 1 << 31];
                 for value in (0..70).chain(far).filter(|&value| value != words[at]) {
                     let mut damaged = words.clone();
@@ -131,13 +209,15 @@ fn damage_of_r_and_s_together_can_keep_the_shape() {
     let tabulation = chosen_tabulation(&[]);
     let empty = hand_words(2, 1, 0, &[], &[]);
     let mut turned = empty.clone();
-    turned[..2].copy_from_slice(&[1, 5]);
+    turned[..2].copy_from_slice(&[1, 4]);
     assert_eq!(
         checked(&tabulation, &turned),
         Ok(()),
         "the image of the empty set of another shape"
     );
-    let mut turned = Slow.image(&tabulation, 2, 1, &[3]).unwrap();
-    turned[..2].copy_from_slice(&[1, 5]);
-    assert_eq!(checked(&tabulation, &turned), Err(Refusal::NotCanonical));
+    for tier in [0, 2, 7] {
+        let mut turned = Slow.image(&tabulation, 2, 1, &[(3, tier)]).unwrap();
+        turned[..2].copy_from_slice(&[1, 4]);
+        assert_eq!(checked(&tabulation, &turned), Err(Refusal::NotCanonical));
+    }
 }

@@ -1,7 +1,7 @@
 //! Document 01's "Other edges", the exact lengths, look-ups in damaged words, the stash view as
 //! part of the borrowed words, and the counters at their end.
 
-use reference::answer::Refusal;
+use reference::answer::{Found, Refusal};
 use reference::calls::{check, init, insert, lookup, remove, stash, stash_answer};
 use reference::counters::Counters;
 use reference::fast::{self, Fast};
@@ -9,6 +9,25 @@ use reference::house::HOUSE;
 use reference::samples::test_tabulation;
 
 use crate::common::{engines, hand_words, Harness};
+
+/// The scratch is long enough from 12r + 8s on.
+#[test]
+fn the_scratch_needs_its_full_length() {
+    for (_, engine) in engines() {
+        for (r, s, enough) in [(1, 0, 12), (1, 1, 20), (4, 1, 56), (2, 3, 48)] {
+            let mut list = Harness::new(engine, &test_tabulation(), r, s);
+            assert_eq!(list.scratch_len, enough);
+            list.scratch_len -= 1;
+            assert_eq!(list.insert(5, 1), Err(Refusal::ShortScratch));
+            assert_eq!(list.remove(5), Err(Refusal::ShortScratch));
+            assert_eq!(list.check(), Err(Refusal::ShortScratch));
+            list.scratch_len += 1;
+            assert_eq!(list.insert(5, 1), Ok(()));
+            assert_eq!(list.check(), Ok(()));
+            assert_eq!(list.remove(5), Ok(()));
+        }
+    }
+}
 
 /// The answer of init and the words it leaves, which all held 9 before.
 fn init_on(r: u32, s: u32, len: usize) -> (Result<(), Refusal>, Vec<u32>) {
@@ -23,30 +42,36 @@ fn init_on(r: u32, s: u32, len: usize) -> (Result<(), Refusal>, Vec<u32>) {
 #[test]
 fn init_leaves_r_s_and_zeros() {
     for (r, s) in [(1, 0), (1, 1), (3, 7), (1_024, 64), (1_024, 0), (1, 64)] {
-        let (answer, words) = init_on(r, s, (4 + 4 * r + s) as usize);
+        let (answer, words) = init_on(r, s, (4 + 6 * r + 2 * s) as usize);
         assert_eq!(answer, Ok(()));
         assert_eq!(words, hand_words(r, s, 0, &[], &[]));
     }
-    assert_eq!(init_on(1, 1, 9).0, Ok(()), "9 words with r = 1, s = 1");
+    assert_eq!(init_on(1, 1, 12).0, Ok(()), "12 words with r = 1, s = 1");
 }
 
 #[test]
 fn init_refuses_other_shapes_and_leaves_the_words() {
     let shapes = [
-        (1_025, 64, 4 + 4 * 1_025 + 64),
-        (1_024, 65, 4 + 4 * 1_024 + 65),
-        (0, 1, 5),
+        (1_025, 64, 4 + 6 * 1_025 + 2 * 64),
+        (1_024, 65, 4 + 6 * 1_024 + 2 * 65),
+        (0, 1, 6),
         (0, 0, 4),
         (0, 0, 0),
-        (1, 1, 8),
-        (1, 1, 10),
+        (1, 1, 11),
+        (1, 1, 13),
         (1, 1, 0),
         (1, 1, 3),
+        // The lengths without tiers.
+        (1, 1, 9),
+        (1, 0, 8),
+        (1_024, 64, 4 + 4 * 1_024 + 64),
         (u32::MAX, 0, 0),
-        (1, u32::MAX, 7),
-        // In 32-bit arithmetic 4 + 4r + s would wrap to the length of r = 1, s = 1.
-        (1 + (1 << 30), 1, 9),
-        (2, u32::MAX - 2, 9),
+        (1, u32::MAX, 8),
+        // In 32-bit arithmetic 4 + 6r + 2s would wrap to the length of r = 1, s = 1.
+        (1 + (1 << 31), 1, 12),
+        (1, 1 + (1 << 31), 12),
+        (2, u32::MAX - 1, 12),
+        (2, (1 << 31) - 2, 12),
     ];
     for (r, s, len) in shapes {
         assert_eq!(init_on(r, s, len), (Err(Refusal::WrongShape), vec![9; len]), "{r} {s} {len}");
@@ -57,10 +82,10 @@ fn init_refuses_other_shapes_and_leaves_the_words() {
 fn the_largest_list_and_the_largest_key_are_accepted() {
     for (_, engine) in engines() {
         let mut list = Harness::new(engine, &HOUSE, 1_024, 64);
-        assert_eq!(list.insert(u32::MAX), Ok(()));
+        assert_eq!(list.insert(u32::MAX, 7), Ok(()));
         assert_eq!(list.check(), Ok(()));
-        assert_eq!(lookup(&HOUSE, &list.words, u32::MAX), Ok(true));
-        assert_eq!(lookup(&HOUSE, &list.words, u32::MAX - 1), Ok(false));
+        assert_eq!(lookup(&HOUSE, &list.words, u32::MAX), Ok(Found::Listed(7)));
+        assert_eq!(lookup(&HOUSE, &list.words, u32::MAX - 1), Ok(Found::Absent));
         assert_eq!(list.words[2..4], [1, 0]);
         assert_eq!(list.remove(u32::MAX), Ok(()));
         assert_eq!(list.words, hand_words(1_024, 64, 0, &[], &[]));
@@ -68,7 +93,7 @@ fn the_largest_list_and_the_largest_key_are_accepted() {
 }
 
 /// Both ways to look a key up; they must agree.
-fn found(words: &[u32], key: u32) -> Result<bool, Refusal> {
+fn found(words: &[u32], key: u32) -> Result<Found, Refusal> {
     let found = lookup(&test_tabulation(), words, key);
     assert_eq!(found, fast::lookup(&test_tabulation(), words, key));
     found
@@ -76,33 +101,37 @@ fn found(words: &[u32], key: u32) -> Result<bool, Refusal> {
 
 #[test]
 fn lookup_reads_its_slots_and_all_stash_words_of_a_damaged_list() {
-    // Key 17 stands in a slot of another key, in a next word, and in the header: all not seen.
-    let words = hand_words(4, 3, 17, &[(0, 2, 17, 17), (1, 3, 5, 17)], &[]);
-    assert_eq!(found(&words, 17), Ok(false));
+    // Key 17 stands in a slot of another key, in a next word, in tier words and in the header: all
+    // not seen.
+    let entries = [(0, 2, 17, 17, 1), (1, 3, 5, 17, 17), (0, 1, 5, 5, 17), (1, 1, 0, 0, 17)];
+    let words = hand_words(4, 3, 17, &entries, &[(5, 17), (0, 17), (6, 17)]);
+    assert_eq!(found(&words, 17), Ok(Found::Absent));
     // In either of its own slots alone, whatever the counts say: seen.
-    assert_eq!(found(&hand_words(4, 3, 0, &[(0, 1, 17, 0)], &[]), 17), Ok(true));
-    assert_eq!(found(&hand_words(4, 3, 0, &[(1, 1, 17, 0)], &[]), 17), Ok(true));
-    // In the last stash word beyond what word 3 says: seen.
+    let in_table_0 = hand_words(4, 3, 0, &[(0, 1, 17, 0, 2)], &[]);
+    assert_eq!(found(&in_table_0, 17), Ok(Found::Listed(2)));
+    let in_table_1 = hand_words(4, 3, 0, &[(1, 1, 17, 0, 3)], &[]);
+    assert_eq!(found(&in_table_1, 17), Ok(Found::Listed(3)));
+    // In the last stash place beyond what word 3 says: seen.
     let mut words = hand_words(4, 3, 0, &[], &[]);
-    words[22] = 17;
-    assert_eq!(words[3], 0);
-    assert_eq!(found(&words, 17), Ok(true));
+    words[32..].copy_from_slice(&[17, 4]);
+    assert_eq!((words[3], words.len()), (0, 34));
+    assert_eq!(found(&words, 17), Ok(Found::Listed(4)));
     assert_eq!(found(&words, 0), Err(Refusal::BlankKey));
 }
 
 #[test]
 fn the_stash_view_is_the_filled_part_of_the_borrowed_words() {
     let mut words = hand_words(2, 3, 0, &[], &[]);
-    words[12..].copy_from_slice(&[9, 8, 7]);
+    words[16..].copy_from_slice(&[9, 1, 8, 0, 7, 99]);
     // The view trusts word 3, also in words that are no image.
     for filled in 0..=3 {
         words[3] = filled;
         let view = stash(&words);
         assert_eq!(stash_answer(&words), Ok(()));
-        assert_eq!(view, &[9, 8, 7][..filled as usize]);
-        assert!(std::ptr::eq(view.as_ptr(), &words[12]), "no copy");
+        assert_eq!(view, &[9, 1, 8, 0, 7, 99][..2 * filled as usize], "both words of each place");
+        assert!(std::ptr::eq(view.as_ptr(), &words[16]), "no copy");
     }
-    for beyond in [4, 64, u32::MAX] {
+    for beyond in [4, 6, 64, 1 << 31, u32::MAX] {
         words[3] = beyond;
         assert_eq!(stash_answer(&words), Err(Refusal::NotCanonical));
         assert!(stash(&words).is_empty());
@@ -121,14 +150,18 @@ fn counters_stay_at_their_end_and_nothing_depends_on_them() {
     let almost = Counters { done: u32::MAX - 1, refused: u32::MAX - 1 };
     for (start, done) in [(full, u32::MAX), (almost, u32::MAX)] {
         let mut counters = start;
-        let mut words = vec![0; 9];
-        let mut scratch = vec![1; 12];
+        let mut words = vec![0; 12];
+        let mut scratch = vec![1; 20];
         assert_eq!(init(1, 1, &mut words, &mut counters), Ok(()));
         assert_eq!(counters, Counters { done, refused: start.refused });
         let tabulation = test_tabulation();
-        assert_eq!(insert(&Fast, &tabulation, &mut words, &mut scratch, &mut counters, 5), Ok(()));
+        let inserted = insert(&Fast, &tabulation, &mut words, &mut scratch, &mut counters, 5, 6);
+        assert_eq!(inserted, Ok(()));
         assert_eq!(remove(&Fast, &tabulation, &mut words, &mut scratch, &mut counters, 5), Ok(()));
         assert_eq!(counters, Counters { done, refused: start.refused });
+        let refused = insert(&Fast, &tabulation, &mut words, &mut scratch, &mut counters, 5, 8);
+        assert_eq!(refused, Err(Refusal::WrongTier));
+        assert_eq!(counters, full);
         let refused = remove(&Fast, &tabulation, &mut words, &mut scratch, &mut counters, 5);
         assert_eq!(refused, Err(Refusal::NotListed));
         assert_eq!(counters, full);

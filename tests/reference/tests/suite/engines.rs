@@ -3,6 +3,7 @@
 
 use std::collections::{BTreeMap, BTreeSet};
 
+use reference::answer::Found;
 use reference::calls::{check, lookup};
 use reference::fast::{self, Fast};
 use reference::graph::{components, edges, reachable, simple_cycles, Edge};
@@ -10,15 +11,21 @@ use reference::hash::hashes;
 use reference::house::HOUSE;
 use reference::image::{next_keys, Engine, Slow};
 use reference::rng::Rng;
-use reference::samples::{chosen_tabulation, random_keys, random_tabulation};
+use reference::samples::{
+    chosen_tabulation, random_keys, random_tabulation, random_tier, random_tiers,
+};
+use reference::set::{members, set, Member, Set};
 
 use crate::common::{Harness, Tally};
 
 /// Compares the engines for one set and says what kinds of board it was.
-fn compare(tabulation: &[u16], r: u32, s: u32, keys: &[u32], tally: &mut Tally) {
-    let image = Slow.image(tabulation, r, s, keys);
-    assert_eq!(image, Fast.image(tabulation, r, s, keys), "r {r}, s {s}, {keys:?}");
+fn compare(tabulation: &[u16], r: u32, s: u32, members: &[Member], tally: &mut Tally) {
+    let image = Slow.image(tabulation, r, s, members);
+    assert_eq!(image, Fast.image(tabulation, r, s, members), "r {r}, s {s}, {members:?}");
     tally.add("boards");
+    if members.iter().any(|&(_, tier)| tier != 0) {
+        tally.add("with tiers");
+    }
     match image {
         None => tally.add("without image"),
         Some(words) if words[3] > 0 => tally.add("with stash"),
@@ -44,10 +51,12 @@ fn fast_and_slow_agree_on_random_small_boards() {
                 _ => tally.add("components: more cycles"),
             }
         }
-        compare(&tabulation, r, s, &keys, &mut tally);
+        let members = random_tiers(&mut rng, &keys);
+        compare(&tabulation, r, s, &members, &mut tally);
     }
     let wanted = [
         "boards",
+        "with tiers",
         "without image",
         "with stash",
         "without stash",
@@ -63,7 +72,6 @@ fn fast_and_slow_agree_under_all_hashes() {
     let mut tally = Tally::default();
     for (r, most_keys) in [(1usize, 6), (2, 6), (3, 4)] {
         for count in 0..=most_keys {
-            let keys: Vec<u32> = (1..=count as u32).collect();
             for number in 0..(r * r).pow(count as u32) {
                 let mut ends = vec![[0, 0]];
                 let mut left = number;
@@ -72,11 +80,15 @@ fn fast_and_slow_agree_under_all_hashes() {
                     left /= r * r;
                 }
                 let s = (number % 5) as u32;
-                compare(&chosen_tabulation(&ends), r as u32, s, &keys, &mut tally);
+                // The tiers change with the board and from key to key.
+                let tier = |key: u32| (number as u32 + 3 * key) % 8;
+                let members: Vec<Member> = (1..=count as u32).map(|key| (key, tier(key))).collect();
+                compare(&chosen_tabulation(&ends), r as u32, s, &members, &mut tally);
             }
         }
     }
-    tally.report("all hashes", &["boards", "without image", "with stash", "without stash"]);
+    let wanted = ["boards", "with tiers", "without image", "with stash", "without stash"];
+    tally.report("all hashes", &wanted);
 }
 
 #[test]
@@ -86,7 +98,8 @@ fn fast_and_slow_agree_on_larger_sparse_boards() {
     for _ in 0..1_000 {
         let tabulation = random_tabulation(&mut rng, 65_536);
         let keys = random_keys(&mut rng, 28);
-        compare(&tabulation, 32, 1, &keys, &mut tally);
+        let members = random_tiers(&mut rng, &keys);
+        compare(&tabulation, 32, 1, &members, &mut tally);
     }
     tally.report("sparse boards", &["boards", "with stash", "without stash"]);
 }
@@ -95,22 +108,27 @@ fn fast_and_slow_agree_on_larger_sparse_boards() {
 fn engines_give_no_image_where_no_list_is() {
     let tabulation = vec![0; 2_048];
     for engine in [&Slow as &dyn Engine, &Fast] {
-        for (len, r, s, keys) in [
-            (2_047, 1, 1, &[1][..]),
-            (2_048, 0, 1, &[1]),
-            (2_048, 1_025, 1, &[1]),
-            (2_048, 1, 65, &[1]),
-            (2_048, 1, 1, &[0, 1]),
-            (2_048, 1, 1, &[1, 2, 3, 4]),
+        for (len, r, s, members) in [
+            (2_047, 1, 1, &[(1, 0)][..]),
+            (2_048, 0, 1, &[(1, 0)]),
+            (2_048, 1_025, 1, &[(1, 0)]),
+            (2_048, 1, 65, &[(1, 0)]),
+            (2_048, 1, 1, &[(0, 0), (1, 0)]),
+            (2_048, 1, 1, &[(1, 1), (0, 5)]),
+            (2_048, 1, 1, &[(1, 0), (2, 0), (3, 0), (4, 0)]),
+            (2_048, 1, 1, &[(1, 8)]),
+            (2_048, 1, 1, &[(1, 0), (2, u32::MAX)]),
+            (2_048, 1, 1, &[(1, 0), (1, 1)]),
+            (2_048, 1, 1, &[(1, 5), (2, 5), (1, 4)]),
         ] {
-            assert_eq!(engine.image(&tabulation[..len], r, s, keys), None);
+            assert_eq!(engine.image(&tabulation[..len], r, s, members), None, "{members:?}");
         }
-        let ordered = engine.image(&tabulation, 1, 1, &[1, 2, 3]);
+        let ordered = engine.image(&tabulation, 1, 1, &[(1, 7), (2, 0), (3, 6)]);
         assert!(ordered.is_some());
         assert_eq!(
-            engine.image(&tabulation, 1, 1, &[3, 1, 2, 3, 1]),
+            engine.image(&tabulation, 1, 1, &[(3, 6), (1, 7), (2, 0), (3, 6), (1, 7)]),
             ordered,
-            "any order, each key once"
+            "any order, each member once"
         );
     }
 }
@@ -129,26 +147,21 @@ fn cycle_rank(component: &[Edge]) -> usize {
 
 /// Checks words against the image rule a third way: no list of cycles, no assignment of its own.
 /// Says how many components of each kind there were.
-fn check_by_rule(
-    tabulation: &[u16],
-    r: u32,
-    s: u32,
-    keys: &[u32],
-    words: &[u32],
-    tally: &mut Tally,
-) {
-    let stash_at = 4 + 4 * r as usize;
+fn check_by_rule(tabulation: &[u16], r: u32, s: u32, set: &Set, words: &[u32], tally: &mut Tally) {
+    let stash_at = 4 + 6 * r as usize;
     let mut entries: BTreeMap<u32, Vec<(usize, u32)>> = BTreeMap::new();
     for slot in 0..2 * r as usize {
-        let (key, next) = (words[4 + 2 * slot], words[5 + 2 * slot]);
+        let (key, next, tier) = (words[4 + 3 * slot], words[5 + 3 * slot], words[6 + 3 * slot]);
         if key == 0 {
-            assert_eq!(next, 0, "an empty slot is 0, 0");
+            assert_eq!((next, tier), (0, 0), "an empty slot is 0, 0, 0");
         } else {
+            assert_eq!(tier, set[&key], "the tier is that of the key in each of its slots");
             entries.entry(key).or_default().push((slot, next));
         }
     }
+    let keys: Vec<u32> = set.keys().copied().collect();
     let mut stash = BTreeSet::new();
-    for mut kept in components(&edges(tabulation, r, keys).unwrap()) {
+    for mut kept in components(&edges(tabulation, r, &keys).unwrap()) {
         while cycle_rank(&kept) > 1 {
             let largest = kept
                 .iter()
@@ -187,8 +200,8 @@ fn check_by_rule(
     }
     assert!(entries.is_empty(), "nothing else is stored");
     assert_eq!(words[..4], [r, s, keys.len() as u32, stash.len() as u32]);
-    let mut places: Vec<u32> = stash.into_iter().collect();
-    places.resize(s as usize, 0);
+    let mut places: Vec<u32> = stash.into_iter().flat_map(|key| [key, set[&key]]).collect();
+    places.resize(2 * s as usize, 0);
     assert_eq!(words[stash_at..], places);
 }
 
@@ -206,12 +219,13 @@ fn images_obey_the_rule_checked_a_third_way() {
         };
         let tabulation = random_tabulation(&mut rng, 1_000);
         let keys = random_keys(&mut rng, count);
-        let Some(words) = Fast.image(&tabulation, r as u32, 64, &keys) else {
+        let members = random_tiers(&mut rng, &keys);
+        let Some(words) = Fast.image(&tabulation, r as u32, 64, &members) else {
             panic!("64 places are enough")
         };
-        check_by_rule(&tabulation, r as u32, 64, &keys, &words, &mut tally);
+        check_by_rule(&tabulation, r as u32, 64, &set(&members).unwrap(), &words, &mut tally);
         if board % 2 == 0 {
-            assert_eq!(Slow.image(&tabulation, r as u32, 64, &keys), Some(words));
+            assert_eq!(Slow.image(&tabulation, r as u32, 64, &members), Some(words));
         }
         tally.add("boards");
     }
@@ -236,36 +250,37 @@ fn full_size_lists_hold_together() {
     let mixed = random_tabulation(&mut rng, 65_536);
     for tabulation in [&HOUSE[..], &mixed] {
         let mut list = Harness::new(&Fast, tabulation, 1_024, 64);
-        let mut listed = BTreeSet::new();
+        let mut listed = Set::new();
         for key in many_keys(&mut rng, 1_500) {
-            match list.insert(key) {
-                Ok(()) => assert!(listed.insert(key)),
+            let tier = random_tier(&mut rng);
+            match list.insert(key, tier) {
+                Ok(()) => assert_eq!(listed.insert(key, tier), None),
                 Err(refusal) => assert_eq!(refusal.number(), 8),
             }
-            tally.add(if listed.contains(&key) { "inserted" } else { "refused" });
+            tally.add(if listed.contains_key(&key) { "inserted" } else { "refused" });
         }
-        for &key in &listed {
-            assert_eq!(lookup(tabulation, &list.words, key), Ok(true));
-            assert_eq!(fast::lookup(tabulation, &list.words, key), Ok(true));
-            let absent = rng.next_u32().max(1);
-            let is_listed = listed.contains(&absent);
-            assert_eq!(fast::lookup(tabulation, &list.words, absent), Ok(is_listed));
+        let found = |key: u32| listed.get(&key).map_or(Found::Absent, |&tier| Found::Listed(tier));
+        for (&key, &tier) in &listed {
+            assert_eq!(lookup(tabulation, &list.words, key), Ok(Found::Listed(tier)));
+            assert_eq!(fast::lookup(tabulation, &list.words, key), Ok(Found::Listed(tier)));
+            let other = rng.next_u32().max(1);
+            assert_eq!(fast::lookup(tabulation, &list.words, other), Ok(found(other)));
         }
         tally.add_many("stash keys", list.words[3] as usize);
-        let keys: Vec<u32> = listed.into_iter().collect();
-        assert_eq!(Fast.image(tabulation, 1_024, 64, &keys).as_ref(), Some(&list.words));
-        let mut scratch = vec![3; 8 * 1_024 + 4 * 64];
+        let listed = members(&listed);
+        assert_eq!(Fast.image(tabulation, 1_024, 64, &listed).as_ref(), Some(&list.words));
+        let mut scratch = vec![3; 12 * 1_024 + 8 * 64];
         assert_eq!(check(&Fast, tabulation, &list.words, &mut scratch), Ok(()));
         // Take out every second key, and the list is that of the others put in afresh.
-        let mut leaving: Vec<u32> = keys.iter().copied().step_by(2).collect();
+        let mut leaving: Vec<Member> = listed.iter().copied().step_by(2).collect();
         rng.shuffle(&mut leaving);
-        for key in leaving {
+        for (key, _) in leaving {
             assert_eq!(list.remove(key), Ok(()));
             tally.add("removed");
         }
         let mut others = Harness::new(&Fast, tabulation, 1_024, 64);
-        for key in keys.iter().copied().skip(1).step_by(2) {
-            assert_eq!(others.insert(key), Ok(()));
+        for (key, tier) in listed.iter().copied().skip(1).step_by(2) {
+            assert_eq!(others.insert(key, tier), Ok(()));
         }
         assert_eq!(list.words, others.words);
     }

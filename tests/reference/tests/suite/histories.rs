@@ -1,41 +1,64 @@
 //! History independence: two random histories that end at one set leave the same words, and words
 //! of different sets differ.
 
-use std::collections::{BTreeMap, BTreeSet};
+use std::collections::BTreeMap;
 
+use reference::answer::Refusal;
 use reference::image::{Engine, Slow};
 use reference::rng::Rng;
-use reference::samples::{chosen_tabulation, random_keys, random_tabulation};
+use reference::samples::{
+    chosen_tabulation, random_keys, random_tabulation, random_tier, random_tiers,
+};
+use reference::set::{members, Member, Set};
 
-use crate::common::{engines, subset, Harness, Tally};
+use crate::common::{all_sets, engines, subset, Harness, Tally};
 
-/// Brings the list to a set by inserts in random order, with detours over keys of other sets.
+/// One step of a history: takes the key out if it is listed, else puts it in. Before it is taken
+/// out, it is now and then put in once more, which must be refused and change nothing.
+fn step(list: &mut Harness, now: &mut Set, (key, tier): Member, rng: &mut Rng, tally: &mut Tally) {
+    if let Some(&listed) = now.get(&key) {
+        if rng.one_in(3) {
+            let refusal = if tier == listed { Refusal::Listed } else { Refusal::OtherTier };
+            assert_eq!(list.insert(key, tier), Err(refusal));
+            tally.add(format!("put in once more, {}", refusal.number()));
+        }
+        assert_eq!(list.remove(key), Ok(()));
+        now.remove(&key);
+    } else if list.insert(key, tier).is_ok() {
+        now.insert(key, tier);
+    } else {
+        tally.add("refused on the way");
+    }
+}
+
+/// Brings the list to a set by inserts in random order, with detours over other keys and over the
+/// set's keys with other tiers.
 fn random_history(
     list: &mut Harness,
-    target: &[u32],
+    target: &[Member],
     others: &[u32],
     rng: &mut Rng,
     tally: &mut Tally,
 ) {
-    let target: BTreeSet<u32> = target.iter().copied().collect();
-    let mut now = BTreeSet::new();
+    let target: Set = target.iter().copied().collect();
+    let everything: Vec<u32> = target.keys().chain(others).copied().collect();
+    let mut now = Set::new();
     let mut detours = rng.below(25);
     let mut steps = 0;
     while detours > 0 || now != target {
         steps += 1;
         assert!(steps < 2_000, "a set that has an image can be reached");
-        let everything: Vec<u32> = target.iter().chain(others).copied().collect();
-        let goal: Vec<u32> = target.symmetric_difference(&now).copied().collect();
-        let key = if detours > 0 { rng.pick(&everything) } else { rng.pick(&goal) };
-        detours = detours.saturating_sub(1);
-        if now.contains(&key) {
-            assert_eq!(list.remove(key), Ok(()));
-            now.remove(&key);
-        } else if list.insert(key).is_ok() {
-            now.insert(key);
+        let member = if detours > 0 {
+            (rng.pick(&everything), random_tier(rng))
         } else {
-            tally.add("refused on the way");
-        }
+            let wrong =
+                members(&now).into_iter().filter(|(key, tier)| target.get(key) != Some(tier));
+            let missing = members(&target).into_iter().filter(|(key, _)| !now.contains_key(key));
+            let goal: Vec<Member> = wrong.chain(missing).collect();
+            rng.pick(&goal)
+        };
+        detours = detours.saturating_sub(1);
+        step(list, &mut now, member, rng, tally);
     }
     tally.add_many("steps", steps);
 }
@@ -49,9 +72,10 @@ fn two_histories_of_one_set_leave_one_list() {
             let (r, s) = (1 + rng.below(4) as u32, rng.below(4) as u32);
             let tabulation = random_tabulation(&mut rng, 5);
             let keys = random_keys(&mut rng, 9);
-            let target: Vec<u32> = subset(&keys, rng.below(1 << 9));
+            let target_keys = subset(&keys, rng.below(1 << 9));
             let others: Vec<u32> =
-                keys.iter().copied().filter(|key| !target.contains(key)).collect();
+                keys.iter().copied().filter(|key| !target_keys.contains(key)).collect();
+            let target = random_tiers(&mut rng, &target_keys);
             let Some(image) = Slow.image(&tabulation, r, s, &target) else {
                 continue;
             };
@@ -67,8 +91,15 @@ fn two_histories_of_one_set_leave_one_list() {
             tally.add(if image[3] > 0 { "ends with stash" } else { "ends without stash" });
         }
     }
-    let wanted =
-        ["histories", "steps", "refused on the way", "ends with stash", "ends without stash"];
+    let wanted = [
+        "histories",
+        "steps",
+        "refused on the way",
+        "put in once more, 6",
+        "put in once more, 10",
+        "ends with stash",
+        "ends without stash",
+    ];
     tally.report("histories", &wanted);
 }
 
@@ -76,16 +107,20 @@ fn two_histories_of_one_set_leave_one_list() {
 fn different_sets_have_different_images() {
     let mut rng = Rng::new(52);
     let mut tally = Tally::default();
+    // Sets of many keys, and sets of few keys that differ in their tiers.
     let keys: Vec<u32> = (1..=7).collect();
+    let mut sets = all_sets(&keys, &[0]);
+    sets.extend(all_sets(&keys[..4], &[1, 5, 7]));
+    sets.sort();
+    sets.dedup();
     for _ in 0..12 {
         let ends: Vec<[u16; 2]> =
             (0..8).map(|_| [rng.below(3) as u16, rng.below(3) as u16]).collect();
         let tabulation = chosen_tabulation(&ends);
         for (_, engine) in engines() {
             let mut seen = BTreeMap::new();
-            for mask in 0..1 << keys.len() {
-                let set = subset(&keys, mask);
-                let Some(words) = engine.image(&tabulation, 3, 1, &set) else {
+            for set in &sets {
+                let Some(words) = engine.image(&tabulation, 3, 1, set) else {
                     continue;
                 };
                 assert_eq!(seen.insert(words, set), None);

@@ -1,6 +1,7 @@
 //! The tests of the reference implementation, as one binary: document 01's boards and listings, its
-//! rules on random boards, and the fast engine against the slow one. Fixed seeds; nothing is timed.
-//! Run with `-- --nocapture` to see how many boards, sequences and lines were tried.
+//! rules and those of request One on random boards, and the fast engine against the slow one. Fixed
+//! seeds; nothing is timed. Run with `-- --nocapture` to see how many boards, sequences and lines
+//! were tried.
 
 mod common;
 mod console;
@@ -14,4 +15,5 @@ mod k_examples;
 mod placements;
 mod refusals;
 mod sequences;
+mod tiers;
 mod wrong_images;

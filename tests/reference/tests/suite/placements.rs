@@ -3,13 +3,15 @@
 
 use std::collections::BTreeSet;
 
+use reference::answer::Found;
 use reference::calls::lookup;
 use reference::fast::Fast;
 use reference::graph::{edges, Edge};
 use reference::image::{canonical_stash, Engine, Slow};
 use reference::placement::{placement, Place};
 use reference::rng::Rng;
-use reference::samples::{random_keys, random_tabulation};
+use reference::samples::{random_keys, random_tabulation, random_tiers};
+use reference::set::set;
 
 use crate::common::Tally;
 
@@ -60,12 +62,13 @@ fn the_canonical_stash_fits_exactly_when_a_placement_exists() {
         let (values, count) = (1 + rng.below(9), rng.below(9));
         let tabulation = random_tabulation(&mut rng, values);
         let keys = random_keys(&mut rng, count);
+        let members = random_tiers(&mut rng, &keys);
         let needed = canonical_stash(&tabulation, r, &keys).unwrap().len();
         for s in 0..=4 {
             let exists = placement(&tabulation, r, s, &keys).unwrap().is_some();
             assert_eq!(needed <= s as usize, exists, "r {r}, s {s}, {keys:?}");
-            assert_eq!(Slow.image(&tabulation, r, s, &keys).is_some(), exists);
-            assert_eq!(Fast.image(&tabulation, r, s, &keys).is_some(), exists);
+            assert_eq!(Slow.image(&tabulation, r, s, &members).is_some(), exists);
+            assert_eq!(Fast.image(&tabulation, r, s, &members).is_some(), exists);
             tally.add(if exists { "placed" } else { "not placeable" });
         }
         tally.add("boards");
@@ -91,13 +94,16 @@ fn images_are_placements_that_lookup_reads() {
         let (r, s) = (1 + rng.below(5) as u32, rng.below(4) as u32);
         let (tabulation, count) = (random_tabulation(&mut rng, 6), rng.below(8));
         let keys = random_keys(&mut rng, count);
-        let Some(words) = Slow.image(&tabulation, r, s, &keys) else {
+        let members = random_tiers(&mut rng, &keys);
+        let Some(words) = Slow.image(&tabulation, r, s, &members) else {
             continue;
         };
-        for &key in &keys {
-            assert_eq!(lookup(&tabulation, &words, key), Ok(true));
+        let set = set(&members).unwrap();
+        for (&key, &tier) in &set {
+            assert_eq!(lookup(&tabulation, &words, key), Ok(Found::Listed(tier)));
             let near = key.wrapping_add(1).max(1);
-            assert_eq!(lookup(&tabulation, &words, near), Ok(keys.contains(&near)));
+            let near_found = set.get(&near).map_or(Found::Absent, |&tier| Found::Listed(tier));
+            assert_eq!(lookup(&tabulation, &words, near), Ok(near_found));
         }
         tally.add("boards");
         tally.add_many("keys", keys.len());

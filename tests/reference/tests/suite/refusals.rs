@@ -1,8 +1,8 @@
 //! The order of refusals. An input is built with each combination of defects, and the first in the
 //! paper's order must be the answer. Some pairs cannot both apply by their nature: a blank key is
-//! in no set (5 with 6, 7 or 8), and a listed key leaves the set as it is (6 with 8).
+//! in no set (5 with 6, 7, 8 or 10), and a listed key leaves the set as it is (6 or 10 with 8).
 
-use reference::answer::{number, Answer};
+use reference::answer::{number, Answer, Found};
 use reference::calls::{check, insert, lookup, remove, stash, stash_answer};
 use reference::counters::Counters;
 use reference::fast;
@@ -34,9 +34,9 @@ impl Defects {
     }
 }
 
-/// K5, whose stash is full: {1, 65, 129} with 129 in the stash.
+/// K5, whose stash is full, with other tiers: {1, 65, 129} with 129 in the stash.
 fn k5() -> Vec<u32> {
-    hand_words(4, 1, 3, &[(0, 1, 1, 65), (1, 0, 65, 1)], &[129])
+    hand_words(4, 1, 3, &[(0, 1, 1, 65, 3), (1, 0, 65, 1, 0)], &[(129, 6)])
 }
 
 /// The ways in which words can have a wrong shape; all keep their defect 4 if they have it.
@@ -68,13 +68,13 @@ fn input_tabulation(defects: Defects, way: usize) -> Vec<u16> {
     tabulation
 }
 
-/// 8r + 4s is 36 for K5; with a wrong shape the scratch is too short by any reading of words 0 and
+/// 12r + 8s is 56 for K5; with a wrong shape the scratch is too short by any reading of words 0 and
 /// 1.
 fn input_scratch(defects: Defects) -> Vec<u32> {
     let len = match (defects.has(3), defects.has(2)) {
         (true, true) => 0,
-        (true, false) => 35,
-        (false, _) => 8 * 1_025 + 4 * 65,
+        (true, false) => 55,
+        (false, _) => 12 * 1_025 + 8 * 65,
     };
     vec![4; len]
 }
@@ -83,10 +83,20 @@ fn input_scratch(defects: Defects) -> Vec<u32> {
 fn input_key(defects: Defects) -> u32 {
     match () {
         _ if defects.has(5) => 0,
+        _ if defects.has(10) => 1,
         _ if defects.has(6) => 1,
         _ if defects.has(7) => 193,
         _ if defects.has(8) => 193,
         _ => 2,
+    }
+}
+
+/// The tier for an insert: above 7 (9), or not the one of key 1 (10), or its own.
+fn input_tier(defects: Defects, way: usize) -> u32 {
+    match () {
+        _ if defects.has(9) => [8, 9, 11, u32::MAX][way % 4],
+        _ if defects.has(10) => [0, 2, 4, 7][way % 4],
+        _ => 3,
     }
 }
 
@@ -96,7 +106,8 @@ fn change(engine: &dyn Engine, is_insert: bool, defects: Defects, way: usize) ->
         (input_tabulation(defects, way), input_words(defects, way), input_scratch(defects));
     let (words_before, mut counters) = (words.clone(), Counters { done: 10, refused: 20 });
     let answer = if is_insert {
-        insert(&engine, &tabulation, &mut words, &mut scratch, &mut counters, input_key(defects))
+        let (key, tier) = (input_key(defects), input_tier(defects, way));
+        insert(&engine, &tabulation, &mut words, &mut scratch, &mut counters, key, tier)
     } else {
         // Without a defect of the key, a listed one is taken out.
         let key = if input_key(defects) == 2 { 65 } else { input_key(defects) };
@@ -111,8 +122,10 @@ fn change(engine: &dyn Engine, is_insert: bool, defects: Defects, way: usize) ->
 
 #[test]
 fn insert_refuses_in_order() {
-    // A listed key cannot fill the stash any further; with the stash full already, 6 goes before 8.
-    const POSSIBLE: &[u32] = &[1, 2, 3, 4, 5, 6, 8];
+    // Request One: "9 (tier above 7) after 5; 10 (add of a listed card with another tier) just
+    // before 6". A listed key cannot fill the stash any further; with the stash full already, 10
+    // and 6 go before 8.
+    const POSSIBLE: &[u32] = &[1, 2, 3, 4, 5, 9, 10, 6, 8];
     let mut tally = Tally::default();
     for (_, engine) in engines() {
         for defects in Defects::all(POSSIBLE) {
@@ -124,8 +137,16 @@ fn insert_refuses_in_order() {
         }
     }
     let wanted = [
-        "insert 0", "insert 1", "insert 2", "insert 3", "insert 4", "insert 5", "insert 6",
+        "insert 0",
+        "insert 1",
+        "insert 2",
+        "insert 3",
+        "insert 4",
+        "insert 5",
+        "insert 6",
         "insert 8",
+        "insert 9",
+        "insert 10",
     ];
     tally.report("order of refusals", &wanted);
 }
@@ -182,7 +203,7 @@ fn lookup_refuses_in_order() {
             let key = if defects.has(5) { 0 } else { 129 };
             let found = lookup(&tabulation, &words, key);
             assert_eq!(found, fast::lookup(&tabulation, &words, key));
-            let answer = found.map(|is_listed| assert!(is_listed));
+            let answer = found.map(|found| assert_eq!(found, Found::Listed(6)));
             assert_eq!(number(answer), defects.first(GIVEN), "{:b}", defects.0);
             tally.add(format!("lookup {}", number(answer)));
         }
@@ -199,7 +220,7 @@ fn the_stash_view_refuses_in_order() {
             let words = input_words(defects, way);
             let answer = number(stash_answer(&words));
             assert_eq!(answer, defects.first(POSSIBLE), "{:b}", defects.0);
-            assert_eq!(stash(&words), if answer == 0 { &[129][..] } else { &[] });
+            assert_eq!(stash(&words), if answer == 0 { &[129, 6][..] } else { &[] });
             tally.add(format!("stash {answer}"));
         }
     }

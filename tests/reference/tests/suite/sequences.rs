@@ -1,16 +1,27 @@
 //! Random sequences of calls on borrowed words against the reference model: every answer, the words
 //! after every call, the scratch and the counters. Then calls on arbitrary borrowed memory.
 
-use reference::answer::{number, Answer, Refusal};
+use reference::answer::{number, Answer, Found, Refusal};
 use reference::calls::{check, init, insert, lookup, remove, stash, stash_answer};
 use reference::counters::Counters;
 use reference::fast::{self, Fast};
 use reference::image::{Engine, Slow};
 use reference::model::{Call, Model, Reply};
 use reference::rng::Rng;
-use reference::samples::random_tabulation;
+use reference::samples::{random_keys, random_tabulation, random_tiers};
 
 use crate::common::{engines, Tally};
+
+/// A tier for an insert: mostly one of three, so that a listed key comes again with its own tier
+/// and with another; now and then one above 7.
+fn input_tier(rng: &mut Rng) -> u32 {
+    match rng.below(10) {
+        0 => 8 + rng.below(3) as u32,
+        1 => rng.pick(&[u32::MAX, 1 << 31, 256, 16]),
+        2 => rng.below(8) as u32,
+        _ => rng.pick(&[0, 1, 7]),
+    }
+}
 
 /// One sequence in the making.
 struct Sequence<'a> {
@@ -28,7 +39,7 @@ impl<'a> Sequence<'a> {
     fn start(engine: &'a dyn Engine, rng: &mut Rng) -> Self {
         let (r, s) = (1 + rng.below(3) as u32, rng.below(3) as u32);
         let tabulation = random_tabulation(rng, 4);
-        let mut words: Vec<u32> = (0..4 + 4 * r + s).map(|_| rng.next_u32()).collect();
+        let mut words: Vec<u32> = (0..4 + 6 * r + 2 * s).map(|_| rng.next_u32()).collect();
         let mut counters = Counters { done: rng.next_u32(), refused: rng.next_u32() };
         assert_eq!(init(r, s, &mut words, &mut counters), Ok(()));
         let model = Model::new(Slow, &tabulation, r, s).unwrap();
@@ -52,7 +63,7 @@ impl<'a> Sequence<'a> {
 
     /// A scratch of some length and content, now and then too short.
     fn input_scratch(&self, rng: &mut Rng) -> Vec<u32> {
-        let enough = (8 * self.r + 4 * self.s) as usize;
+        let enough = (12 * self.r + 8 * self.s) as usize;
         let len = if rng.one_in(10) { rng.below(enough) } else { enough + rng.below(3) };
         (0..len).map(|_| rng.next_u32()).collect()
     }
@@ -65,8 +76,10 @@ impl<'a> Sequence<'a> {
         let (words, counters) = (&mut self.words, &mut self.counters);
         let (call, reply) = match rng.below(12) {
             0..=4 => {
-                let answer = insert(&self.engine, &tabulation, words, &mut scratch, counters, key);
-                (Call::Insert { tabulation_len, scratch_len, key }, Reply::Answer(answer))
+                let tier = input_tier(rng);
+                let answer =
+                    insert(&self.engine, &tabulation, words, &mut scratch, counters, key, tier);
+                (Call::Insert { tabulation_len, scratch_len, key, tier }, Reply::Answer(answer))
             }
             5..=7 => {
                 let answer = remove(&self.engine, &tabulation, words, &mut scratch, counters, key);
@@ -92,7 +105,7 @@ impl<'a> Sequence<'a> {
                     (self.r + 1, self.s),
                     (0, self.s),
                     (self.r, u32::MAX),
-                    (self.r + (1 << 30), self.s),
+                    (self.r + (1 << 31), self.s),
                 ]);
                 let answer = init(r, s, words, counters);
                 return (Call::Other { refusal: Refusal::WrongShape }, Reply::Answer(answer));
@@ -115,7 +128,8 @@ fn label(call: &Call, reply: &Reply) -> String {
     };
     match reply {
         Reply::Answer(answer) => format!("{kind} {}", number(*answer)),
-        Reply::Lookup(Ok(found)) => format!("{kind} {found}"),
+        Reply::Lookup(Ok(Found::Listed(tier))) => format!("{kind} listed {tier}"),
+        Reply::Lookup(Ok(Found::Absent)) => format!("{kind} absent"),
         Reply::Lookup(Err(refusal)) => format!("{kind} {}", refusal.number()),
         Reply::Stash(view) if view.is_empty() => format!("{kind} empty"),
         Reply::Stash(_) => format!("{kind} filled"),
@@ -158,13 +172,17 @@ fn sequences_answer_as_the_reference_model() {
         "insert 5",
         "insert 6",
         "insert 8",
+        "insert 9",
+        "insert 10",
         "remove 0",
         "remove 1",
         "remove 3",
         "remove 5",
         "remove 7",
-        "lookup true",
-        "lookup false",
+        "lookup listed 0",
+        "lookup listed 1",
+        "lookup listed 7",
+        "lookup absent",
         "lookup 1",
         "lookup 5",
         "check 0",
@@ -195,8 +213,8 @@ fn the_model_starts_only_where_init_is_accepted() {
 /// repeat.
 fn any_words(rng: &mut Rng) -> Vec<u32> {
     let (r, s) = (1 + rng.below(3) as u32, rng.below(3) as u32);
-    let right_len = (4 + 4 * r + s) as usize;
-    let len = if rng.one_in(4) { rng.below(20) } else { right_len };
+    let right_len = (4 + 6 * r + 2 * s) as usize;
+    let len = if rng.one_in(4) { rng.below(28) } else { right_len };
     let mut words: Vec<u32> =
         (0..len).map(|_| if rng.one_in(3) { rng.below(7) as u32 } else { 0 }).collect();
     for (at, value) in [(0, r), (1, s)] {
@@ -206,6 +224,22 @@ fn any_words(rng: &mut Rng) -> Vec<u32> {
         }
     }
     words
+}
+
+/// The words of an image, half of the time with one word changed.
+fn almost_image(tabulation: &[u16], rng: &mut Rng) -> Option<Vec<u32>> {
+    let (r, s) = (1 + rng.below(3) as u32, rng.below(3) as u32);
+    let count = rng.below(5);
+    let mut keys = random_keys(rng, count);
+    keys.iter_mut().for_each(|key| *key = 1 + *key % 7);
+    keys.sort_unstable();
+    keys.dedup();
+    let mut words = Slow.image(tabulation, r, s, &random_tiers(rng, &keys))?;
+    if rng.one_in(2) {
+        let at = rng.below(words.len());
+        words[at] = rng.below(9) as u32;
+    }
+    Some(words)
 }
 
 /// What a call on arbitrary memory left.
@@ -218,14 +252,17 @@ fn calls_are_total_and_the_engines_agree_on_any_memory() {
     for _ in 0..6_000 {
         let tabulation_len = if rng.one_in(15) { rng.below(3_000) } else { 2_048 };
         let tabulation: Vec<u16> = (0..tabulation_len).map(|_| rng.below(4) as u16).collect();
-        let words = any_words(&mut rng);
-        let scratch: Vec<u32> = vec![6; rng.below(60)];
-        let key = rng.below(8) as u32;
+        let image = if rng.one_in(2) { almost_image(&tabulation, &mut rng) } else { None };
+        let words = image.unwrap_or_else(|| any_words(&mut rng));
+        let scratch: Vec<u32> = vec![6; rng.below(90)];
+        let (key, tier) = (rng.below(8) as u32, input_tier(&mut rng));
         let outcome = |engine: &dyn Engine, kind: usize| -> Outcome {
             let (mut words, mut scratch) = (words.clone(), scratch.clone());
             let mut counters = Counters::default();
             let answer = match kind {
-                0 => insert(&engine, &tabulation, &mut words, &mut scratch, &mut counters, key),
+                0 => {
+                    insert(&engine, &tabulation, &mut words, &mut scratch, &mut counters, key, tier)
+                }
                 1 => remove(&engine, &tabulation, &mut words, &mut scratch, &mut counters, key),
                 _ => check(&engine, &tabulation, &words, &mut scratch),
             };
@@ -246,9 +283,31 @@ fn calls_are_total_and_the_engines_agree_on_any_memory() {
         assert!(stash_answer(&words).is_ok() || stash(&words).is_empty());
     }
     let wanted = [
-        "insert 0", "insert 1", "insert 2", "insert 3", "insert 4", "remove 1", "remove 2",
-        "remove 3", "remove 4", "check 0", "check 1", "check 2", "check 3", "check 4", "stash 0",
-        "stash 2", "stash 4",
+        "insert 0",
+        "insert 1",
+        "insert 2",
+        "insert 3",
+        "insert 4",
+        "insert 5",
+        "insert 6",
+        "insert 8",
+        "insert 9",
+        "insert 10",
+        "remove 0",
+        "remove 1",
+        "remove 2",
+        "remove 3",
+        "remove 4",
+        "remove 5",
+        "remove 7",
+        "check 0",
+        "check 1",
+        "check 2",
+        "check 3",
+        "check 4",
+        "stash 0",
+        "stash 2",
+        "stash 4",
     ];
     tally.report("any memory", &wanted);
 }

@@ -3,28 +3,46 @@
 
 use std::collections::{BTreeMap, BTreeSet};
 
-use reference::answer::Refusal;
+use reference::answer::{Found, Refusal};
 use reference::calls::{check, lookup};
 use reference::graph::{components, edges, simple_cycles};
 use reference::image::{assignment, assignments, image, next_keys, split_stash, Assignment};
 use reference::layout::{Contents, Entry, Shape, Slot};
 use reference::samples::test_tabulation;
+use reference::set::Member;
 
 use crate::common::{engines, hand_words};
 
 const K9: [u32; 5] = [1, 33, 34, 65, 98];
 const K11: [u32; 5] = [1, 34, 65, 98, 225];
 
+/// The tier of each key on these boards. The wrong shuffles keep the tiers right, so that it is the
+/// shuffle that is told.
+fn tier(key: u32) -> u32 {
+    key % 7
+}
+
+/// The keys with their tiers.
+fn tiered(keys: &[u32]) -> Vec<Member> {
+    keys.iter().map(|&key| (key, tier(key))).collect()
+}
+
+/// The image of a set of keys with r = 4, s = 1.
+fn right_words(keys: &[u32]) -> Vec<u32> {
+    image(&test_tabulation(), 4, 1, &tiered(keys)).expect("the board has an image")
+}
+
 /// The words of a wrong shuffle with r = 4, s = 1: every assignment with its own cycle of next
 /// numbers.
 fn wrong_words(parts: &[&Assignment], stash: &[u32]) -> Vec<u32> {
     let mut contents =
-        Contents { entries: BTreeMap::new(), stash: stash.iter().copied().collect() };
+        Contents { entries: BTreeMap::new(), stash: tiered(stash).into_iter().collect() };
     for &part in parts {
         let next = next_keys(part.values().copied());
-        contents
-            .entries
-            .extend(part.iter().map(|(&slot, &key)| (slot, Entry { key, next: next[&key] })));
+        contents.entries.extend(
+            part.iter()
+                .map(|(&slot, &key)| (slot, Entry { key, next: next[&key], tier: tier(key) })),
+        );
     }
     Shape::new(4, 1).unwrap().write(&contents)
 }
@@ -38,11 +56,11 @@ fn component(keys: &[u32]) -> Vec<reference::graph::Edge> {
 
 /// The wrong words are not the image of the set, and check says so.
 fn assert_wrong(wrong: &[u32], keys: &[u32]) {
-    let right = image(&test_tabulation(), 4, 1, keys).expect("the board has an image");
+    let right = right_words(keys);
     assert_eq!(wrong.len(), right.len());
     assert_ne!(wrong, right);
     for (_, engine) in engines() {
-        let mut scratch = vec![0; 36];
+        let mut scratch = vec![0; 56];
         assert_eq!(check(&engine, &test_tabulation(), &right, &mut scratch), Ok(()));
         assert_eq!(
             check(&engine, &test_tabulation(), wrong, &mut scratch),
@@ -78,7 +96,7 @@ fn smallest_key_of_the_component_in_table_0() {
     let right = Assignment::from([(at_01, 65), (at_10, 129), (at_11, 17)]);
     let wrong = Assignment::from([(at_01, 129), (at_10, 65), (at_11, 17)]);
     assert_eq!(assignments(&k8, None), [right.clone(), wrong.clone()]);
-    assert_eq!(image(&test_tabulation(), 4, 1, &[17, 65, 129]), Some(wrong_words(&[&right], &[])));
+    assert_eq!(right_words(&[17, 65, 129]), wrong_words(&[&right], &[]));
     assert_wrong(&wrong_words(&[&wrong], &[]), &[17, 65, 129]);
     // With 17 in table 0 by force, one of the others has to go to the stash.
     for (stored, stashed) in [(65, 129), (129, 65)] {
@@ -104,27 +122,28 @@ fn stash_key_left_after_a_remove() {
 /// Paper: "Clearing one of the two pockets of a withdrawn lone card."
 #[test]
 fn one_of_two_slots_cleared() {
-    let k2 = image(&test_tabulation(), 4, 1, &[17]).unwrap();
+    let k2 = right_words(&[17]);
     for table in 0..2 {
         let mut wrong = k2.clone();
         wrong[2] = 0;
         let at = Shape::new(4, 1).unwrap().slot_at(Slot { table, index: 1 });
-        wrong[at..at + 2].fill(0);
+        wrong[at..at + 3].fill(0);
         assert_wrong(&wrong, &[]);
-        assert_eq!(lookup(&test_tabulation(), &wrong, 17), Ok(true), "it would still be found");
+        let found = lookup(&test_tabulation(), &wrong, 17);
+        assert_eq!(found, Ok(Found::Listed(tier(17))), "it would still be found");
     }
 }
 
 /// Paper: "Threading drawer cards into the next numbers."
 #[test]
 fn stash_keys_among_the_next_numbers() {
-    let k5 = hand_words(4, 1, 3, &[(0, 1, 1, 65), (1, 0, 65, 129)], &[129]);
+    let k5 = hand_words(4, 1, 3, &[(0, 1, 1, 65, 1), (1, 0, 65, 129, 2)], &[(129, 3)]);
     assert_wrong(&k5, &[1, 65, 129]);
     for keys in [K9, K11] {
-        let right = image(&test_tabulation(), 4, 1, &keys).unwrap();
+        let right = right_words(&keys);
         let threaded = next_keys(BTreeSet::from(keys));
         let mut wrong = right.clone();
-        for at in (4..20).step_by(2).filter(|&at| right[at] != 0) {
+        for at in (4..28).step_by(3).filter(|&at| right[at] != 0) {
             wrong[at + 1] = threaded[&right[at]];
         }
         assert_wrong(&wrong, &keys);

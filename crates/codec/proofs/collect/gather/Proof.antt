@@ -7,7 +7,8 @@ use Prim.Native.Nat.{_≤_, _+_, _*_}
 use native.Mathlib.Omega.{arith}
 use lib.ListN.{length, take, length-set, length-append}
 use lib.Seq.{length-take-le}
-use Rattle.codec.specs.Collect.{picked, nonzero, gathering, left-next, gathering-key, gathering-blank, gathering-end}
+use Rattle.codec.specs.Columns.{picked, left-next}
+use Rattle.codec.specs.Collect.{nonzero, gathering, gathering-key, gathering-blank, gathering-end}
 use Rattle.codec.proofs.collect.gather.Statement.{statement}
 use Rattle.codec.proofs.collect.gather.Tie as tie
 

@@ -1,66 +1,49 @@
--- `codec::image::same_slots` meets its contract: the loop compares what is left of the slots.
-use Prim.Native.Nat.{_≤_, _-_, _*_}
-use mathlib.Core.Path.{_≡_, refl, sym, _∙_}
-use native.Mathlib.Omega.{arith}
+-- `codec::image::same_slots` meets its contract: the three columns, one after the other.
+use mathlib.Core.Path.{sym, _∙_}
 use borrow.Author.Tests.{not-true, not-false}
-use lib.ListN.{length, drop}
-use Rattle.basics.specs.Lists.{same}
-use Rattle.codec.specs.Assembled.{woven}
-use Rattle.codec.specs.Weave.{same-slots-step, same-slots-end}
 use borrow.Author.Needs.{needs}
 use Rattle.codec.proofs.image.same_slots.Statement.{statement}
 use Rattle.codec.proofs.image.same_slots.Tie as tie
 
-abbrev Inv-loop : tie.InvT-loop
-Inv-loop slots held next slot₀ slot =
-    (slot ≤ length held) × (same slots (woven held next) ≡ same (drop (2 * slot) slots) (drop (2 * slot) (woven held next)))
+same-column-requires : tie.Need-same-column-requires
+same-column-requires c κs = search needs
 
-abbrev μ-loop : tie.MeasureT-loop
-μ-loop slots held next slot₀ slot = length held - slot
+returns : tie.Need-returns
+returns c = rw (sym (c .before .same-column .ensures) ∙ not-true _ (c .if1 .taken))
 
-loop-holds : tie.Need-loop-holds Inv-loop μ-loop
-loop-holds c = (search needs, refl)
+add-same-column : tie.Need-add-same-column
+add-same-column c = search needs
 
-same-slot-requires : tie.Need-same-slot-requires Inv-loop μ-loop
-same-slot-requires c κs = search needs
+same-column-requires-2 : tie.Need-same-column-requires-2
+same-column-requires-2 c κs = search needs
 
--- some slots are compared
-abbrev start : tie.At-loop Inv-loop μ-loop → tie.Start Inv-loop μ-loop
-start l = l .before .before .before .before
+returns-2 : tie.Need-returns-2
+returns-2 c =
+    let e = c .before .before in
+    rw (sym (e .before .same-column .ensures) ∙ not-false _ (e .if1 .left), sym (c .before .same-column2 .ensures) ∙ not-true _ (c .if2 .taken))
 
-returns : tie.Need-returns Inv-loop μ-loop
-returns c =
-    let l = c .before .before .before in
-    sym (l .loop .inv .1 ∙ same-slots-step (start l .pre) (l .loop .slot) (omega arith)
-    ∙ (rw (sym (c .before .same-slot .ensures) ∙ not-true _ (c .if1 .taken))))
+add-same-column-2 : tie.Need-add-same-column-2
+add-same-column-2 c = search needs
 
-add-slot : tie.Need-add-slot Inv-loop μ-loop
-add-slot c = search needs
+same-column-requires-3 : tie.Need-same-column-requires-3
+same-column-requires-3 c κs = search needs
 
-loop-less : tie.Need-loop-less Inv-loop μ-loop
-loop-less c = search needs
-
-loop-again : tie.Need-loop-again Inv-loop μ-loop
-loop-again c =
-    let l = c .before .before .before in (
-      search needs,
-      l .loop .inv .1 ∙ same-slots-step (start l .pre) (l .loop .slot) (omega arith)
-          ∙ (rw (sym (c .before .same-slot .ensures) ∙ not-false _ (c .if1 .left))),
-    )
-
-returns-2 : tie.Need-returns-2 Inv-loop μ-loop
-returns-2 c = let l = c .before in sym (l .loop .inv .1 ∙ same-slots-end (start l .pre) (l .loop .slot) (omega arith))
+returns-3 : tie.Need-returns-3
+returns-3 c =
+    let f = c .before in
+    let e = f .before .before in
+    rw (sym (e .before .same-column .ensures) ∙ not-false _ (e .if1 .left), sym (f .before .same-column2 .ensures) ∙ not-false _ (f .if2 .left))
+    (c .same-column3 .ensures)
 
 pub same-slots-spec : {M : Type 1} → statement M
 same-slots-spec =
     tie.close
     (tie.spec
-    Inv-loop
-    μ-loop
-    loop-holds
-    same-slot-requires
+    same-column-requires
     returns
-    add-slot
-    loop-less
-    loop-again
-    returns-2)
+    add-same-column
+    same-column-requires-2
+    returns-2
+    add-same-column-2
+    same-column-requires-3
+    returns-3)

@@ -1,5 +1,4 @@
--- `codec::image::write_image` meets its contract: heading, slots and stash come back in their places, and that is the image.
-use Rattle.codec.specs.Weave.{all-put}
+-- `codec::image::write_image` meets its contract: the heading, then the columns, one after the other.
 use borrow.Author.Needs.{needs}
 use Rattle.codec.proofs.image.write_image.Statement.{statement}
 use Rattle.codec.proofs.image.write_image.Tie as tie
@@ -7,67 +6,67 @@ use Rattle.codec.proofs.image.write_image.Tie as tie
 stash-start-requires : tie.Need-stash-start-requires
 stash-start-requires c κs = search needs
 
-cast-t11 : tie.Need-cast-t11
-cast-t11 c = search needs
-
 write-header-requires : tie.Need-write-header-requires
 write-header-requires c κs = search needs
 
-sub-write-slots : tie.Need-sub-write-slots
-sub-write-slots c = search needs
+write-column-requires : tie.Need-write-column-requires
+write-column-requires c κs = search needs
 
-part-write-slots-start : tie.Need-part-write-slots-start
-part-write-slots-start c = search needs
+add-write-column : tie.Need-add-write-column
+add-write-column c = search needs
 
-part-write-slots-end : tie.Need-part-write-slots-end
-part-write-slots-end c = search needs
+write-column-requires-2 : tie.Need-write-column-requires-2
+write-column-requires-2 c κs = search needs
 
-write-slots-requires : tie.Need-write-slots-requires
-write-slots-requires c κs = search needs
+add-write-column-2 : tie.Need-add-write-column-2
+add-write-column-2 c = search needs
 
-mul-copy : tie.Need-mul-copy
-mul-copy c = search needs
+write-column-requires-3 : tie.Need-write-column-requires-3
+write-column-requires-3 c κs = search needs
 
-sub-copy : tie.Need-sub-copy
-sub-copy c = search needs
+write-column-requires-4 : tie.Need-write-column-requires-4
+write-column-requires-4 c κs = search needs
 
-part-copy-start : tie.Need-part-copy-start
-part-copy-start c = search needs
+add-write-column-3 : tie.Need-add-write-column-3
+add-write-column-3 c = search needs
 
-part-copy-end : tie.Need-part-copy-end
-part-copy-end c = search needs
-
-copy-requires : tie.Need-copy-requires
-copy-requires c κs = search needs
+write-column-requires-5 : tie.Need-write-column-requires-5
+write-column-requires-5 c κs = search needs
 
 same-length : tie.Need-same-length
 same-length c = search needs
 
 returns : tie.Need-returns
 returns c =
-    let copied = c .before .before in
-    let slots = copied .before .before .before .before in
-    let headed = slots .before .before .before .before in
-    let sized = headed .before .before in
-    let start = sized .before .before .before .before .before in
-    rw (slots .write-slots .ensures, copied .copy .ensures, headed .write-header .ensures, sized .stash-start .ensures)
-    (all-put (start .pre .0) (start .args .keys) (start .args .stashed))
+    let fifth = c .before .before in
+    let fourth = fifth .before .before .before .before in
+    let third = fourth .before .before .before .before in
+    let second = third .before .before .before .before in
+    let first = second .before .before .before .before in
+    let headed = first .before .before .before .before in
+    cc (
+      fifth .write-column5 .ensures,
+      fourth .write-column4 .ensures,
+      third .write-column3 .ensures,
+      second .write-column2 .ensures,
+      first .write-column .ensures,
+      headed .write-header .ensures,
+      headed .before .before .stash-start .ensures,
+    )
 
 pub write-image-spec : {M : Type 1} → statement M
 write-image-spec =
     tie.close
     (tie.spec
     stash-start-requires
-    cast-t11
     write-header-requires
-    sub-write-slots
-    part-write-slots-start
-    part-write-slots-end
-    write-slots-requires
-    mul-copy
-    sub-copy
-    part-copy-start
-    part-copy-end
-    copy-requires
+    write-column-requires
+    add-write-column
+    write-column-requires-2
+    add-write-column-2
+    write-column-requires-3
+    write-column-requires-4
+    add-write-column-3
+    write-column-requires-5
     same-length
     returns)
