@@ -112,3 +112,11 @@ module _ (L : List Entry) (key : ℕ) where
     | inl m ↦ absurd (let z : _≡_ {A = ℕ} 0 1 = cc (rw m at e) in omega arith)
     | inr m ↦ sym (tier-absent L (λ i. true≢false (sym (in-member i) ∙ m)))
   ]
+
+  -- what is looked up always says something
+  pub never-silent : [] ≡ looked-up L key → ⊥
+  never-silent e = go (member key (keys-of L)) e
+    where
+      go : (m : Bool) → [] ≡ cond m (1 ∷ tier-of L key ∷ []) (0 ∷ []) → ⊥
+      go true e = absurd (omega (arith, ap length e))
+      go false e = absurd (omega (arith, ap length e))

@@ -63,10 +63,15 @@ keep-both p q r R k h =
     (λ e. let t = k c i e in rw t (sym (h c i t) ∙ e))
     (λ e. let t = and-true (q c) (p c) e in h c i (t .0) ∙ t .1)) ∙ sym (keep-keep p q R)
 
--- a test that all pass keeps all
-keep-all : (p : ℕ → Bool) (L : List ℕ) → ((d : ℕ) → In d L → p d ≡ true) → keep p L ≡ L
+-- a test that all pass keeps all,
+pub keep-all : (p : ℕ → Bool) (L : List ℕ) → ((d : ℕ) → In d L → p d ≡ true) → keep p L ≡ L
 keep-all p [] h = refl
 keep-all p (d ∷ L) h = rw (h d (here refl), keep-all p L (λ e i. h e (there i)))
+
+-- and one that none passes keeps none
+pub keep-none : (p : ℕ → Bool) (L : List ℕ) → ((d : ℕ) → In d L → p d ≡ false) → keep p L ≡ []
+keep-none p [] h = refl
+keep-none p (d ∷ L) h = rw (h d (here refl), keep-none p L (λ e i. h e (there i)))
 
 -- what passes a test and what does not are all together
 pub length-split : (p : ℕ → Bool) (S : List ℕ) → length (keep p S) + length (keep (λ c. not (p c)) S) ≡ length S

@@ -15,7 +15,7 @@ use libc::STDIN_FILENO;
 use lines::LONGEST;
 use lines::Line;
 use lines::NEWLINE;
-use lines::Sizes;
+use lines::Pair;
 use tabulation::TABULATION_LENGTH;
 
 // The bytes of a book.
@@ -121,7 +121,7 @@ fn main() {
     let mut tabulation = [0u16; TABULATION_LENGTH];
     decode(&bytes, &mut tabulation);
     let sizes = lines::sizes_in(first_line());
-    let Sizes::Given(r, s) = sizes else {
+    let Pair::Given(r, s) = sizes else {
         printing::print_no_sizes();
         return;
     };

@@ -92,7 +92,15 @@ fn answer(
     let done = session.done;
     let command = lines::command_in(line);
     match command {
-        Command::Insert(key) => change(Change::Insert, tabulation, words, scratch, out, key, done),
+        Command::Insert(key, tier) => change(
+            Change::Insert(tier),
+            tabulation,
+            words,
+            scratch,
+            out,
+            key,
+            done,
+        ),
         Command::Remove(key) => change(Change::Remove, tabulation, words, scratch, out, key, done),
         Command::Lookup(key) => lookup(tabulation, &*words, out, key, done),
         Command::Other => error(out, session.number, done),

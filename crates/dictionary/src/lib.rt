@@ -6,6 +6,7 @@ ghost use Rattle.dictionary.specs.Core.{Settable, Decided, Left};
 ghost use Rattle.outcome.specs.Outcome.{change-outcome, check-outcome};
 ghost use Rattle.outcome.specs.declared.Change.the-variants.{Insert, Remove};
 use access::MAX_TIER;
+use layout::Found;
 use outcome::Change;
 use refusals::BLANK_KEY;
 use refusals::KEY_ABSENT;
@@ -55,9 +56,10 @@ fn remove_key(tabulation: &[u16], words: &mut [u32], scratch: &mut [u32], n: usi
     requires { ⌜ Settable (now tabulation) (now words) (now scratch) n key ⌝ }
     ensures { λ a. ⌜ Decided Remove (now (tabulation .entry)) (now (words .entry)) key a (now (words .exit)) ⌝ }
 {
-    if !ordered::has(&scratch[..n], key) {
+    let found = access::lookup(tabulation, &*words, key);
+    let Found::Listed(_) = found else {
         return KEY_ABSENT;
-    }
+    };
     ordered::delete(&mut *scratch, n, key);
     renew(tabulation, &mut *words, &mut *scratch, n - 1, 0, 0)
 }

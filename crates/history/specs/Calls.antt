@@ -23,8 +23,8 @@ abbrev pub lent-of : List ℕ → Lent → List ℕ
 lent-of t own = t
 lent-of t (wrong tabulation n) = tabulation
 
--- an answer: document 01's number, and values (a lookup's 1 or 0, the words of a view, what a call of another kind
--- gives, otherwise none)
+-- an answer: document 01's number, and values (a lookup's 1 and the tier, or 0; the words of a view; what a call of
+-- another kind gives; otherwise none)
 pub record Answer : Type 0 where
   pub number : ℕ
   pub values : List ℕ

@@ -2,16 +2,17 @@
 -- the set; a refused call of another kind leaves words and set; a removal undoes an insert. Assumes nothing.
 use Prim.Native.Nat.{ℕ, _≤_}
 use mathlib.Core.Path.{_≡_, refl, sym, _∙_, ap}
-use mathlib.Core.Bool.{cond}
-use mathlib.Core.Logic.{inl, inr, _↔_}
+use mathlib.Core.Logic.{_↔_}
 use mathlib.Core.List.{List, [], _∷_, map, map-map, List·Memᴰ as In, List·Memᴰ·head as here, List·Memᴰ·tail as there}
 use native.Mathlib.Omega.{arith}
 use borrow.Author.Tests.{eq-eqb}
 use lib.ListN.{length}
-use Rattle.basics.specs.Tests.{test}
-use Rattle.basics.specs.Sets.{member, in-member, member-in, no-member}
+use Rattle.basics.specs.Sets.{Asc}
 use Rattle.refusals.specs.Refusal.{done, first-refusal}
+use Rattle.layout.specs.Entries.{Entry, keys-of}
 use Rattle.layout.specs.Layout.{Params, scratch-length}
+use Rattle.layout.specs.Answers.{looked-up}
+use Rattle.layout.specs.Look.{looked-entry, looked-none}
 use Rattle.outcome.specs.declared.Change.the-variants.{Insert, Remove}
 use Rattle.counters.specs.declared.Counters.{Counters}
 use Rattle.outcome.specs.Laws.{change-tabulation}
@@ -63,53 +64,53 @@ module _ {P : Params} {ws : List ℕ} {cs : List Call} (q : Sequence P ws cs) wh
   abbrev t : List ℕ
   t = P .tabulation
 
-  abbrev S : List ℕ
-  S = set-left P ws cs
+  abbrev L : List Entry
+  L = set-left P ws cs
 
   abbrev W : List ℕ
   W = words-left P ws cs
 
-  -- A lookup that is not refused says yes exactly for the keys of the set.
-  lookup-says : (l : Lent) (key : ℕ) → step t W (Call.lookup l key) .answer .number ≡ done
-      → step t W (Call.lookup l key) .answer .values ≡ cond (member key S) 1 0 ∷ []
+  asc : Asc (keys-of L)
+  asc = history q .final .is .valid .keys .asc
+
+  -- A lookup that is not refused says the tier of a key of the set, and of another that it is not listed.
+  pub lookup-says : (l : Lent) (key : ℕ) → step t W (Call.lookup l key) .answer .number ≡ done
+      → step t W (Call.lookup l key) .answer .values ≡ looked-up L key
   unfolding step
   lookup-says l key e =
       let f = history q .final in
       lookup-value f (q .full-length) l key
       ∙ (rw (eq-eqb (first-refusal (lookup-tests P l key)) done (sym (lookup-number f (q .full-length) l key) ∙ e)))
 
-  pub lookup-yes : (l : Lent) (key : ℕ) → step t W (Call.lookup l key) .answer .number ≡ done
-      → (step t W (Call.lookup l key) .answer .values ≡ 1 ∷ []) ↔ In key S
-  lookup-yes l key e = (
-    λ v. elim (test (member key S)) [
-      | inl m ↦ member-in key S m
-      | inr m ↦ absurd (let z : _≡_ {A = ℕ} 0 1 = cc (rw m at (lookup-says l key e)) in omega arith)
-    ],
-    λ i. lookup-says l key e ∙ (rw (in-member i)),
+  pub lookup-listed : (l : Lent) (key tier : ℕ) → step t W (Call.lookup l key) .answer .number ≡ done
+      → (step t W (Call.lookup l key) .answer .values ≡ 1 ∷ tier ∷ []) ↔ In (record { key = key; tier = tier }) L
+  lookup-listed l key tier e = (
+    λ v. looked-entry L asc key tier .0 (sym (lookup-says l key e) ∙ v),
+    λ i. lookup-says l key e ∙ looked-entry L asc key tier .1 i,
   )
 
-  pub lookup-no : (l : Lent) (key : ℕ) → step t W (Call.lookup l key) .answer .number ≡ done
-      → (step t W (Call.lookup l key) .answer .values ≡ 0 ∷ []) ↔ (In key S → ⊥)
-  lookup-no l key e = (
-    λ v i. let z : _≡_ {A = ℕ} 0 1 = cc (rw (in-member i) at (lookup-says l key e)) in omega arith,
-    λ n. lookup-says l key e ∙ (rw (no-member key S n)),
+  pub lookup-absent : (l : Lent) (key : ℕ) → step t W (Call.lookup l key) .answer .number ≡ done
+      → (step t W (Call.lookup l key) .answer .values ≡ 0 ∷ []) ↔ (In key (keys-of L) → ⊥)
+  lookup-absent l key e = (
+    λ v. looked-none L key .0 (sym (lookup-says l key e) ∙ v),
+    λ n. lookup-says l key e ∙ looked-none L key .1 n,
   )
 
   -- Document 01's case of a call of another kind, a refused one: "the register is fed the refusal, answers it, and the
   -- set stays." So do the words.
   pub refused-next : (x : Other) → (x .answer W .number ≡ done → ⊥)
-      → (reply P S (Request.other (x .answer W)) ≡ record { answer = step t W (Call.other x) .answer; set = S })
+      → (reply P L (Request.other (x .answer W)) ≡ record { answer = step t W (Call.other x) .answer; set = L })
       × (step t W (Call.other x) .words ≡ W)
   unfolding step reply
   refused-next x n = (refl, x .leaves W n)
 
   -- A removal straight after the accepted insert of the same key, with the sequence's tabulation and a long enough scratch, is accepted and brings
   -- back every word.
-  pub undone : (l : Lent) (scratch scratch′ : List ℕ) (counters counters′ : Counters) (key : ℕ)
-      → step t W (Call.change Insert l scratch counters key) .answer .number ≡ done
+  pub undone : (l : Lent) (scratch scratch′ : List ℕ) (counters counters′ : Counters) (key tier : ℕ)
+      → step t W (Call.change (Insert tier) l scratch counters key) .answer .number ≡ done
       → scratch-length (P .slots) (P .places) ≤ length scratch′
-      → (step t (step t W (Call.change Insert l scratch counters key) .words) (Call.change Remove own scratch′ counters′ key) .answer .number ≡ done)
-      × (step t (step t W (Call.change Insert l scratch counters key) .words) (Call.change Remove own scratch′ counters′ key) .words ≡ W)
+      → (step t (step t W (Call.change (Insert tier) l scratch counters key) .words) (Call.change Remove own scratch′ counters′ key) .answer .number ≡ done)
+      × (step t (step t W (Call.change (Insert tier) l scratch counters key) .words) (Call.change Remove own scratch′ counters′ key) .words ≡ W)
   unfolding step
-  undone own scratch scratch′ counters counters′ key e room = held-undone (history q .final) (q .full-length) scratch scratch′ key e room
-  undone (wrong u n) scratch scratch′ counters counters′ key e room = absurd (omega (arith, change-tabulation u W scratch Insert key n))
+  undone own scratch scratch′ counters counters′ key tier e room = held-undone (history q .final) (q .full-length) scratch scratch′ tier key e room
+  undone (wrong u n) scratch scratch′ counters counters′ key tier e room = absurd (omega (arith, change-tabulation u W scratch (Insert tier) key n))

@@ -1,6 +1,7 @@
 -- Demand 3 at work, so that a reader sees that its hypothesis can be met: a sequence of calls of every kind on document
 -- 01's test board, with its answers and the words that it leaves written out, and a second one with another past that
--- leaves the same words. The answers are proved through the theorem, from the rows K5 and K6 of layout/specs/Board.antt.
+-- leaves the same words. The answers are proved through the theorem, from the rows of K5, with the tiers 3, 0 and 7, and K6
+-- of layout/specs/Board.antt.
 -- Assumes nothing.
 use Prim.Native.Nat.{ℕ}
 use mathlib.Core.Path.{_≡_, refl, sym, _∙_, ap}
@@ -15,11 +16,12 @@ use Rattle.refusals.specs.Refusal.{done, stash-full}
 use Rattle.tabulation.specs.Hash.{slots-in-range, blank, hash}
 use Rattle.tabulation.specs.Answer.{hashes-refusal, hashes-values}
 use Rattle.tabulation.specs.Slots.{slot-0, slot-1}
-use Rattle.layout.specs.Layout.{Params, family, sizes-in-range, shaped, stash-of, fits, image}
+use Rattle.layout.specs.Entries.{Entry, keys-of, tier-of}
+use Rattle.layout.specs.Layout.{Params, family, sizes-in-range, shaped, stash-of, fits, image, place-words}
 use Rattle.layout.specs.Answers.{view-refusal, view-of, fresh-refusal, fresh-words}
 use Rattle.layout.specs.Fitting.{without-valid, without-fits}
 use Rattle.layout.specs.Look.{image-view}
-use Rattle.layout.specs.Board.{board-tabulation, board-length, board, Shown, Full, shows, full, board-rows}
+use Rattle.layout.specs.Board.{board-tabulation, board-length, board, plain, Shown, Full, shows, full, board-rows}
 use Rattle.outcome.specs.declared.Change.the-variants.{Insert, Remove}
 use Rattle.counters.specs.declared.Counters.{Counters}
 use Rattle.history.specs.Calls.{own, wrong, Call, Answer, Step, step, run, words-after, words-left}
@@ -36,15 +38,15 @@ use Rattle.history.specs.Others.{init, reads, hashes}
 abbrev pub P : Params
 P = board 4 1
 
--- "Sheets have any length and content, the meter any counts": 8r + 4s = 36 words, which hold what an earlier user left
+-- "Sheets have any length and content, the meter any counts": 12r + 8s = 56 words, which hold what an earlier user left
 abbrev scratch : List ℕ
-scratch = replicate 36 9
+scratch = replicate 56 9
 
 abbrev counters : Counters
 counters = record { done = 5; refused = 4294967295 }
 
-abbrev pub insert : ℕ → Call
-insert key = Call.change Insert own scratch counters key
+abbrev pub insert : ℕ → ℕ → Call
+insert key tier = Call.change (Insert tier) own scratch counters key
 
 abbrev pub remove : ℕ → Call
 remove key = Call.change Remove own scratch counters key
@@ -59,29 +61,34 @@ count = Call.other (reads (λ ws. says 0 (getD ws 2 0 ∷ [])))
 -- each call with its answer
 abbrev pub script : List (Call × Answer)
 script =
-    -- K5, one key after the other
-    (insert 1, says 0 [])
-    ∷ (insert 65, says 0 [])
-    ∷ (insert 129, says 0 [])
+    -- K5, one key after the other, with the tiers 3, 0 and 7
+    (insert 1 3, says 0 [])
+    ∷ (insert 65 0, says 0 [])
+    ∷ (insert 129 7, says 0 [])
     -- "K6 K5 plus 193: refused 8"
-    ∷ (insert 193, says 8 [])
+    ∷ (insert 193 0, says 8 [])
     -- a call of another kind that is accepted and leaves the words
     ∷ (count, says 0 (3 ∷ []))
-    -- a tabulation of a wrong length, a scratch of 35 words, a blank key, a key that is in the set
-    ∷ (Call.change Insert (wrong [] (λ e. omega arith)) scratch counters 17, says 1 [])
-    ∷ (Call.change Insert own (replicate 35 9) counters 17, says 3 [])
-    ∷ (insert 0, says 5 [])
-    ∷ (insert 65, says 6 [])
+    -- a tabulation of a wrong length, a scratch of 55 words, a blank key (whatever its tier), a tier above 7 (whatever the
+    -- key), a key that is in the set with another tier, and with this one
+    ∷ (Call.change (Insert 1) (wrong [] (λ e. omega arith)) scratch counters 17, says 1 [])
+    ∷ (Call.change (Insert 1) own (replicate 55 9) counters 17, says 3 [])
+    ∷ (insert 0 8, says 5 [])
+    ∷ (insert 129 8, says 9 [])
+    ∷ (insert 129 6, says 10 [])
+    ∷ (insert 129 7, says 6 [])
     -- "any other call on it may stand there if it is refused": init with r = 0
     ∷ (Call.other (init 0 1), says 2 [])
     -- another one that is accepted: the hashes of 65, "0.1" and "1.0"
     ∷ (Call.other (hashes (family P) 65), says 0 (1 ∷ 0 ∷ []))
-    ∷ (Call.lookup own 65, says 0 (1 ∷ []))
+    -- tier 0, tier 7, and not listed
+    ∷ (Call.lookup own 65, says 0 (1 ∷ 0 ∷ []))
+    ∷ (Call.lookup own 129, says 0 (1 ∷ 7 ∷ []))
     ∷ (Call.lookup own 193, says 0 (0 ∷ []))
     ∷ (remove 7, says 7 [])
     ∷ (Call.check own scratch, says 0 [])
-    -- "drawer 129"
-    ∷ (Call.view, says 0 (129 ∷ []))
+    -- "drawer 129", "both words of each filled place"
+    ∷ (Call.view, says 0 (129 ∷ 7 ∷ []))
     ∷ []
 
 abbrev pub calls : List Call
@@ -92,14 +99,24 @@ answers = map (λ (row : Call × Answer). row .1) script
 
 -- the words that init leaves, whatever they were before: K1
 abbrev pub fresh : List ℕ
-fresh = 4 ∷ 1 ∷ 0 ∷ 0 ∷ 0 ∷ 0 ∷ 0 ∷ 0 ∷ 0 ∷ 0 ∷ 0 ∷ 0 ∷ 0 ∷ 0 ∷ 0 ∷ 0 ∷ 0 ∷ 0 ∷ 0 ∷ 0 ∷ 0 ∷ []
+fresh = 4 ∷ 1 ∷ 0 ∷ 0 ∷ 0 ∷ 0 ∷ 0 ∷ 0 ∷ 0 ∷ 0 ∷ 0 ∷ 0 ∷ 0 ∷ 0 ∷ 0 ∷ 0 ∷ 0 ∷ 0 ∷ 0 ∷ 0 ∷ 0 ∷ 0 ∷ 0 ∷ 0 ∷ 0 ∷ 0 ∷ 0 ∷ 0 ∷ 0 ∷ 0 ∷ []
 
 -- the set with which it ends, and its words: K5
-abbrev pub keys : List ℕ
-keys = 1 ∷ 65 ∷ 129 ∷ []
+abbrev one : Entry
+one = record { key = 1; tier = 3 }
+
+abbrev two : Entry
+two = record { key = 65; tier = 0 }
+
+abbrev three : Entry
+three = record { key = 129; tier = 7 }
+
+abbrev pub entries : List Entry
+entries = one ∷ two ∷ three ∷ []
 
 abbrev pub words : List ℕ
-words = 4 ∷ 1 ∷ 3 ∷ 1 ∷ 0 ∷ 0 ∷ 1 ∷ 65 ∷ 0 ∷ 0 ∷ 0 ∷ 0 ∷ 65 ∷ 1 ∷ 0 ∷ 0 ∷ 0 ∷ 0 ∷ 0 ∷ 0 ∷ 129 ∷ []
+words =
+    4 ∷ 1 ∷ 3 ∷ 1 ∷ 0 ∷ 0 ∷ 0 ∷ 1 ∷ 65 ∷ 3 ∷ 0 ∷ 0 ∷ 0 ∷ 0 ∷ 0 ∷ 0 ∷ 65 ∷ 1 ∷ 0 ∷ 0 ∷ 0 ∷ 0 ∷ 0 ∷ 0 ∷ 0 ∷ 0 ∷ 0 ∷ 0 ∷ 129 ∷ 7 ∷ []
 
 -- Init with r = 0 is refused on any words, so it may stand in a sequence.
 init-refused : (ws : List ℕ) → fresh-refusal (length ws) 0 1 ≡ done → ⊥
@@ -114,79 +131,81 @@ init-more {ws} rest = more (refused (init-refused ws)) rest
 -- The two calls that leave the words may stand anywhere.
 may-stand : Allowed board-tabulation fresh calls
 may-stand =
-    let rest = more (unchanged refl) (more tt (more tt (more tt (more tt (more tt none))))) in
-    let middle = more (unchanged refl) (more tt (more tt (more tt (more tt (init-more rest))))) in
+    let rest = more (unchanged refl) (more tt (more tt (more tt (more tt (more tt (more tt none)))))) in
+    let middle = more (unchanged refl) (more tt (more tt (more tt (more tt (more tt (more tt (init-more rest))))))) in
     more tt (more tt (more tt (more tt middle)))
 
--- It is a sequence: the list had 21 words, all 7, before it was laid.
+-- It is a sequence: the list had 30 words, all 7, before it was laid.
 pub sequence : Sequence P fresh calls
 unfolding fresh-refusal fresh-words sizes-in-range slots-in-range
-sequence = record { full-length = board-length; before = replicate 21 7; accepted = refl; laid = refl; allowed = may-stand }
+sequence = record { full-length = board-length; before = replicate 30 7; accepted = refl; laid = refl; allowed = may-stand }
 
 -- what the register answers
 
 -- K5 fits and has these words,
-K5 : Shown 4 1 keys words
-K5 = board-rows (shows 4 1 keys words) (there (there (there (there (here refl)))))
+K5 : Shown 4 1 entries words
+K5 = board-rows (shows 4 1 entries words) (there (there (there (there (there (here refl))))))
 
 -- so its parts fit, too;
 fits-two : fits P (1 ∷ 65 ∷ []) ≡ true
 unfolding without
-fits-two = without-fits P (K5 .valid) 129 (K5 .fit)
+fits-two = without-fits P (K5 .valid .keys) 129 (K5 .fit)
 
 fits-one : fits P (1 ∷ []) ≡ true
 unfolding without
-fits-one = without-fits P (without-valid 129 (K5 .valid)) 65 fits-two
+fits-one = without-fits P (without-valid 129 (K5 .valid .keys)) 65 fits-two
 
 -- K5 with 193 does not;
-K6 : Full 4 1 (1 ∷ 65 ∷ 129 ∷ 193 ∷ [])
-K6 = board-rows (full 4 1 (1 ∷ 65 ∷ 129 ∷ 193 ∷ [])) (there (there (there (there (there (here refl))))))
+K6 : Full 4 1 (plain (1 ∷ 65 ∷ 129 ∷ 193 ∷ []))
+K6 =
+    board-rows (full 4 1 (plain (1 ∷ 65 ∷ 129 ∷ 193 ∷ [])))
+    (there (there (there (there (there (there (there (here refl))))))))
 
 -- and the words of K5 say its stash.
-stash-K5 : stash-of P keys ≡ 129 ∷ []
+stash-K5 : place-words (tier-of entries) (stash-of P (keys-of entries)) ≡ 129 ∷ 7 ∷ []
 unfolding view-of view-refusal shaped sizes-in-range slots-in-range
-stash-K5 = sym (image-view P keys (K5 .fit) refl) ∙ (rw (K5 .words-are))
+stash-K5 = sym (image-view P entries (K5 .fit) refl) ∙ (rw (K5 .words-are))
 
--- The register with set S is fed qs, replies ms, and ends with set T;
-record Goes (S : List ℕ) (qs : List Request) (ms : List Reply) (T : List ℕ) : Type 0 where
-  replies : model P S qs ≡ ms
-  set : set-after P S qs ≡ T
+-- The register with set L is fed qs, replies ms, and ends with set M;
+record Goes (L : List Entry) (qs : List Request) (ms : List Reply) (M : List Entry) : Type 0 where
+  replies : model P L qs ≡ ms
+  set : set-after P L qs ≡ M
 
-stop : (S : List ℕ) → Goes S [] [] S
+stop : (L : List Entry) → Goes L [] [] L
 unfolding model set-after
-stop S = record { replies = refl; set = refl }
+stop L = record { replies = refl; set = refl }
 
-next : {S T : List ℕ} {q : Request} {qs : List Request} {m : Reply} {ms : List Reply}
-    → reply P S q ≡ m → Goes (m .set) qs ms T → Goes S (q ∷ qs) (m ∷ ms) T
+next : {L M : List Entry} {q : Request} {qs : List Request} {m : Reply} {ms : List Reply}
+    → reply P L q ≡ m → Goes (m .set) qs ms M → Goes L (q ∷ qs) (m ∷ ms) M
 unfolding model set-after
 next e g = record { replies = rw (e, g .replies); set = rw (e, g .set) }
 
-abbrev to : ℕ → List ℕ → List ℕ → Reply
-to n values S = record { answer = says n values; set = S }
+abbrev to : ℕ → List ℕ → List Entry → Reply
+to n values L = record { answer = says n values; set = L }
 
 -- here the first three calls,
-goes-first : {qs : List Request} {ms : List Reply} {T : List ℕ} → Goes keys qs ms T
+goes-first : {qs : List Request} {ms : List Reply} {M : List Entry} → Goes entries qs ms M
     → Goes []
-    (Request.change Insert own 36 1 ∷ Request.change Insert own 36 65 ∷ Request.change Insert own 36 129 ∷ qs)
-    (to 0 [] (1 ∷ []) ∷ to 0 [] (1 ∷ 65 ∷ []) ∷ to 0 [] keys ∷ ms)
-    T
+    (Request.change (Insert 3) own 56 1 ∷ Request.change (Insert 0) own 56 65 ∷ Request.change (Insert 7) own 56 129 ∷ qs)
+    (to 0 [] (one ∷ []) ∷ to 0 [] (one ∷ two ∷ []) ∷ to 0 [] entries ∷ ms)
+    M
 unfolding reply with-key below above blank
 goes-first g =
     next (rw (board-length, fits-one)) (next (rw (board-length, fits-two)) (next (rw (board-length, K5 .fit)) g))
 
 -- the fourth, after which the words are those of K5 still, so that they say 3 keys,
 abbrev first-four : List Call
-first-four = insert 1 ∷ insert 65 ∷ insert 129 ∷ insert 193 ∷ []
+first-four = insert 1 3 ∷ insert 65 0 ∷ insert 129 7 ∷ insert 193 0 ∷ []
 
-goes-fourth : {qs : List Request} {ms : List Reply} {T : List ℕ} → Goes keys qs ms T
-    → Goes keys (Request.change Insert own 36 193 ∷ qs) (to 8 [] keys ∷ ms) T
+goes-fourth : {qs : List Request} {ms : List Reply} {M : List Entry} → Goes entries qs ms M
+    → Goes entries (Request.change (Insert 0) own 56 193 ∷ qs) (to 8 [] entries ∷ ms) M
 unfolding reply with-key below above blank
 goes-fourth g = next (rw (board-length, K6 .unfit)) g
 
 four-words : words-left P fresh first-four ≡ words
 unfolding requests
 four-words =
-    let set = goes-first (goes-fourth (stop keys)) .set in
+    let set = goes-first (goes-fourth (stop entries)) .set in
     history (part first-four (drop 4 calls) sequence) .final .is .is ∙ (ap (image P) set ∙ K5 .words-are)
 
 count-says : getD (words-left P fresh first-four) 2 0 ≡ 3
@@ -200,10 +219,10 @@ hashes-say = (refl, refl)
 -- answered.
 goes : Goes []
     (requests board-tabulation fresh calls)
-    (to 0 [] (1 ∷ [])
-    ∷ to 0 [] (1 ∷ 65 ∷ [])
-    ∷ map (λ (row : Call × Answer). record { answer = row .1; set = keys }) (drop 2 script))
-    keys
+    (to 0 [] (one ∷ [])
+    ∷ to 0 [] (one ∷ two ∷ [])
+    ∷ map (λ (row : Call × Answer). record { answer = row .1; set = entries }) (drop 2 script))
+    entries
 unfolding requests words-after step fresh-refusal sizes-in-range slots-in-range reply with-key below above blank
 goes =
     goes-first
@@ -213,14 +232,17 @@ goes =
     (next (rw board-length)
     (next (rw board-length)
     (next (rw board-length)
+    (next (rw board-length)
+    (next (rw board-length)
     (next refl
     (next (rw (hashes-say .0, hashes-say .1))
     (next (rw board-length)
     (next (rw board-length)
     (next (rw board-length)
     (next (rw board-length)
+    (next (rw board-length)
     (next (rw stash-K5)
-    (stop keys))))))))))))))
+    (stop entries)))))))))))))))))
 
 -- what the calls answer, through the theorem
 
@@ -229,7 +251,7 @@ pub answers-are : map (λ (o : Step). o .answer) (run board-tabulation fresh cal
 answers-are = same-answers sequence ∙ ap (map (λ (m : Reply). m .answer)) (goes .replies)
 
 -- the register ends with K5,
-pub set-is : set-left P fresh calls ≡ keys
+pub set-is : set-left P fresh calls ≡ entries
 set-is = goes .set
 
 -- and the words that the sequence leaves are those of K5.
@@ -243,50 +265,52 @@ leaves-no-trace = no-trace sequence
 
 -- The insert of 193 came to the test of 8 and was refused by it, so no placement of K5 with 193 exists.
 abbrev first-three : List Call
-first-three = insert 1 ∷ insert 65 ∷ insert 129 ∷ []
+first-three = insert 1 3 ∷ insert 65 0 ∷ insert 129 7 ∷ []
 
-first-set : set-left P fresh first-three ≡ keys
+first-set : set-left P fresh first-three ≡ entries
 unfolding requests
-first-set = goes-first (stop keys) .set
+first-set = goes-first (stop entries) .set
 
-comes : ComesToFull P keys own 36 193
+comes : ComesToFull P entries own 56 193 0
 unfolding blank
-comes = record { right-length = rw board-length; long-enough = refl; not-blank = refl; absent = refl }
+comes = record { right-length = rw board-length; long-enough = refl; not-blank = refl; small-tier = omega arith; absent = refl }
 
-refused-eight : step-after P fresh first-three (insert 193) .answer .number ≡ stash-full
+refused-eight : step-after P fresh first-three (insert 193 0) .answer .number ≡ stash-full
 unfolding run words-after
 refused-eight = ap (λ (all : List Answer). getD all 3 (says 0 []) .number) answers-are
 
 pub no-place : Placement (slot-0 (family P)) (slot-1 (family P)) 1 (1 ∷ 65 ∷ 129 ∷ 193 ∷ []) → ⊥
 unfolding with-key below above
 no-place =
-    let exactly = leaves-no-trace .full first-three (drop 4 calls) own scratch counters 193 refl (rw first-set comes) in
+    let exactly = leaves-no-trace .full first-three (drop 4 calls) own scratch counters 193 0 refl (rw first-set comes) in
     rw first-set at (exactly .0 refused-eight)
 
--- A sequence with another past: other keys first, a removal, and nothing refused. It leaves the same words,
+-- A sequence with another past: other keys first, one of them with another tier until it is removed, and nothing refused.
+-- It leaves the same words,
 abbrev pub other-calls : List Call
-other-calls = insert 129 ∷ insert 65 ∷ remove 129 ∷ insert 1 ∷ insert 129 ∷ []
+other-calls = insert 129 2 ∷ insert 65 0 ∷ remove 129 ∷ insert 1 3 ∷ insert 129 7 ∷ []
 
 pub other-sequence : Sequence P fresh other-calls
 unfolding fresh-refusal fresh-words sizes-in-range slots-in-range
 other-sequence = record {
   full-length = board-length;
-  before = replicate 21 0;
+  before = replicate 30 0;
   accepted = refl;
   laid = refl;
   allowed = more tt (more tt (more tt (more tt (more tt none))));
 }
 
-pub other-set : set-left P fresh other-calls ≡ keys
+pub other-set : set-left P fresh other-calls ≡ entries
 unfolding requests reply with-key below above blank without
 other-set =
-    let two : fits P (65 ∷ 129 ∷ []) ≡ true = without-fits P (K5 .valid) 1 (K5 .fit) in
-    let one : fits P (129 ∷ []) ≡ true = without-fits P (without-valid 1 (K5 .valid)) 65 two in
-    let sets : List (List ℕ) = (129 ∷ []) ∷ (65 ∷ 129 ∷ []) ∷ (65 ∷ []) ∷ (1 ∷ 65 ∷ []) ∷ keys ∷ [] in
-    let g : Goes [] (requests board-tabulation fresh other-calls) (map (to 0 []) sets) keys =
-    next (rw (board-length, one))
-    (next (rw (board-length, two))
-    (next (rw board-length) (next (rw (board-length, fits-two)) (next (rw (board-length, K5 .fit)) (stop keys))))) in
+    let last-two : fits P (65 ∷ 129 ∷ []) ≡ true = without-fits P (K5 .valid .keys) 1 (K5 .fit) in
+    let last-one : fits P (129 ∷ []) ≡ true = without-fits P (without-valid 1 (K5 .valid .keys)) 65 last-two in
+    let early : Entry = record { key = 129; tier = 2 } in
+    let sets : List (List Entry) = (early ∷ []) ∷ (two ∷ early ∷ []) ∷ (two ∷ []) ∷ (one ∷ two ∷ []) ∷ entries ∷ [] in
+    let g : Goes [] (requests board-tabulation fresh other-calls) (map (to 0 []) sets) entries =
+    next (rw (board-length, last-one))
+    (next (rw (board-length, last-two))
+    (next (rw board-length) (next (rw (board-length, fits-two)) (next (rw (board-length, K5 .fit)) (stop entries))))) in
     g .set
 
 pub same-end : words-left P fresh calls ≡ words-left P fresh other-calls

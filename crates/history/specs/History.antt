@@ -7,6 +7,7 @@ use mathlib.Core.Bool.{true}
 use mathlib.Core.List.{List, [], _∷_, map, List·Memᴰ as In, List·Memᴰ·head as here, List·Memᴰ·tail as there}
 use lib.ListN.{length}
 use Rattle.tabulation.specs.Hash.{tabulation-length}
+use Rattle.layout.specs.Entries.{Entry, keys-of}
 use Rattle.layout.specs.Layout.{Params, ValidSet, fits, image}
 use Rattle.layout.specs.Fresh.{empty-valid, empty-fits, fresh-sizes, fresh-image}
 use Rattle.outcome.specs.Held.{Holds}
@@ -21,23 +22,23 @@ use Rattle.history.specs.Others.{other-agrees}
 abbrev pub pictured : Params → Reply → Step
 pictured P m = record { answer = m .answer; words = image P (m .set) }
 
--- What holds of a sequence that starts with the words ws of a dictionary that holds S.
-pub record Follows (P : Params) (S ws : List ℕ) (cs : List Call) : Type 0 where
+-- What holds of a sequence that starts with the words ws of a dictionary that holds L.
+pub record Follows (P : Params) (L : List Entry) (ws : List ℕ) (cs : List Call) : Type 0 where
   -- "With no call at all the words are the image";
-  pub start : ws ≡ image P S
+  pub start : ws ≡ image P L
   -- each call answers what the model answers, and the words after it are the image of the model's set;
-  pub trace : run (P .tabulation) ws cs ≡ map (pictured P) (model P S (requests (P .tabulation) ws cs))
-  -- which is always a set of keys that fits, so the image is canonical.
-  pub sets : (m : Reply) → In m (model P S (requests (P .tabulation) ws cs)) → ValidSet (m .set) × (fits P (m .set) ≡ true)
+  pub trace : run (P .tabulation) ws cs ≡ map (pictured P) (model P L (requests (P .tabulation) ws cs))
+  -- which is always a set, keys with tiers, that fits, so the image is canonical.
+  pub sets : (m : Reply) → In m (model P L (requests (P .tabulation) ws cs)) → ValidSet (m .set) × (fits P (keys-of (m .set)) ≡ true)
   -- The same after the whole sequence.
-  pub final : Holds P (set-after P S (requests (P .tabulation) ws cs)) (words-after (P .tabulation) ws cs)
+  pub final : Holds P (set-after P L (requests (P .tabulation) ws cs)) (words-after (P .tabulation) ws cs)
 
 -- one call
 
 -- On words that hold the model's set each call agrees with the model: one line for each kind of call, with its lemma.
-step-agrees : {P : Params} {S ws : List ℕ} → Holds P S ws → length (P .tabulation) ≡ tabulation-length
+step-agrees : {P : Params} {L : List Entry} {ws : List ℕ} → Holds P L ws → length (P .tabulation) ≡ tabulation-length
     → (c : Call) → MayStand ws c
-    → Agrees P (step (P .tabulation) ws c) (reply P S (request c (step (P .tabulation) ws c .answer)))
+    → Agrees P (step (P .tabulation) ws c) (reply P L (request c (step (P .tabulation) ws c .answer)))
 step-agrees h full-length (Call.change kind l scratch counters key) stand = change-agrees h full-length kind l scratch counters key
 step-agrees h full-length (Call.lookup l key) stand = lookup-agrees h full-length l key
 step-agrees h full-length (Call.check l scratch) stand = check-agrees h full-length l scratch
@@ -46,8 +47,8 @@ step-agrees h full-length (Call.other x) stand = other-agrees h x stand
 
 -- whole sequences
 
-follows : {P : Params} {S ws : List ℕ} → Holds P S ws → length (P .tabulation) ≡ tabulation-length
-    → {cs : List Call} → Allowed (P .tabulation) ws cs → Follows P S ws cs
+follows : {P : Params} {L : List Entry} {ws : List ℕ} → Holds P L ws → length (P .tabulation) ≡ tabulation-length
+    → {cs : List Call} → Allowed (P .tabulation) ws cs → Follows P L ws cs
 unfolding run model requests set-after words-after
 follows h full-length {cs = []} none =
     record { start = h .is .is; trace = refl; sets = λ m i. elim i [ ]; final = h }

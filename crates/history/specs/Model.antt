@@ -1,15 +1,17 @@
--- The reference model (document 01's 'plain register'): a set of keys in place of words. "It tries that call's refusals in their order, "the set"
+-- The reference model (document 01's 'plain register'): a set, keys with their tiers, in place of words. "It tries that call's refusals in their order, "the set"
 -- being its own, and answers the first that applies; 2 and 4 never do."
 use Prim.Native.Nat.{ℕ}
-use mathlib.Core.Bool.{Bool, not, cond}
+use mathlib.Core.Bool.{Bool, not, cond, _&&_}
 use mathlib.Core.List.{List, [], _∷_}
 use lib.Dec.{eqb, ltb}
 use lib.ListN.{length}
-use Rattle.basics.specs.Sets.{member, without}
+use Rattle.basics.specs.Sets.{member}
 use Rattle.ordered.specs.Keys.{with-key}
-use Rattle.refusals.specs.Refusal.{done, wrong-tabulation, short-scratch, blank-key, key-present, key-absent, stash-full, first-refusal}
+use Rattle.refusals.specs.Refusal.{done, wrong-tabulation, short-scratch, blank-key, key-present, key-absent, stash-full, wrong-tier, other-tier}
+use Rattle.refusals.specs.Refusal.{first-refusal}
 use Rattle.tabulation.specs.Hash.{tabulation-length, blank}
-use Rattle.layout.specs.Layout.{Params, stash-of, scratch-length, fits}
+use Rattle.layout.specs.Entries.{Entry, max-tier, keys-of, tier-of}
+use Rattle.layout.specs.Layout.{Params, stash-of, scratch-length, fits, place-words}
 use Rattle.outcome.specs.declared.Change.{Change}
 use Rattle.outcome.specs.declared.Change.the-variants.{Insert, Remove}
 use Rattle.history.specs.Calls.{Lent, lent-of, Call, Answer, step}
@@ -39,12 +41,21 @@ requests t ws (c ∷ cs) = let o = step t ws c in request c (o .answer) ∷ requ
 -- what the model answers, and its set afterwards
 pub record Reply : Type 0 where
   pub answer : Answer
-  pub set : List ℕ
+  pub set : List Entry
 
--- "On 0 an add puts its card in and a withdrawal takes its card out."
-abbrev pub new-set : Change → ℕ → List ℕ → List ℕ
-new-set Insert key S = with-key key S
-new-set Remove key S = without key S
+-- "On 0 an add puts its card in", before the first that is larger,
+abbrev pub put-in : Entry → List Entry → List Entry
+put-in e [] = e ∷ []
+put-in e (f ∷ L) = cond (ltb (e .key) (f .key)) (e ∷ f ∷ L) (f ∷ put-in e L)
+
+-- "and a withdrawal takes its card out."
+abbrev pub take-out : ℕ → List Entry → List Entry
+take-out key [] = []
+take-out key (f ∷ L) = cond (eqb key (f .key)) (take-out key L) (f ∷ take-out key L)
+
+abbrev pub new-set : Change → ℕ → List Entry → List Entry
+new-set (Insert tier) key L = put-in (record { key = key; tier = tier }) L
+new-set Remove key L = take-out key L
 
 -- It knows the sequence's tabulation, r and s: P.
 module _ (P : Params) where
@@ -54,16 +65,23 @@ module _ (P : Params) where
   abbrev pub too-short : ℕ → Bool
   too-short n = ltb n (scratch-length (P .slots) (P .places))
 
-  abbrev pub change-tests : Change → Lent → ℕ → ℕ → List ℕ → List (ℕ × Bool)
-  change-tests Insert l n key S =
+  -- "9 (tier above 7) after 5; 10 (add of a listed card with another tier) just before 6"
+  abbrev pub change-tests : Change → Lent → ℕ → ℕ → List Entry → List (ℕ × Bool)
+  change-tests (Insert tier) l n key L =
       (wrong-tabulation, wrong-length l)
       ∷ (short-scratch, too-short n)
       ∷ (blank-key, blank key)
-      ∷ (key-present, member key S)
-      ∷ (stash-full, not (fits P (with-key key S)))
+      ∷ (wrong-tier, ltb max-tier tier)
+      ∷ (other-tier, member key (keys-of L) && not (eqb (tier-of L key) tier))
+      ∷ (key-present, member key (keys-of L))
+      ∷ (stash-full, not (fits P (with-key key (keys-of L))))
       ∷ []
-  change-tests Remove l n key S =
-      (wrong-tabulation, wrong-length l) ∷ (short-scratch, too-short n) ∷ (blank-key, blank key) ∷ (key-absent, not (member key S)) ∷ []
+  change-tests Remove l n key L =
+      (wrong-tabulation, wrong-length l)
+      ∷ (short-scratch, too-short n)
+      ∷ (blank-key, blank key)
+      ∷ (key-absent, not (member key (keys-of L)))
+      ∷ []
 
   abbrev pub lookup-tests : Lent → ℕ → List (ℕ × Bool)
   lookup-tests l key = (wrong-tabulation, wrong-length l) ∷ (blank-key, blank key) ∷ []
@@ -72,33 +90,35 @@ module _ (P : Params) where
   check-tests l n = (wrong-tabulation, wrong-length l) ∷ (short-scratch, too-short n) ∷ []
 
   -- "Where none applies it answers 0, look-up and view as below. .. Nothing else changes the set."
-  unfoldable pub reply : List ℕ → Request → Reply
-  reply S (Request.change kind l n key) =
-      let a = first-refusal (change-tests kind l n key S) in
-      record { answer = record { number = a; values = [] }; set = cond (eqb a done) (new-set kind key S) S }
-  -- "A look-up not refused says whether the card is in the set."
-  reply S (Request.lookup l key) =
+  unfoldable pub reply : List Entry → Request → Reply
+  reply L (Request.change kind l n key) =
+      let a = first-refusal (change-tests kind l n key L) in
+      record { answer = record { number = a; values = [] }; set = cond (eqb a done) (new-set kind key L) L }
+  -- "Look-up answers the tier or that the card isn't listed, in the plain register too": 1 and the tier, or 0.
+  reply L (Request.lookup l key) =
       let a = first-refusal (lookup-tests l key) in
-      record { answer = record { number = a; values = cond (eqb a done) (cond (member key S) 1 0 ∷ []) [] }; set = S }
-  reply S (Request.check l n) =
-      record { answer = record { number = first-refusal (check-tests l n); values = [] }; set = S }
-  -- "A view gives the words of the filled drawer places in the set's canonical image."
-  reply S Request.view = record { answer = record { number = done; values = stash-of P S }; set = S }
+      let says = cond (member key (keys-of L)) (1 ∷ tier-of L key ∷ []) (0 ∷ []) in
+      record { answer = record { number = a; values = cond (eqb a done) says [] }; set = L }
+  reply L (Request.check l n) =
+      record { answer = record { number = first-refusal (check-tests l n); values = [] }; set = L }
+  -- "A view gives the words of the filled drawer places in the set's canonical image": "both words of each filled place".
+  reply L Request.view =
+      record { answer = record { number = done; values = place-words (tier-of L) (stash-of P (keys-of L)) }; set = L }
   -- "For a call of another kind nothing is tried: the register is fed the refusal, answers it, and the set stays." One
   -- that is accepted and leaves the words is treated alike: the register is fed its answer. What is fed is the answer
   -- that was met, so nothing is claimed of that answer here: only that the set stays.
-  reply S (Request.other met) = record { answer = met; set = S }
+  reply L (Request.other met) = record { answer = met; set = L }
 
   -- the answer to each request, and the set after it
-  unfoldable pub model : List ℕ → List Request → List Reply
-  model S [] = []
-  model S (q ∷ qs) = let o = reply S q in o ∷ model (o .set) qs
+  unfoldable pub model : List Entry → List Request → List Reply
+  model L [] = []
+  model L (q ∷ qs) = let o = reply L q in o ∷ model (o .set) qs
 
   -- the set after the whole sequence
-  unfoldable pub set-after : List ℕ → List Request → List ℕ
-  set-after S [] = S
-  set-after S (q ∷ qs) = set-after (reply S q .set) qs
+  unfoldable pub set-after : List Entry → List Request → List Entry
+  set-after L [] = L
+  set-after L (q ∷ qs) = set-after (reply L q .set) qs
 
 -- the set with which the register ends, fed the sequence cs of calls that starts with words ws
-abbrev pub set-left : Params → List ℕ → List Call → List ℕ
+abbrev pub set-left : Params → List ℕ → List Call → List Entry
 set-left P ws cs = set-after P [] (requests (P .tabulation) ws cs)

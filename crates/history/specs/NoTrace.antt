@@ -4,19 +4,22 @@
 -- of History.antt; the proofs stand below them. Assumes nothing.
 use Prim.Native.Nat.{ℕ, _≤_}
 use mathlib.Core.Path.{_≡_, refl, sym, _∙_, ap}
-use mathlib.Core.Bool.{Bool, false, not, true≢false}
+use mathlib.Core.Bool.{Bool, false, not, _&&_, true≢false}
 use mathlib.Core.Logic.{_⊎_, inl, inr, _↔_}
 use mathlib.Core.List.{List, [], _∷_, _++_}
 use native.Mathlib.Omega.{arith}
-use borrow.Author.Tests.{ltb-false}
+use borrow.Author.Tests.{ltb-false, le-ltb}
+use lib.Dec.{eqb, ltb}
 use lib.ListN.{length}
 use Rattle.basics.specs.Tests.{test}
 use Rattle.basics.specs.Sets.{member}
 use Rattle.cuckoo.specs.Placement.{Placement}
 use Rattle.ordered.specs.Keys.{with-key}
-use Rattle.refusals.specs.Refusal.{done, wrong-tabulation, short-scratch, blank-key, key-present, stash-full, first-refusal, none, and, front-passes, front-none}
+use Rattle.refusals.specs.Refusal.{done, wrong-tabulation, short-scratch, blank-key, key-present, stash-full, wrong-tier, other-tier}
+use Rattle.refusals.specs.Refusal.{first-refusal, none, and, front-passes, front-none}
 use Rattle.tabulation.specs.Hash.{blank}
 use Rattle.tabulation.specs.Slots.{slot-0, slot-1}
+use Rattle.layout.specs.Entries.{Entry, max-tier, keys-of, tier-of}
 use Rattle.layout.specs.Layout.{Params, family, scratch-length, fits, image}
 use Rattle.layout.specs.Canonical.{image-one}
 use Rattle.outcome.specs.declared.Change.the-variants.{Insert}
@@ -32,14 +35,15 @@ use Rattle.history.specs.Reads.{lookup-like, check-like}
 use Rattle.history.specs.Others.{other-like}
 use Rattle.history.specs.History.{Follows, history}
 
--- "A call that comes to the full-drawer rule": an insert to which none of the register's refusals before 8 applies, S
--- being the register's set. They are 1, 3, 5 and 6; "2 and 4 never do". By the law `comes-answers` these are exactly the
--- inserts that answer 0 or 8.
-pub record ComesToFull (P : Params) (S : List ℕ) (l : Lent) (scratch-size key : ℕ) : Type 0 where
+-- "A call that comes to the full-drawer rule": an insert to which none of the register's refusals before 8 applies, L
+-- being the register's set. They are 1, 3, 5, 9, 10 and 6, the last two for a key of the set; "2 and 4 never do". By the
+-- law `comes-answers` these are exactly the inserts that answer 0 or 8.
+pub record ComesToFull (P : Params) (L : List Entry) (l : Lent) (scratch-size key tier : ℕ) : Type 0 where
   pub right-length : wrong-length P l ≡ false
   pub long-enough : too-short P scratch-size ≡ false
   pub not-blank : blank key ≡ false
-  pub absent : member key S ≡ false
+  pub small-tier : tier ≤ max-tier
+  pub absent : member key (keys-of L) ≡ false
 
 -- What the call c answers and leaves that comes after the calls cs: that step of the run, by the law `run-at`.
 abbrev pub step-after : Params → List ℕ → List Call → Call → Step
@@ -59,11 +63,11 @@ pub record NoTrace (P : Params) (ws : List ℕ) (cs : List Call) : Type 0 where
       → run (P .tabulation) (words-left P ws cs) ds ≡ run (P .tabulation) (words-left P ws′ cs′) ds′
   -- "A call that comes to the full-drawer rule is refused by it exactly when no placement of the new set exists": at
   -- every insert of the sequence, after the calls cs₁ and before the calls cs₂.
-  pub full : (cs₁ cs₂ : List Call) (l : Lent) (scratch : List ℕ) (counters : Counters) (key : ℕ)
-      → cs ≡ cs₁ ++ (Call.change Insert l scratch counters key ∷ cs₂)
-      → ComesToFull P (set-left P ws cs₁) l (length scratch) key
-      → (step-after P ws cs₁ (Call.change Insert l scratch counters key) .answer .number ≡ stash-full)
-      ↔ (Placement (slot-0 (family P)) (slot-1 (family P)) (P .places) (with-key key (set-left P ws cs₁)) → ⊥)
+  pub full : (cs₁ cs₂ : List Call) (l : Lent) (scratch : List ℕ) (counters : Counters) (key tier : ℕ)
+      → cs ≡ cs₁ ++ (Call.change (Insert tier) l scratch counters key ∷ cs₂)
+      → ComesToFull P (set-left P ws cs₁) l (length scratch) key tier
+      → (step-after P ws cs₁ (Call.change (Insert tier) l scratch counters key) .answer .number ≡ stash-full)
+      ↔ (Placement (slot-0 (family P)) (slot-1 (family P)) (P .places) (with-key key (keys-of (set-left P ws cs₁))) → ⊥)
 
 -- The laws. First, parts of a sequence:
 
@@ -90,24 +94,24 @@ run-at P ws [] c ds = refl
 run-at P ws (b ∷ cs) c ds = rw (run-at P (step (P .tabulation) ws b .words) cs c ds)
 
 -- As the register goes on with the set that it had then.
-pub model-at : (P : Params) (S ws : List ℕ) (cs ds : List Call)
-    → model P S (requests (P .tabulation) ws (cs ++ ds))
-    ≡ model P S (requests (P .tabulation) ws cs)
-    ++ model P (set-after P S (requests (P .tabulation) ws cs)) (requests (P .tabulation) (words-left P ws cs) ds)
+pub model-at : (P : Params) (L : List Entry) (ws : List ℕ) (cs ds : List Call)
+    → model P L (requests (P .tabulation) ws (cs ++ ds))
+    ≡ model P L (requests (P .tabulation) ws cs)
+    ++ model P (set-after P L (requests (P .tabulation) ws cs)) (requests (P .tabulation) (words-left P ws cs) ds)
 unfolding model requests set-after words-after
-model-at P S ws [] ds = refl
-model-at P S ws (c ∷ cs) ds =
+model-at P L ws [] ds = refl
+model-at P L ws (c ∷ cs) ds =
     let o = step (P .tabulation) ws c in
-    rw (model-at P (reply P S (request c (o .answer)) .set) (o .words) cs ds)
+    rw (model-at P (reply P L (request c (o .answer)) .set) (o .words) cs ds)
 
 -- two sequences
 
 -- Words that hold one set are equal: they are its image.
-one-image : {P : Params} {S S′ ws ws′ : List ℕ} → Holds P S ws → Holds P S′ ws′ → S ≡ S′ → ws ≡ ws′
+one-image : {P : Params} {L L′ : List Entry} {ws ws′ : List ℕ} → Holds P L ws → Holds P L′ ws′ → L ≡ L′ → ws ≡ ws′
 one-image {P} h h′ e = h .is .is ∙ (ap (image P) e ∙ sym (h′ .is .is))
 
 -- Equal words hold one set: differing sets have differing images.
-one-set : {P : Params} {S S′ ws ws′ : List ℕ} → Holds P S ws → Holds P S′ ws′ → ws ≡ ws′ → S ≡ S′
+one-set : {P : Params} {L L′ : List Entry} {ws ws′ : List ℕ} → Holds P L ws → Holds P L′ ws′ → ws ≡ ws′ → L ≡ L′
 one-set h h′ e = image-one (rw e at (h .is)) (h′ .is) refl (held-some h) .1
 
 module _ {P : Params} {ws ws′ : List ℕ} {cs cs′ : List Call} (q : Sequence P ws cs) (q′ : Sequence P ws′ cs′) where
@@ -149,56 +153,59 @@ alike-self t (c ∷ cs) = then (like-self t c) (alike-self t cs)
 -- the test of 8
 
 module _ {P : Params} {ws : List ℕ} {cs : List Call} (q : Sequence P ws cs)
-    (l : Lent) (scratch : List ℕ) (counters : Counters) (key : ℕ) where
-  abbrev S : List ℕ
-  S = set-left P ws cs
+    (l : Lent) (scratch : List ℕ) (counters : Counters) (key tier : ℕ) where
+  abbrev L : List Entry
+  L = set-left P ws cs
 
   abbrev answer : ℕ
-  answer = step-after P ws cs (Call.change Insert l scratch counters key) .answer .number
+  answer = step-after P ws cs (Call.change (Insert tier) l scratch counters key) .answer .number
 
   -- the register's answer
-  insert-number : answer ≡ first-refusal (change-tests P Insert l (length scratch) key S)
+  insert-number : answer ≡ first-refusal (change-tests P (Insert tier) l (length scratch) key L)
   unfolding step
-  insert-number = change-number (history q .final) (q .full-length) Insert l scratch key
+  insert-number = change-number (history q .final) (q .full-length) (Insert tier) l scratch key
 
   -- its refusals before 8, and 8
   abbrev before-full : List (ℕ × Bool)
   before-full =
       (wrong-tabulation, wrong-length P l) ∷ (short-scratch, too-short P (length scratch)) ∷ (blank-key, blank key)
-      ∷ (key-present, member key S) ∷ []
+      ∷ (wrong-tier, ltb max-tier tier) ∷ (other-tier, member key (keys-of L) && not (eqb (tier-of L key) tier))
+      ∷ (key-present, member key (keys-of L)) ∷ []
 
   abbrev full-test : List (ℕ × Bool)
-  full-test = (stash-full, not (fits P (with-key key S))) ∷ []
+  full-test = (stash-full, not (fits P (with-key key (keys-of L)))) ∷ []
 
-  come : ComesToFull P S l (length scratch) key → answer ≡ first-refusal full-test
+  come : ComesToFull P L l (length scratch) key tier → answer ≡ first-refusal full-test
   come h =
       insert-number
-      ∙ front-passes before-full full-test (and (h .right-length) (and (h .long-enough) (and (h .not-blank) (and (h .absent) none))))
+      ∙ front-passes before-full full-test (and (h .right-length) (and (h .long-enough) (and (h .not-blank)
+      (and (le-ltb max-tier tier (h .small-tier)) (and (rw (h .absent)) (and (h .absent) none))))))
 
-  came : (answer ≡ done) ⊎ (answer ≡ stash-full) → ComesToFull P S l (length scratch) key
+  came : (answer ≡ done) ⊎ (answer ≡ stash-full) → ComesToFull P L l (length scratch) key tier
   came d =
       elim (front-none before-full full-test (sym insert-number) (elim d [ inl e ↦ rw e | inr e ↦ rw e ])) [
-        | and a (and b (and c (and m none))) ↦ record { right-length = a; long-enough = b; not-blank = c; absent = m }
+        | and a (and b (and c (and s (and o (and m none))))) ↦
+            record { right-length = a; long-enough = b; not-blank = c; small-tier = ltb-false max-tier tier s; absent = m }
       ]
 
   -- An insert comes to the test of 8 exactly if it answers 0 or 8: if none of the refusals before 8 is given.
-  pub comes-answers : ComesToFull P S l (length scratch) key ↔ ((answer ≡ done) ⊎ (answer ≡ stash-full))
+  pub comes-answers : ComesToFull P L l (length scratch) key tier ↔ ((answer ≡ done) ⊎ (answer ≡ stash-full))
   comes-answers = (
-    λ h. elim (test (fits P (with-key key S))) [ inl f ↦ inl (come h ∙ (rw f)) | inr f ↦ inr (come h ∙ (rw f)) ],
+    λ h. elim (test (fits P (with-key key (keys-of L)))) [ inl f ↦ inl (come h ∙ (rw f)) | inr f ↦ inr (come h ∙ (rw f)) ],
     came,
   )
 
 -- It then answers 8 exactly if no placement of the new set exists.
 pub full-insert : {P : Params} {ws : List ℕ} {cs : List Call} → Sequence P ws cs
-    → (l : Lent) (scratch : List ℕ) (counters : Counters) (key : ℕ)
-    → ComesToFull P (set-left P ws cs) l (length scratch) key
-    → (step-after P ws cs (Call.change Insert l scratch counters key) .answer .number ≡ stash-full)
-    ↔ (Placement (slot-0 (family P)) (slot-1 (family P)) (P .places) (with-key key (set-left P ws cs)) → ⊥)
+    → (l : Lent) (scratch : List ℕ) (counters : Counters) (key tier : ℕ)
+    → ComesToFull P (set-left P ws cs) l (length scratch) key tier
+    → (step-after P ws cs (Call.change (Insert tier) l scratch counters key) .answer .number ≡ stash-full)
+    ↔ (Placement (slot-0 (family P)) (slot-1 (family P)) (P .places) (with-key key (keys-of (set-left P ws cs))) → ⊥)
 unfolding step
-full-insert {P} q own scratch counters key h =
+full-insert {P} q own scratch counters key tier h =
     let room : scratch-length (P .slots) (P .places) ≤ length scratch = ltb-false (length scratch) _ (h .long-enough) in
-    held-full (history q .final) (q .full-length) scratch room key (h .not-blank) (h .absent)
-full-insert {P} q (wrong t n) scratch counters key h = absurd (true≢false (sym (wrong-lent P t n) ∙ h .right-length))
+    held-full (history q .final) (q .full-length) scratch room key (h .not-blank) tier (h .small-tier) (h .absent)
+full-insert {P} q (wrong t n) scratch counters key tier h = absurd (true≢false (sym (wrong-lent P t n) ∙ h .right-length))
 
 -- THE theorem of demand 3: no past leaves a trace.
 pub no-trace : {P : Params} {ws : List ℕ} {cs : List Call} → Sequence P ws cs → NoTrace P ws cs
@@ -206,6 +213,6 @@ no-trace {P} q = record {
   follows = history q;
   same-words = λ q′. (words-say-set q q′, set-says-words q q′);
   same-later = λ {ws′} {cs′} q′ e a. rw (set-says-words q q′ e) (alike-run (P .tabulation) (words-left P ws′ cs′) a);
-  full = λ cs₁ cs₂ l scratch counters key e h.
-      full-insert (part cs₁ (Call.change Insert l scratch counters key ∷ cs₂) (rw e at q)) l scratch counters key h;
+  full = λ cs₁ cs₂ l scratch counters key tier e h.
+      full-insert (part cs₁ (Call.change (Insert tier) l scratch counters key ∷ cs₂) (rw e at q)) l scratch counters key tier h;
 }

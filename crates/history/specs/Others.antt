@@ -9,6 +9,7 @@ use lib.ListN.{length}
 use Rattle.refusals.specs.Refusal.{done}
 use Rattle.tabulation.specs.Hash.{Family}
 use Rattle.tabulation.specs.Answer.{hashes-refusal, hashes-values}
+use Rattle.layout.specs.Entries.{Entry}
 use Rattle.layout.specs.Layout.{Params}
 use Rattle.layout.specs.Answers.{fresh-refusal, fresh-words}
 use Rattle.outcome.specs.Held.{Holds}
@@ -21,10 +22,10 @@ pub stands-leaves : {ws : List ℕ} {x : Other} → OtherStands ws x → x .word
 stands-leaves {ws} {x} (refused n) = x .leaves ws n
 stands-leaves (unchanged e) = e
 
-pub other-agrees : {P : Params} {S ws : List ℕ} → Holds P S ws → (x : Other) → OtherStands ws x
+pub other-agrees : {P : Params} {L : List Entry} {ws : List ℕ} → Holds P L ws → (x : Other) → OtherStands ws x
     → Agrees P
     (step (P .tabulation) ws (Call.other x))
-    (reply P S (Request.other (step (P .tabulation) ws (Call.other x) .answer)))
+    (reply P L (Request.other (step (P .tabulation) ws (Call.other x) .answer)))
 unfolding step reply
 other-agrees h x stand = record { answer = refl; holds = rw (stands-leaves stand) h }
 

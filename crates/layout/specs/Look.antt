@@ -3,21 +3,39 @@
 use Prim.Native.Nat.{ℕ, _*_, _<_}
 use mathlib.Core.Path.{_≡_, _∙_, ap}
 use mathlib.Core.Bool.{Bool, true, false, cond}
-use mathlib.Core.Logic.{inl, inr}
-use mathlib.Core.List.{List, [], _∷_}
+use mathlib.Core.Logic.{inl, inr, _↔_}
+use mathlib.Core.List.{List, [], _∷_, List·Memᴰ as In}
 use borrow.Author.Tests.{eq-eqb, le-ltb}
 use lib.ListN.{length, take, drop}
 use lib.Seq.{take-at}
-use Rattle.basics.specs.Tests.{test, bool-ext}
-use Rattle.basics.specs.Sets.{member, member-in, in-member}
+use Rattle.basics.specs.Tests.{test, bool-ext, zero-one}
+use Rattle.basics.specs.Sets.{Asc, member, member-in, in-member, no-member}
 use Rattle.refusals.specs.Refusal.{done, blank-key}
 use Rattle.tabulation.specs.Hash.{tabulation-length, blank}
-use Rattle.layout.specs.Entries.{Entry, keys-of, tier-of}
+use Rattle.layout.specs.Entries.{Entry, keys-of, tier-of, tiered, key-in, tiered-self, tiered-in, in-tiered}
 use Rattle.layout.specs.Layout.{Params, ValidSet, slots-of, sizes-in-range, stash-of, fits, image, place-width, place-words, stash-at, stash-count, looked-at, tier-in}
 use Rattle.layout.specs.Answers.{lookup-refusal, lookup-values, looked-up, view-refusal, view-of}
 use Rattle.layout.specs.Shape.{sized}
 use Rattle.layout.specs.Image.{fits-le, image-slots, image-places, image-stashed, image-stash, image-shaped, place-words-length}
 use Rattle.layout.specs.Standing.{not-blank, looked-key-word, image-key-in, image-in-looked, tier-in-image}
+
+-- What is looked up among the entries of a set: the tier of exactly its keys, and of the others that they are not listed.
+pub looked-entry : (L : List Entry) → Asc (keys-of L) → (c t : ℕ) → (looked-up L c ≡ 1 ∷ t ∷ []) ↔ In (record { key = c; tier = t }) L
+looked-entry L asc c t = (
+  λ v. elim (test (member c (keys-of L))) [
+    | inl m ↦
+        let q : tier-of L c ≡ t = cc (rw m at v) in
+        rw (q, tiered-self L asc) at (in-tiered (tier-of L) (keys-of L) (member-in c (keys-of L) m))
+    | inr m ↦ absurd (zero-one (cc (rw m at v)))
+  ],
+  λ i.
+      let k : In (record { key = c; tier = t }) (tiered (tier-of L) (keys-of L)) = rw (tiered-self L asc) i in
+      let q : t ≡ tier-of L c = tiered-in (tier-of L) (keys-of L) k in
+      rw (in-member (key-in L i), q),
+)
+
+pub looked-none : (L : List Entry) (c : ℕ) → (looked-up L c ≡ 0 ∷ []) ↔ (In c (keys-of L) → ⊥)
+looked-none L c = (λ v i. zero-one (cc (rw (in-member i) at v)), λ n. rw (no-member c (keys-of L) n))
 
 module _ (P : Params) (L : List Entry) (e : fits P (keys-of L) ≡ true) where
   -- On the image of a set exactly the keys of the set are found, with their tiers.

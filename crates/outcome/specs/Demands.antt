@@ -2,6 +2,7 @@
 -- `history`. That memory is never touched outside its ends and that every call returns is the check of the code itself. Assumes nothing.
 use Prim.Native.Nat.{ℕ}
 use mathlib.Core.Path.{_≡_, refl}
+use mathlib.Core.Logic.{_↔_}
 use mathlib.Core.List.{List, [], _∷_, List·Memᴰ as In}
 use borrow.Author.Tests.{ne-eqb}
 use lib.ListN.{length, replicate}
@@ -9,7 +10,7 @@ use Rattle.refusals.specs.Refusal.{done}
 use Rattle.layout.specs.Entries.{Entry}
 use Rattle.layout.specs.Layout.{params-of, set-in}
 use Rattle.layout.specs.Canonical.{ImageOf}
-use Rattle.layout.specs.Answers.{lookup-values, looked-up, fresh-refusal, fresh-words, fresh-answer-in}
+use Rattle.layout.specs.Answers.{lookup-values, fresh-refusal, fresh-words, fresh-answer-in}
 use Rattle.outcome.specs.declared.Change.{Change}
 use Rattle.outcome.specs.Outcome.{Outcome, changed, change-outcome, check-outcome}
 use Rattle.outcome.specs.Laws.{change-answers, check-answers, change-answer-in, check-answer-in, change-refused, change-scratch, check-words, check-scratch}
@@ -26,7 +27,7 @@ pub record Harmless (answers ws scratch : List ℕ) (o : Outcome) : Type 0 where
 -- says yes exactly for the set's cards", with the tier of each.
 pub record Renewed (tabulation ws : List ℕ) (L : List Entry) (us : List ℕ) : Type 0 where
   pub image : ImageOf (params-of tabulation ws) L us
-  pub looked : (c : ℕ) → lookup-values tabulation us c ≡ looked-up L c
+  pub looked : (c t : ℕ) → (lookup-values tabulation us c ≡ 1 ∷ t ∷ []) ↔ In (record { key = c; tier = t }) L
 
 -- The laws: every call is harmless, and an accepted change renews the words.
 pub change-harmless : (kind : Change) (tabulation ws scratch : List ℕ) (key : ℕ)

@@ -10,7 +10,7 @@ use native.Mathlib.Omega.{arith}
 use borrow.Author.Tests.{eq-eqb, ne-eqb, lt-ltb, le-ltb, ltb-false, not-false}
 use lib.Dec.{eqb, ltb}
 use lib.ListN.{length}
-use Rattle.basics.specs.Tests.{test, eq?}
+use Rattle.basics.specs.Tests.{test, eq?, zero-one}
 use Rattle.basics.specs.Sets.{Asc, without, member, member-in, in-member, out-in, out-ne, in-out}
 use Rattle.cuckoo.specs.Placement.{Placement}
 use Rattle.ordered.specs.Keys.{with-key}
@@ -18,13 +18,13 @@ use Rattle.ordered.specs.Place.{with-cases, with-here, with-there, asc-with, wi
 use Rattle.refusals.specs.Refusal.{done, short-scratch, blank-key, key-present, key-absent, stash-full, wrong-tier, other-tier, first-refusal, none, and, front-none}
 use Rattle.tabulation.specs.Hash.{tabulation-length, blank}
 use Rattle.tabulation.specs.Slots.{slot-0, slot-1}
-use Rattle.layout.specs.Entries.{Entry, max-tier, keys-of, tier-of, tiered, keys-tiered, tiered-agree, tier-tiered, tiered-self, tiered-in}
+use Rattle.layout.specs.Entries.{Entry, max-tier, keys-of, tier-of, key-in, tiered, keys-tiered, tiered-agree, tier-tiered, tiered-self, tiered-in}
 use Rattle.layout.specs.Layout.{Params, ValidKeys, ValidSet, family, params-of, slots-of, places-of, scratch-length, sizes-in-range, shaped, fits, image, keys-in, tier-in, set-in}
 use Rattle.layout.specs.Shape.{sized, sized-true, shape}
 use Rattle.layout.specs.Image.{image-shaped}
 use Rattle.layout.specs.Canonical.{canonical, ImageOf, canonical-true, image-canonical, image-of-params, image-of-set}
 use Rattle.layout.specs.Answers.{lookup-values, looked-up}
-use Rattle.layout.specs.Look.{image-lookup-values}
+use Rattle.layout.specs.Look.{looked-entry, image-lookup-values}
 use Rattle.layout.specs.Fitting.{without-valid, without-fits, fits-length, fits-placement, full-placement}
 use Rattle.outcome.specs.declared.Change.{Change}
 use Rattle.outcome.specs.declared.Change.the-variants.{Insert, Remove}
@@ -292,27 +292,31 @@ held-changed {P} {L} {ws} h kind scratch key e = rw (held-params h, held-set-in 
 
 -- lookup
 
--- On words that hold L a lookup with the same tabulation finds exactly the entries of L, whatever key is asked for: a blank one is refused, and is in no set.
+-- On words that hold L a lookup with the same tabulation says what L says, but for a blank key, which is refused: so it finds exactly the entries of L.
 pub held-lookup : {P : Params} {L : List Entry} {ws : List ℕ} → Holds P L ws → length (P .tabulation) ≡ tabulation-length → (c : ℕ)
-    → lookup-values (P .tabulation) ws c ≡ looked-up L c
+    → lookup-values (P .tabulation) ws c ≡ cond (blank c) [] (looked-up L c)
 held-lookup {P} {L} {ws} h full-length c =
-    let e : lookup-values (P .tabulation) ws c ≡ cond (blank c) [] (looked-up L c) =
-    ap (λ (us : List ℕ). lookup-values (P .tabulation) us c) (h .is .is) ∙ image-lookup-values P L (h .is .fit) full-length (h .range) c (h .is .valid) in
-    elim (test (blank c)) [
-      | inl b ↦
-          elim (test (member c (keys-of L))) [
-            | inl m ↦ absurd (true≢false (sym b ∙ h .is .valid .keys .none-blank c (member-in c (keys-of L) m)))
-            | inr m ↦ e ∙ (rw (b, m))
-          ]
-      | inr b ↦ e ∙ (rw b)
-    ]
+    ap (λ (us : List ℕ). lookup-values (P .tabulation) us c) (h .is .is) ∙ image-lookup-values P L (h .is .fit) full-length (h .range) c (h .is .valid)
+
+pub held-entry : {P : Params} {L : List Entry} {ws : List ℕ} → Holds P L ws → length (P .tabulation) ≡ tabulation-length → (c t : ℕ)
+    → (lookup-values (P .tabulation) ws c ≡ 1 ∷ t ∷ []) ↔ In (record { key = c; tier = t }) L
+held-entry {P} {L} {ws} h full-length c t =
+    let e = held-lookup h full-length c in
+    let found = looked-entry L (h .is .valid .keys .asc) c t in (
+      λ v. elim (test (blank c)) [
+        | inl b ↦ absurd (omega (arith, ap length (rw b at (sym e ∙ v))))
+        | inr b ↦ found .0 (rw b at (sym e ∙ v))
+      ],
+      λ i. e ∙ (rw (h .is .valid .keys .none-blank c (key-in L i)) (found .1 i)),
+    )
 
 -- Demand 2, "On such a list, with the same book, a look-up says yes exactly for the set's cards", with their tiers: after an accepted insert or remove, for
 -- the new set.
-pub change-lookup : (kind : Change) (tabulation ws scratch : List ℕ) (key : ℕ) → change-outcome kind tabulation ws scratch key .answer ≡ done → (c : ℕ)
-    → lookup-values tabulation (change-outcome kind tabulation ws scratch key .words) c ≡ looked-up (changed kind key (set-in tabulation ws)) c
-change-lookup kind tabulation ws scratch key e c =
-    held-lookup (change-accepted kind tabulation ws scratch key e) (change-passed tabulation ws scratch kind key (inl e) .0 .full-length) c
+pub change-lookup : (kind : Change) (tabulation ws scratch : List ℕ) (key : ℕ) → change-outcome kind tabulation ws scratch key .answer ≡ done → (c t : ℕ)
+    → (lookup-values tabulation (change-outcome kind tabulation ws scratch key .words) c ≡ 1 ∷ t ∷ [])
+    ↔ In (record { key = c; tier = t }) (changed kind key (set-in tabulation ws))
+change-lookup kind tabulation ws scratch key e c t =
+    held-entry (change-accepted kind tabulation ws scratch key e) (change-passed tabulation ws scratch kind key (inl e) .0 .full-length) c t
 
 -- placement
 

@@ -9,41 +9,49 @@ ghost use Rattle.layout.specs.Answers.{lookup-refusal, view-refusal, fresh-refu
 ghost use Rattle.outcome.specs.Outcome.{change-outcome, check-outcome};
 ghost use Rattle.counters.specs.Counters.{counted};
 ghost use Rattle.pinorange.specs.House.{house-answer, housed};
-ghost use Rattle.pinorange.specs.Out.{present-out, offset-out, length-out};
+ghost use Rattle.outcome.specs.declared.Change.the-variants.{Insert, Remove};
+ghost use Rattle.pinorange.specs.Out.{listed-out, tier-out, offset-out, length-out};
+use access::PLACE_WIDTH;
 use counters::Counters;
 use layout::Found;
 use outcome::Change;
 use refusals::WRONG_TABULATION;
 use tabulation::TABULATION_LENGTH;
+use words::wide;
 
-// Whether the key is in the dictionary. Done, `present` is 1 or 0; refused, it stays as it was.
+// The tier of a key. Done, `listed` is 1 and `tier` the tier, or `listed` is 0 and `tier` stays as it was; refused, both
+// stay.
 #[no_mangle]
 pub extern "C" fn pinorange_lookup(
     tabulation: &[u16],
     words: &[u32],
     key: u32,
-    present: &mut u32,
+    listed: &mut u32,
+    tier: &mut u32,
 ) -> u32
     ensures numbered { λ n. ⌜ n ≡ lookup-refusal (now (tabulation .entry)) (now (words .entry)) key ⌝ }
-    ensures valued { λ n. ⌜ now (present .exit) ≡ present-out (now (tabulation .entry)) (now (words .entry)) key
-        (now (present .entry)) ⌝ }
+    ensures told { λ n. ⌜ now (listed .exit) ≡ listed-out (now (tabulation .entry)) (now (words .entry)) key
+        (now (listed .entry)) ⌝ }
+    ensures priced { λ n. ⌜ now (tier .exit) ≡ tier-out (now (tabulation .entry)) (now (words .entry)) key
+        (now (tier .entry)) ⌝ }
 {
     let found = access::lookup(tabulation, words, key);
     match found {
-        Found::Present => {
-            *present = 1;
+        Found::Listed(t) => {
+            *listed = 1;
+            *tier = t;
             0
         }
         Found::Absent => {
-            *present = 0;
+            *listed = 0;
             0
         }
         Found::Refused(n) => n,
     }
 }
 
-// The stash view, as the offset and the length of the filled stretch of the stash in the lent words. Refused, both are
-// 0: an empty stretch.
+// The stash view, as the offset and the length of the filled stretch of the stash in the lent words, two words a place.
+// Refused, both are 0: an empty stretch.
 #[no_mangle]
 pub extern "C" fn pinorange_stash(words: &[u32], offset: &mut u32, length: &mut u32) -> u32
     ensures numbered { λ n. ⌜ n ≡ view-refusal (now (words .entry)) ⌝ }
@@ -58,7 +66,7 @@ pub extern "C" fn pinorange_stash(words: &[u32], offset: &mut u32, length: &mut 
     }
     let header = access::read_header(words);
     *offset = access::stash_start(header.slots) as u32;
-    *length = header.stashed;
+    *length = (PLACE_WIDTH * wide(header.stashed)) as u32;
     0
 }
 
@@ -76,7 +84,7 @@ pub extern "C" fn pinorange_init(words: &mut [u32], r: u32, s: u32, counters: &m
     new.answer
 }
 
-// Inserts a key, and moves the counters on.
+// Inserts a key with a tier, and moves the counters on.
 #[no_mangle]
 pub extern "C" fn pinorange_insert(
     tabulation: &[u16],
@@ -84,13 +92,14 @@ pub extern "C" fn pinorange_insert(
     scratch: &mut [u32],
     counters: &mut Counters,
     key: u32,
+    tier: u32,
 ) -> u32
     ensures changed { λ n. ⌜ record { answer = n; words = now (words .exit); scratch = now (scratch .exit) }
-        ≡ change-outcome Change.Insert (now (tabulation .entry)) (now (words .entry)) (now (scratch .entry)) key ⌝ }
+        ≡ change-outcome (Insert tier) (now (tabulation .entry)) (now (words .entry)) (now (scratch .entry)) key ⌝ }
     ensures moved { λ n. ⌜ now (counters .exit) ≡ counted (now (counters .entry)) n ⌝ }
 {
     let old = *counters;
-    let new = counted::update(Change::Insert, tabulation, words, scratch, key, old);
+    let new = counted::update(Change::Insert(tier), tabulation, words, scratch, key, old);
     *counters = new.counters;
     new.answer
 }
@@ -105,7 +114,7 @@ pub extern "C" fn pinorange_remove(
     key: u32,
 ) -> u32
     ensures changed { λ n. ⌜ record { answer = n; words = now (words .exit); scratch = now (scratch .exit) }
-        ≡ change-outcome Change.Remove (now (tabulation .entry)) (now (words .entry)) (now (scratch .entry)) key ⌝ }
+        ≡ change-outcome Remove (now (tabulation .entry)) (now (words .entry)) (now (scratch .entry)) key ⌝ }
     ensures moved { λ n. ⌜ now (counters .exit) ≡ counted (now (counters .entry)) n ⌝ }
 {
     let old = *counters;

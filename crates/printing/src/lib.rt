@@ -41,21 +41,13 @@ fn make_room(out: &[u8; ROOM], at: usize) -> usize
     0
 }
 
-// The tier is printed for an insert only.
-pub fn add_change(
-    out: &mut [u8; ROOM],
-    at: usize,
-    kind: Change,
-    key: u32,
-    tier: u32,
-    answer: u32,
-) -> usize
+pub fn add_change(out: &mut [u8; ROOM], at: usize, kind: Change, key: u32, answer: u32) -> usize
     requires { ⌜ at ≤ room ⌝ }
     ensures { λ next. ⌜ next ≤ room ⌝ }
 {
     let start = make_room(&*out, at);
     match kind {
-        Change::Insert => rows::put_insert(&mut *out, start, key, tier, answer),
+        Change::Insert(tier) => rows::put_insert(&mut *out, start, key, tier, answer),
         Change::Remove => rows::put_remove(&mut *out, start, key, answer),
     }
 }

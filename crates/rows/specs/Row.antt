@@ -47,15 +47,15 @@ remove-row key answer = answer-row letter-W key answer
 unfoldable pub insert-row : ℕ → ℕ → ℕ → List ℕ
 insert-row key tier answer = row ((letter-A ∷ []) ∷ decimal key ∷ decimal tier ∷ decimal answer ∷ [])
 
--- "Look-up answers the tier or that the card isn't listed": document 01's number of a lookup's answer, and its value, the tier
+-- "Look-up answers the tier or that the card isn't listed": document 01's number of a lookup's answer, and its values: 1 and the tier, or 0
 abbrev pub number : Looked → ℕ
 number (Listed tier) = done
 number Absent = done
 number (Refused n) = n
 
 abbrev pub values : Looked → List ℕ
-values (Listed tier) = tier ∷ []
-values Absent = []
+values (Listed tier) = 1 ∷ tier ∷ []
+values Absent = 0 ∷ []
 values (Refused n) = []
 
 -- "L prints the tier or N"; "a refusal as R and its number"
@@ -88,11 +88,16 @@ book-row = row ((letter-B ∷ []) ∷ [])
 abbrev pub row-room : ℕ
 row-room = 57
 
--- The laws. What a lookup's row shows of the number and the value: the value of an answer that has one, the number of a refusal.
-pub lookup-valued : (looked : Looked) (tier : ℕ) → values looked ≡ tier ∷ [] → lookup-answer looked ≡ decimal tier
-lookup-valued (Listed t) tier e = ap (λ (l : List ℕ). decimal (getD l 0 0)) e
-lookup-valued Absent tier e = absurd (omega (arith, ap length e))
-lookup-valued (Refused n) tier e = absurd (omega (arith, ap length e))
+-- The laws. What a lookup's row shows of the number and the values: the tier of a key that is listed, N of one that is not, the number of a refusal.
+pub lookup-listed : (looked : Looked) (tier : ℕ) → values looked ≡ 1 ∷ tier ∷ [] → lookup-answer looked ≡ decimal tier
+lookup-listed (Listed t) tier e = ap (λ (l : List ℕ). decimal (getD l 1 0)) e
+lookup-listed Absent tier e = absurd (omega (arith, ap length e))
+lookup-listed (Refused n) tier e = absurd (omega (arith, ap length e))
+
+pub lookup-absent : (looked : Looked) → values looked ≡ 0 ∷ [] → lookup-answer looked ≡ letter-N ∷ []
+lookup-absent (Listed t) e = absurd (omega (arith, ap length e))
+lookup-absent Absent e = refl
+lookup-absent (Refused n) e = absurd (omega (arith, ap length e))
 
 pub lookup-refused : (looked : Looked) → (number looked ≡ done → ⊥) → lookup-answer looked ≡ letter-R ∷ decimal (number looked)
 lookup-refused (Listed tier) h = absurd (h refl)

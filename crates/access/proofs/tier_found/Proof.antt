@@ -3,7 +3,7 @@ use mathlib.Core.Path.{sym, _∙_, ap}
 use borrow.Author.Needs.{needs}
 use Rattle.layout.specs.Layout.{tier-in, looked-at}
 use Rattle.layout.specs.Answers.{values}
-use Rattle.access.specs.Places.{tier-listed, tier-missed}
+use Rattle.access.specs.Places.{tier-listed, tier-missed, never-silent}
 use Rattle.access.proofs.tier_found.Statement.{statement}
 use Rattle.access.proofs.tier_found.Tie as tie
 
@@ -41,7 +41,7 @@ unfolding tier-in
 returns-3 c =
     let f = c .before .before in
     let a = start f .args in
-    tier-missed (looked-at (a .tabulation .now) (a .words .now) (a .key)) (a .key) (sym (ap values (c .enum-told2 .given .1)) ∙ f .find .ensures .1)
+    absurd (never-silent (looked-at (a .tabulation .now) (a .words .now) (a .key)) (a .key) (sym (ap values (c .enum-told2 .given .1)) ∙ f .find .ensures .1))
 
 pub tier-found-spec : {M : Type 1} → statement M
 tier-found-spec = tie.close (tie.spec find-requires enum-known-found enum-told enum-told-2 returns returns-2 returns-3)
