@@ -10,7 +10,7 @@ use borrow.Author.Tests.{eq-eqb, ne-eqb, lt-ltb, le-ltb}
 use lib.Dec.{eqb, ltb}
 use lib.ListN.{length, take}
 use lib.Seq.{length-take-le}
-use Rattle.basics.specs.Tests.{eq?}
+use Rattle.basics.specs.Tests.{test, eq?}
 use Rattle.basics.specs.Sets.{member, member-in, without, out-in, Asc}
 use Rattle.ordered.specs.Place.{with-cases}
 use Rattle.ordered.specs.Keys.{with-key}
@@ -19,6 +19,10 @@ use Rattle.tabulation.specs.Hash.{tabulation-length, blank}
 use Rattle.layout.specs.Entries.{max-tier, keys-of, tier-of, tiered, keys-tiered, tiered-agree, tier-tiered}
 use Rattle.layout.specs.Layout.{ValidKeys, params-of, slots-of, places-of, scratch-length, shaped, fits, image, keys-in, tier-in, set-in}
 use Rattle.layout.specs.Canonical.{canonical, canonical-true}
+use Rattle.layout.specs.Answers as Answers
+use Rattle.layout.specs.Answers.{lookup-values}
+use Rattle.layout.specs.declared.Found.{Found}
+use Rattle.layout.specs.declared.Found.the-variants.{Listed, Absent, Refused}
 use Rattle.layout.specs.Shape.{Shaped, shape}
 use Rattle.layout.specs.Standing.{keys-in-valid, not-blank, zero-outside}
 use Rattle.layout.specs.Fitting.{without-fits}
@@ -28,7 +32,7 @@ use Rattle.outcome.specs.declared.Change.{Change}
 use Rattle.outcome.specs.declared.Change.the-variants.{Insert, Remove}
 use Rattle.outcome.specs.Outcome.{early-refusals, keys-changed, tier-changed, changed, set-refusals, change-refusal, change-outcome, check-outcome}
 use Rattle.outcome.specs.Laws.{Ready, change-refused, check-ready, change-ready, change-set}
-use Rattle.outcome.specs.Held.{one-too-many, changed-keys, keys-changed-valid}
+use Rattle.outcome.specs.Held.{passed-holds, held-lookup, one-too-many, changed-keys, keys-changed-valid}
 use Rattle.renewal.specs.declared.Reading.{Reading}
 use Rattle.renewal.specs.declared.Reading.the-variants.{Keys, NotCanonical}
 use Rattle.renewal.specs.Tiers.{tier-now}
@@ -140,25 +144,49 @@ module _ {tabulation ws scratch : List ℕ} {n key : ℕ} (Z : Settable tabulati
           let e : fits P (keys-of L) ≡ fits P (with-key key (keys-in ws)) =
           ap (fits P) (changed-keys (Insert tier) key (set-in tabulation ws) ∙ ap (with-key key) set-keys) in
           let a : set-answer (Insert tier) tabulation ws key ≡ cond (not (fits P (with-key key (keys-in ws)))) stash-full done =
-          rw (small-test, set-keys, absent) in
-          (
+          rw (small-test, set-keys, absent) in (
             answer-turned (fits P (with-key key (keys-in ws))) ∙ sym a,
             ap (λ (f : Bool). cond f (image P L) ws) e ∙ words-turned (fits P (with-key key (keys-in ws))) (image P L) ws
                 ∙ ap (λ (n : ℕ). cond (eqb n done) (image P L) ws) (sym a),
           )
 
-  pub remove-absent : member key (take n scratch) ≡ false → Decided Remove tabulation ws key key-absent ws
-  remove-absent m = let t = rw (Z .front) at m in (rw (set-keys, t), rw (set-keys, t))
+  -- A lookup in these words finds exactly the keys of their set.
+  module _ (f : Found) (told : Answers.values f ≡ lookup-values tabulation ws key) where
+    looks-up : Answers.values f ≡ cond (member key (keys-in ws)) (1 ∷ tier-of (set-in tabulation ws) key ∷ []) (0 ∷ [])
+    looks-up =
+        let h = passed-holds tabulation ws (Z .ready .shape) (Z .image) in
+        told ∙ held-lookup h (Z .ready .full-length) key ∙ (rw (Z .not-blank, set-keys))
 
-  -- a set with a key has one
-  pub remove-some : member key (take n scratch) ≡ true → 1 ≤ n
-  remove-some m = elim (eq? n 0) [ inl e ↦ absurd (false≢true (rw e at m)) | inr e ↦ omega arith ]
+    pub found-listed : {t : ℕ} → f ≡ Listed t → member key (keys-in ws) ≡ true
+    found-listed e = elim (test (member key (keys-in ws))) [
+      | inl m ↦ m
+      | inr m ↦ absurd (omega (arith, ap length (rw (e, m) at looks-up)))
+    ]
 
-  pub remove-renewed : member key (take n scratch) ≡ true
+    -- 7, where the lookup says that the key is not listed
+    pub found-absent : ((t : ℕ) → f ≡ Listed t → ⊥) → Decided Remove tabulation ws key key-absent ws
+    found-absent n = elim (test (member key (keys-in ws))) [
+      | inl m ↦ absurd (missed f n (rw m at looks-up))
+      | inr m ↦ (rw (set-keys, m), rw (set-keys, m))
+    ]
+      where
+        missed : (f : Found) → ((t : ℕ) → f ≡ Listed t → ⊥) → {t : ℕ} → Answers.values f ≡ 1 ∷ t ∷ [] → ⊥
+        missed (Listed t) n e = n t refl
+        missed Absent n e = omega (arith, ap length e)
+        missed (Refused k) n e = omega (arith, ap length e)
+
+  module _ (m : member key (keys-in ws) ≡ true) where
+    pub remove-present : member key (take n scratch) ≡ true
+    remove-present = rw (Z .front) m
+
+    -- a set with a key has one
+    pub remove-some : 1 ≤ n
+    remove-some = elim (eq? n 0) [ inl e ↦ absurd (false≢true (rw e at remove-present)) | inr e ↦ omega arith ]
+
+  pub remove-renewed : member key (keys-in ws) ≡ true
       → Decided Remove tabulation ws key (new-answer (params-of tabulation ws) (without key (keys-in ws)))
       (new-words (params-of tabulation ws) (changed Remove key (set-in tabulation ws)) ws)
-  remove-renewed m =
-      let t = rw (Z .front) at m in
+  remove-renewed t =
       let g = rw set-keys at (canonical-true tabulation ws (Z .image) .fit) in
       let f = without-fits (params-of tabulation ws) valid key g in
       let e : keys-of (changed Remove key (set-in tabulation ws)) ≡ without key (keys-in ws) =

@@ -42,9 +42,9 @@ module _ (e : Entry) where
   put-in-keys (f ∷ L) (some h a) n = elim (le? (f .key) (e .key)) [
     | inr l ↦
         let low : keep (λ d. ltb d (e .key)) (keys-of L) ≡ [] = keep-none (λ d. ltb d (e .key)) (keys-of L)
-            (λ d i. le-ltb d (e .key) (omega (arith, h d i))) in
+        (λ d i. le-ltb d (e .key) (omega (arith, h d i))) in
         let high : keep (λ d. ltb (e .key) d) (keys-of L) ≡ keys-of L = keep-all (λ d. ltb (e .key) d) (keys-of L)
-            (λ d i. lt-ltb (e .key) d (omega (arith, h d i))) in
+        (λ d i. lt-ltb (e .key) d (omega (arith, h d i))) in
         rw (lt-ltb (e .key) (f .key) l, le-ltb (f .key) (e .key) (omega arith), low, high)
     | inl l ↦
         let other : e .key ≡ f .key → ⊥ = λ q. n (here q) in

@@ -11,13 +11,14 @@ use Rattle.basics.specs.Sets.{Asc}
 use Rattle.refusals.specs.Refusal.{done, first-refusal}
 use Rattle.layout.specs.Entries.{Entry, keys-of}
 use Rattle.layout.specs.Layout.{Params, scratch-length}
+use Rattle.layout.specs.Canonical.{image-of-keys}
 use Rattle.layout.specs.Answers.{looked-up}
 use Rattle.layout.specs.Look.{looked-entry, looked-none}
 use Rattle.outcome.specs.declared.Change.the-variants.{Insert, Remove}
 use Rattle.counters.specs.declared.Counters.{Counters}
 use Rattle.outcome.specs.Laws.{change-tabulation}
-use Rattle.outcome.specs.Held.{held-undone}
-use Rattle.history.specs.Calls.{Lent, own, wrong, Other, Call, Answer, Step, step, run, words-left}
+use Rattle.outcome.specs.Held.{held-some, held-undone, insert-kept}
+use Rattle.history.specs.Calls.{Lent, own, wrong, lent-of, Other, Call, Answer, Step, step, run, words-left}
 use Rattle.history.specs.Calls.{MayStand, Allowed, none, more, Sequence}
 use Rattle.history.specs.Model.{Request, request, requests, Reply, lookup-tests, reply, model, set-left}
 use Rattle.history.specs.Reads.{lookup-number, lookup-value}
@@ -103,6 +104,14 @@ module _ {P : Params} {ws : List ℕ} {cs : List Call} (q : Sequence P ws cs) wh
       × (step t W (Call.other x) .words ≡ W)
   unfolding step reply
   refused-next x n = (refl, x .leaves W n)
+
+  -- An insert of a key of the set, with whatever tier, leaves the words, and so the tier.
+  pub tier-stays : (l : Lent) (scratch : List ℕ) (counters : Counters) (key tier : ℕ) → In key (keys-of L)
+      → step t W (Call.change (Insert tier) l scratch counters key) .words ≡ W
+  unfolding step
+  tier-stays l scratch counters key tier i =
+      let h = history q .final in
+      insert-kept (lent-of t l) W scratch tier key (rw (image-of-keys (h .is) (held-some h)) i)
 
   -- A removal straight after the accepted insert of the same key, with the sequence's tabulation and a long enough scratch, is accepted and brings
   -- back every word.

@@ -29,7 +29,7 @@ use Rattle.layout.specs.Fitting.{without-valid, without-fits, fits-length, fits
 use Rattle.outcome.specs.declared.Change.{Change}
 use Rattle.outcome.specs.declared.Change.the-variants.{Insert, Remove}
 use Rattle.outcome.specs.Outcome.{keys-changed, tier-changed, changed, set-refusals, change-refusal, change-outcome, check-outcome}
-use Rattle.outcome.specs.Laws.{Ready, change-done, change-set, change-passed}
+use Rattle.outcome.specs.Laws.{Ready, change-done, change-refused, change-set, change-passed}
 
 -- The words are a dictionary that holds S: r and s are in their ranges, and the words are the image of S, a set that fits.
 pub record Holds (P : Params) (L : List Entry) (ws : List ℕ) : Type 0 where
@@ -57,7 +57,7 @@ module _ {P : Params} {L : List Entry} {ws : List ℕ} (h : Holds P L ws) where
   held-scratch = ap (λ (Q : Params). scratch-length (Q .slots) (Q .places)) held-params
 
 -- Words that pass hold the set of the keys that stand in them.
-passed-holds : (tabulation ws : List ℕ) → shaped ws ≡ true → canonical tabulation ws ≡ true → Holds (params-of tabulation ws) (set-in tabulation ws) ws
+pub passed-holds : (tabulation ws : List ℕ) → shaped ws ≡ true → canonical tabulation ws ≡ true → Holds (params-of tabulation ws) (set-in tabulation ws) ws
 passed-holds tabulation ws formed c = record { range = sized-true (slots-of ws) (places-of ws) (shape ws formed .sizes); is = canonical-true tabulation ws c }
 
 -- the new set
@@ -128,7 +128,7 @@ changed-back tier key L asc m =
     ap (without key) (changed-keys (Insert tier) key L) ∙ without-with key (keys-of L) asc out in
     ap (tiered (tier-of (changed (Insert tier) key L))) back
     ∙ tiered-agree (keys-of L) (λ c i.
-        changed-tier (Insert tier) key L (inserted-in tier key L c .1 (inr i)) ∙ (rw (ne-eqb c key (λ q. out (rw q at i)))))
+    changed-tier (Insert tier) key L (inserted-in tier key L c .1 (inr i)) ∙ (rw (ne-eqb c key (λ q. out (rw q at i)))))
     ∙ tiered-self L asc
 
 -- A set that has as many keys as there are slots and places does not fit with one more.
@@ -350,6 +350,16 @@ pub insert-eight : (tabulation ws scratch : List ℕ) (tier key : ℕ)
 insert-eight tabulation ws scratch tier key d =
     let p = change-passed tabulation ws scratch (Insert tier) key (elim d [ inl e ↦ inl e | inr e ↦ inr (omega arith) ]) in
     rw (keys-tiered (tier-in tabulation ws) (keys-in ws)) at (held-eight (passed-holds tabulation ws (p .0 .shape) (p .1)) scratch tier key d)
+
+-- An insert of a key that stands in the words, with whatever tier, leaves them: so it never changes a tier.
+pub insert-kept : (tabulation ws scratch : List ℕ) (tier key : ℕ) → In key (keys-in ws)
+    → change-outcome (Insert tier) tabulation ws scratch key .words ≡ ws
+insert-kept tabulation ws scratch tier key i =
+    change-refused tabulation ws scratch (Insert tier) key (λ e.
+    let p = change-passed tabulation ws scratch (Insert tier) key (inl e) in
+    let f = sym (change-set tabulation ws scratch (Insert tier) key (p .0) (p .1)) in
+    let m = insert-tried (params-of tabulation ws) key (set-in tabulation ws) tier f (inl e) .2 in
+    true≢false (sym (in-member i) ∙ (rw (keys-tiered (tier-in tabulation ws) (keys-in ws)) at m)))
 
 -- A removal straight after the accepted insert of the same key is accepted, and brings back every word.
 pub held-undone : {P : Params} {L : List Entry} {ws : List ℕ} → Holds P L ws → length (P .tabulation) ≡ tabulation-length

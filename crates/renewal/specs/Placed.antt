@@ -164,9 +164,9 @@ module _ (tabulation ws last : List ℕ) where
           let c = x .0 in
           let F = family Q in
           let of-slot : (v : ℕ) → v < R + R → slot-key (slot-0 F) (slot-1 F) K v ≡ c → any (ltb max-tier) stretch ≡ true = λ v l q.
-              let e : getD stretch v 0 ≡ tier-in tabulation ws c =
-              at-slot v (omega arith) ∙ (rw (keys-tiered found K, q) at (C .tiers-is v l)) ∙ key-tier (x .1) in
-              true-any (ltb max-tier) (getD-in stretch v (omega (arith, stretch-long))) (rw e (x .2)) in
+          let e : getD stretch v 0 ≡ tier-in tabulation ws c =
+          at-slot v (omega arith) ∙ (rw (keys-tiered found K, q) at (C .tiers-is v l)) ∙ key-tier (x .1) in
+          true-any (ltb max-tier) (getD-in stretch v (omega (arith, stretch-long))) (rw e (x .2)) in
           elim (seen (slot-0 F) (slot-1 F) (keys-in-valid ws .asc) (x .1)) [
             | table-0 q ↦ of-slot (slot-0 F c) (omega (arith, slot-0-lt F some c)) q
             | table-1 q ↦ of-slot (slot-1 F c) (slot-1-lt F some c) q

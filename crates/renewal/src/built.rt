@@ -6,14 +6,14 @@ ghost use lib.ListN.{length};
 ghost use Rattle.build.specs.Scratch.{parts};
 ghost use Rattle.renewal.specs.Parts.{Parted, PartsComparable, PartsWritable, tiers-in, beside-in};
 ghost use Rattle.renewal.specs.Parts.{small-in, alike-in, written-in};
+use crate::tiers::are_small;
+use crate::tiers::beside_start;
+use crate::tiers::tiers_start;
 use layout::Header;
 use parts::held_start;
 use parts::next_start;
 use parts::sets_start;
 use parts::stashed_start;
-use crate::tiers::are_small;
-use crate::tiers::beside_start;
-use crate::tiers::tiers_start;
 use words::wide;
 
 // The parts of scratch that the image is made of.

@@ -26,7 +26,6 @@ use tiers::place_tiers;
 use words::fill;
 
 mod built;
-
 mod tiers;
 
 // What reading words as a set gives: how many keys it has, or that they are the image of no set.

@@ -85,8 +85,7 @@ returns-2 : tie.Need-returns-2
 returns-2 c =
     let j = c .before .before in
     let i = earlier (j .before) in
-    let a = start (i .before) .args in
-    (
+    let a = start (i .before) .args in (
       refl,
       found-second (a .tabulation .now) (a .words .now) (a .key) (sym (first-test i) ∙ j .before .before .if1 .left) (sym (second-test j) ∙ c .before .if2 .taken)
           (rw (second-is (j .before)) at (c .slot-tier2 .ensures)),
@@ -125,8 +124,7 @@ returns-3 c =
     let s = w .before in
     let j = s .before .before in
     let i = earlier (j .before) in
-    let h = i .before .before .read-header .ensures in
-    (
+    let h = i .before .before .read-header .ensures in (
       c .find-place .ensures .0,
       found-stash _ _ _ (sym (first-test i) ∙ j .before .before .if1 .left) (sym (second-test j) ∙ s .before .if2 .left)
           (s .stash-start .ensures ∙ ap stash-at (h .0)) (w .wide .ensures ∙ h .1 .0) (c .find-place .ensures .1),

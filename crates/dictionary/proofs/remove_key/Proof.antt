@@ -1,49 +1,52 @@
--- `dictionary::remove_key` meets its contract: the key is not there, or the set without it is built.
+-- `dictionary::remove_key` meets its contract: a lookup says that the key is not listed, or the set without it is built.
 use Prim.Native.Nat.{_+_, _-_, _*_, _≤_}
-use mathlib.Core.Path.{_≡_, sym, _∙_}
+use mathlib.Core.Path.{_≡_, ap}
 use mathlib.Core.Bool.{true}
+use mathlib.Core.Logic.{inl, inr}
 use native.Mathlib.Omega.{arith}
-use borrow.Author.Tests.{not-true, not-false}
-use lib.ListN.{take}
+use denote.Enum.Declared.{tagOf}
 use Rattle.basics.specs.Sets.{member}
-use Rattle.layout.specs.Layout.{slots-of, places-of}
+use Rattle.layout.specs.Layout.{slots-of, places-of, keys-in}
+use Rattle.layout.proofs.Found.{the-type}
 use Rattle.outcome.specs.declared.Change.the-variants.{Remove}
-use Rattle.dictionary.specs.Core.{key-count, front-fits, front-length, front-asc, remove-absent, remove-some, remove-renewed, changed-buildable, changed-renewed}
+use Rattle.dictionary.specs.Core.{key-count, front-fits, front-asc, found-listed, found-absent, remove-present, remove-some, remove-renewed, changed-buildable, changed-renewed}
 use borrow.Author.Needs.{needs}
 use Rattle.dictionary.proofs.remove_key.Statement.{statement}
 use Rattle.dictionary.proofs.remove_key.Tie as tie
 
-slice-reshare-prefix-has : tie.Need-slice-reshare-prefix-has
-slice-reshare-prefix-has c = front-fits (c .before .before .before .pre)
+lookup-requires : tie.Need-lookup-requires
+lookup-requires c κs = search needs
 
-slice-aggregate-has : tie.Need-slice-aggregate-has
-slice-aggregate-has c = front-length (c .before .before .before .before .pre)
-
-has-requires : tie.Need-has-requires
-has-requires c κs = front-asc (c .before .before .before .before .pre)
+enum-told : tie.Need-enum-told
+enum-told c = c .match .keys1
 
 same-length : tie.Need-same-length
 same-length c = search needs
 
--- where all began
-abbrev origin : tie.After-has → tie.Start
-origin h = h .before .before .before .before .before
+-- the key is looked up
+abbrev origin : tie.After-lookup → tie.Start
+origin l = l .before .before .before .before .before
 
 returns : tie.Need-returns
-returns c = remove-absent (origin (c .before) .pre) (sym (c .before .has .ensures) ∙ not-true _ (c .if1 .taken))
+returns c =
+    let l = c .before in
+    found-absent (origin l .pre) (l .lookup .result) (l .lookup .ensures .1)
+    (λ t q. elim (c .match .keys2) [ inl e ↦ omega (arith, ap (tagOf the-type) q) | inr e ↦ omega (arith, ap (tagOf the-type) q) ])
 
--- the key is there
-abbrev start : tie.Else1 → tie.Start
-start e = origin (e .before)
+-- it is listed
+abbrev start : tie.After-enum-told → tie.Start
+start e = origin (e .before .before)
 
-present : (e : tie.Else1) → member (start e .args .key) (take (start e .args .n) (start e .args .scratch .now)) ≡ true
-present e = sym (e .before .has .ensures) ∙ not-false _ (e .if1 .left)
+present : (e : tie.After-enum-told) → member (start e .args .key) (keys-in (start e .args .words .now)) ≡ true
+present e =
+    let l = e .before .before in
+    found-listed (origin l .pre) (l .lookup .result) (l .lookup .ensures .1) (e .enum-told .given .1)
 
-few : (e : tie.Else1) → start e .args .n - 1 ≤ 2 * slots-of (start e .args .words .now) + places-of (start e .args .words .now)
+few : (e : tie.After-enum-told) → start e .args .n - 1 ≤ 2 * slots-of (start e .args .words .now) + places-of (start e .args .words .now)
 few e = omega (arith, key-count (start e .pre))
 
 delete-requires : tie.Need-delete-requires
-delete-requires c κs = let e = c .before in (front-fits (start e .pre), front-asc (start e .pre), present e)
+delete-requires c κs = let e = c .before in (front-fits (start e .pre), front-asc (start e .pre), remove-present (start e .pre) (present e))
 
 -- it is deleted
 abbrev deleted : tie.After-renew-arg2 → tie.After-delete
@@ -75,9 +78,8 @@ pub remove-key-spec : {M : Type 1} → statement M
 remove-key-spec =
     tie.close
     (tie.spec
-    slice-reshare-prefix-has
-    slice-aggregate-has
-    has-requires
+    lookup-requires
+    enum-told
     same-length
     returns
     delete-requires

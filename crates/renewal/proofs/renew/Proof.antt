@@ -51,8 +51,7 @@ place-tiers-requires : tie.Need-place-tiers-requires
 place-tiers-requires c κs =
     let b = build-at (c .before .before .before) in
     let h = headed b .read-header .ensures in
-    let d = start (headed b) in
-    (
+    let d = start (headed b) in (
       (d .pre .0 .hashing .full-length, d .pre .1 .0),
       parted-as (h .0) (h .1 .0) (record { sizes = d .pre .1 .0 .sizes; room = omega (arith, d .pre .1 .1, b .build .kept .0) }),
     )

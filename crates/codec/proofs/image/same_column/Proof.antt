@@ -67,8 +67,7 @@ loop-again c =
     let n = c .before .before .before in
     let l = n .before .loop in
     let a = n .before .before .args in
-    let e = next n in
-    (
+    let e = next n in (
       search needs,
       omega arith,
       rw add-one (l .inv .2 ∙ same-next (a .words .now) (a .step) (l .at) (a .column .now) (l .i) (omega arith) ∙ (rw (eq-eqb _ _ (c .if1 .left)))),

@@ -60,8 +60,7 @@ loop-again c =
     let n = c .before in
     let l = n .before .loop in
     let a = n .before .before .args in
-    let e = next n in
-    (
+    let e = next n in (
       search needs,
       simp length-set (l .inv .1),
       omega arith,
