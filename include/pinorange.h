@@ -1,13 +1,16 @@
-/* The card list of a pump head: a dictionary in lent words whose content is a function of the set of keys alone (libpinorange.a).
+/* The card list of a pump head: a dictionary in lent words whose content is a function of the set alone, of the keys with their tiers (libpinorange.a).
  *
  * Every call below is proved: it reads and writes nothing outside the memory that it is lent, for every content and length, and returns. What each
  * call promises is stated in crates/pinorange/src/lib.rt; docs/SPECIFICATION.md has the table of numbers, docs/GLOSSARY.md the words of the trade: key is its
  * card, slot its pocket, table its rack, stash its drawer, tabulation its spread book, scratch its work sheet, counters its meter, words its list.
  *
+ * The tier of a key is a number from 0 to PINORANGE_MAX_TIER: the price tier of a card. It is given when the key is inserted and stands beside it in the
+ * words. It has no part in where a key sits: two sets of the same keys with other tiers differ in the tier words alone.
+ *
  * What the caller sees to: no pointer is null (a length of 0 needs one, too), pointers are aligned, and no two lent pieces of memory overlap. One
  * tabulation goes with a dictionary; under another its words are, in general, the image of no set (4). No call keeps state of its own. The promises hold when
  * a call returns: let nothing else touch the same words or scratch meanwhile. After a reset in the middle of a call, zero the scratch, and check.
- * "The set" is the set whose canonical image the words are, under the lent tabulation. */
+ * "The set" is the set whose canonical image the words are, under the lent tabulation: keys, each with one tier. */
 #ifndef PINORANGE_H
 #define PINORANGE_H
 
@@ -17,19 +20,25 @@
 extern "C" {
 #endif
 
-/* The other numbers that a call answers. They are tried in the order of the numbers. Of a call on words, PINORANGE_WRONG_SHAPE (2) says: there are fewer than
- * 4 words, word 0 (r) is not 1 to 1,024, word 1 (s) is above 64, or there are not PINORANGE_WORDS(r, s). */
+/* The other numbers that a call answers. A call tries those that it can give in the order 1, 2, 3, 4, 5, 9, 10, 6, 7, 8. Of a call on words,
+ * PINORANGE_WRONG_SHAPE (2) says: there are fewer than 4 words, word 0 (r) is not 1 to 1,024, word 1 (s) is above 64, or there are not
+ * PINORANGE_WORDS(r, s). */
 #define PINORANGE_SHORT_SCRATCH 3u /* the scratch is shorter than PINORANGE_SCRATCH(r, s) */
 #define PINORANGE_NOT_CANONICAL 4u /* under the lent tabulation the words are the canonical image of no set */
-#define PINORANGE_KEY_PRESENT 6u   /* insert of a key that is in the set */
+#define PINORANGE_WRONG_TIER 9u    /* insert with a tier above PINORANGE_MAX_TIER */
+#define PINORANGE_OTHER_TIER 10u   /* insert of a key that is in the set with another tier, which it keeps */
+#define PINORANGE_KEY_PRESENT 6u   /* insert of a key that is in the set with this tier */
 #define PINORANGE_KEY_ABSENT 7u    /* remove of a key that is not in the set */
 #define PINORANGE_STASH_FULL 8u    /* the new set cannot be placed: its stash would have more than s keys */
 
 #define PINORANGE_MAX_PLACES 64u /* the most places of a stash, s */
+#define PINORANGE_MAX_TIER 7u    /* the largest tier */
 
-/* Sizes in 32-bit words, for r slots in each table and s stash places: the dictionary, and the scratch that insert, remove and check borrow. */
-#define PINORANGE_WORDS(r, s) (4u + 4u * (r) + (s))
-#define PINORANGE_SCRATCH(r, s) (8u * (r) + 4u * (s))
+/* Sizes in 32-bit words, for r slots in each table and s stash places: the dictionary, and the scratch that insert, remove and check borrow. The words are
+ * r, s, the number of keys and that of the stashed ones; then the slots of table 0 and of table 1, three words each: key, next number, tier; then the stash
+ * places, two words each: key, tier. An empty slot or place is zeros. */
+#define PINORANGE_WORDS(r, s) (4u + 6u * (r) + 2u * (s))
+#define PINORANGE_SCRATCH(r, s) (12u * (r) + 8u * (s))
 
 /* Counts of calls. A count at 4,294,967,295 stays there. */
 struct pinorange_counters {
@@ -42,14 +51,16 @@ struct pinorange_counters {
  * The counters move on by one, done or refused. */
 uint32_t pinorange_init(uint32_t *words, size_t words_length, uint32_t r, uint32_t s, struct pinorange_counters *counters);
 
-/* Puts a key into the set. Done (0): the words are the canonical image of the set with the key, in every word.
- * Refused (1 to 6 or 8, tried in that order): the words stay. 8 exactly when there is no way at all to give each key of the new set one of its two slots
- * or one of the s stash places, no slot two keys.
+/* Puts a key with its tier into the set. Done (0): the words are the canonical image of the set with the key at this tier, in every word.
+ * Refused (1, 2, 3, 4, 5, 9, 10, 6 or 8, tried in that order): the words stay. 8 exactly when there is no way at all to give each key of the new set one of
+ * its two slots or one of the s stash places, no slot two keys.
+ * An insert never changes the tier of a key that is in the set: with the tier that it has it is refused with 6, with another with 10. To change a tier,
+ * remove the key and insert it with the new one; the same keys fit again.
  * The scratch is zero over its full length afterwards, refused or not; its old content has no effect. The counters move on by one. */
 uint32_t pinorange_insert(const uint16_t *tabulation, size_t tabulation_length, uint32_t *words, size_t words_length,
-                          uint32_t *scratch, size_t scratch_length, struct pinorange_counters *counters, uint32_t key);
+                          uint32_t *scratch, size_t scratch_length, struct pinorange_counters *counters, uint32_t key, uint32_t tier);
 
-/* Takes a key out of the set. Done (0): the words are the canonical image of the set without the key, in every word.
+/* Takes a key out of the set, whatever its tier. Done (0): the words are the canonical image of the set without the key, in every word.
  * Refused (1 to 5 or 7, tried in that order): the words stay. Scratch and counters as for insert. */
 uint32_t pinorange_remove(const uint16_t *tabulation, size_t tabulation_length, uint32_t *words, size_t words_length,
                           uint32_t *scratch, size_t scratch_length, struct pinorange_counters *counters, uint32_t key);
@@ -58,18 +69,21 @@ uint32_t pinorange_remove(const uint16_t *tabulation, size_t tabulation_length, 
 uint32_t pinorange_check(const uint16_t *tabulation, size_t tabulation_length, const uint32_t *words, size_t words_length,
                          uint32_t *scratch, size_t scratch_length);
 
-/* Whether a key is in the dictionary.
+/* Whether a key is in the dictionary, and its tier.
  *
- * Reads: the tabulation and the words, of any length and content. Writes: nothing but `*present`.
- * Done (0): `*present` is 1 if the key stands in one of its two slots or in the stash, else 0. On a canonical image, with the tabulation that it was
- *   made with, that is 1 exactly for the keys of the set.
- * Refused (1, 2 or 5, tried in that order): `*present` stays as it was. */
+ * Reads: the tabulation and the words, of any length and content. Writes: nothing but `*listed` and `*tier`.
+ * Done (0): if the key stands in one of its two slots or in the stash, `*listed` is 1 and `*tier` the tier word there; else `*listed` is 0 and `*tier` stays
+ *   as it was. On a canonical image, with the tabulation that it was made with, `*listed` is 1 exactly for the keys of the set, and `*tier` the key's tier.
+ *   On other words of the right shape a key may stand more than once, and the first counts: its slot in table 0, its slot in table 1, then the stash places
+ *   in order; and the tier word may be any number, above PINORANGE_MAX_TIER, too. pinorange_check tells whether words are such.
+ * Refused (1, 2 or 5, tried in that order): `*listed` and `*tier` stay as they were. */
 uint32_t pinorange_lookup(const uint16_t *tabulation, size_t tabulation_length, const uint32_t *words, size_t words_length,
-                          uint32_t key, uint32_t *present);
+                          uint32_t key, uint32_t *listed, uint32_t *tier);
 
-/* Where the filled stretch of the stash stands in the words: `words[*offset]` to `words[*offset + *length - 1]`, ascending in a canonical image.
+/* Where the filled stretch of the stash stands in the words: `words[*offset]` to `words[*offset + *length - 1]`, two words for each stashed key, the key and
+ * its tier; ascending by key in a canonical image.
  *
- * Done (0): offset and length of the stretch, inside the words.
+ * Done (0): offset and length of the stretch in words, inside the words: the length is twice the number of stashed keys.
  * Refused (2, or 4 when word 3 counts more stashed keys than there are places): `*offset` and `*length` are 0. */
 uint32_t pinorange_stash(const uint32_t *words, size_t words_length, uint32_t *offset, uint32_t *length);
 
