@@ -1,12 +1,12 @@
 //! One call of the library beside the same call of the program by another hand: answer, every word, scratch, tabulation, counters and out-parameters, on
 //! memory with guards around every lent slice. The answers are counted, call by call.
 
-use reference::answer::number;
+use reference::answer::{number, Found};
 use reference::counters::Counters as Meter;
 use reference::fast::Fast;
 
 use crate::guarded::Guarded;
-use crate::Counters;
+use crate::{Change, Counters};
 
 /// The calls.
 #[derive(Clone, Copy, Debug, PartialEq, Eq)]
@@ -21,10 +21,10 @@ pub enum Kind {
     House,
 }
 
-/// The answers that each call can give. Specification, "What a call gives back".
+/// The answers that each call can give, refusals in the order in which they are tried. Specification, "What a call gives back".
 pub const ANSWERS: [(Kind, &[u32]); 8] = [
     (Kind::Init, &[0, 2]),
-    (Kind::Insert, &[0, 1, 2, 3, 4, 5, 6, 8]),
+    (Kind::Insert, &[0, 1, 2, 3, 4, 5, 9, 10, 6, 8]),
     (Kind::Remove, &[0, 1, 2, 3, 4, 5, 7]),
     (Kind::Check, &[0, 1, 2, 3, 4]),
     (Kind::Lookup, &[0, 1, 2, 5]),
@@ -40,7 +40,9 @@ const GUARD: u32 = 0xABCD_1234;
 /// Calls the library beside the reference and counts the answers.
 #[derive(Default)]
 pub struct Beside {
-    seen: [[u64; 9]; 8],
+    seen: [[u64; 11]; 8],
+    /// Of the lookups that were not refused: how many did not find their key, and how many did.
+    found: [u64; 2],
 }
 
 impl Beside {
@@ -58,7 +60,13 @@ impl Beside {
         self.seen.iter().flatten().sum()
     }
 
-    /// Prints how often each call gave each answer. Fails where one of these calls never gave an answer that it can give.
+    /// How often a call gave an answer.
+    pub fn given(&self, kind: Kind, answer: u32) -> u64 {
+        self.seen[kind as usize][answer as usize]
+    }
+
+    /// Prints how often each call gave each answer. Fails where one of these calls never gave an answer that it can give; of lookups also where all found
+    /// their key, or none did.
     pub fn report(&self, kinds: &[Kind]) {
         for (kind, answers) in ANSWERS {
             let seen = &self.seen[kind as usize];
@@ -73,6 +81,11 @@ impl Beside {
             }
             let given: u64 = answers.iter().map(|a| seen[*a as usize]).sum();
             assert_eq!(given, seen.iter().sum::<u64>(), "{kind:?} gave an answer it cannot give");
+            if kind == Kind::Lookup {
+                let [no, yes] = self.found;
+                println!("{kind:?}: {yes} listed, {no} not listed");
+                assert!(yes > 0 && no > 0, "lookups found every key, or none");
+            }
         }
     }
 
@@ -92,7 +105,7 @@ impl Beside {
     /// An insert or a remove.
     pub fn change(
         &mut self,
-        kind: Kind,
+        change: Change,
         tabulation: &[u16],
         words: &mut [u32],
         scratch: &[u32],
@@ -103,19 +116,23 @@ impl Beside {
         let mut meter = meter_of(counters);
         let mut theirs = scratch.to_vec();
         #[rustfmt::skip]
-        let (answer, ours): (_, crate::Change) = match kind {
-            Kind::Insert => (reference::calls::insert(&Fast, tabulation, &mut expected, &mut theirs, &mut meter, key), crate::insert),
-            _ => (reference::calls::remove(&Fast, tabulation, &mut expected, &mut theirs, &mut meter, key), crate::remove),
+        let (kind, answer) = match change {
+            Change::Insert(tier) => {
+                (Kind::Insert, reference::calls::insert(&Fast, tabulation, &mut expected, &mut theirs, &mut meter, key, tier))
+            }
+            Change::Remove => {
+                (Kind::Remove, reference::calls::remove(&Fast, tabulation, &mut expected, &mut theirs, &mut meter, key))
+            }
         };
         let mut book = Guarded::new(tabulation, 0x5A5A);
         let mut lent = Guarded::new(words, GUARD);
         let mut sheet = Guarded::new(scratch, GUARD);
-        let got = ours(book.lent(), lent.lent(), sheet.lent(), counters, key);
-        assert_eq!(got, number(answer), "{kind:?} of {key} on {words:?}");
-        assert_eq!(lent.content(), &expected[..], "{kind:?} of {key} on {words:?}");
+        let got = crate::update(change, book.lent(), lent.lent(), sheet.lent(), counters, key);
+        assert_eq!(got, number(answer), "{change:?} of {key} on {words:?}");
+        assert_eq!(lent.content(), &expected[..], "{change:?} of {key} on {words:?}");
         assert!(sheet.content().iter().all(|w| *w == 0), "the scratch is not zero");
         assert_eq!(book.content(), tabulation, "the tabulation changed");
-        assert_eq!(meter_of(counters), meter, "{kind:?}");
+        assert_eq!(meter_of(counters), meter, "{change:?}");
         words.copy_from_slice(&expected);
         self.count(kind, got)
     }
@@ -134,19 +151,23 @@ impl Beside {
         self.count(Kind::Check, got)
     }
 
-    /// A lookup: its answer, and whether it said yes.
-    pub fn lookup(&mut self, tabulation: &[u16], words: &[u32], key: u32) -> (u32, bool) {
-        let (answer, value) = match reference::calls::lookup(tabulation, words, key) {
-            Ok(present) => (0, u32::from(present)),
-            Err(refusal) => (refusal.number(), OLD),
+    /// A lookup: its answer, and the tier that it found, if it found the key. Where it did not, the tier stays as it was; refused, both out-parameters do.
+    pub fn lookup(&mut self, tabulation: &[u16], words: &[u32], key: u32) -> (u32, Option<u32>) {
+        let (answer, values) = match reference::calls::lookup(tabulation, words, key) {
+            Ok(Found::Listed(tier)) => (0, [1, tier]),
+            Ok(Found::Absent) => (0, [0, !OLD]),
+            Err(refusal) => (refusal.number(), [OLD, !OLD]),
         };
         let mut book = Guarded::new(tabulation, 0x5A5A);
         let mut lent = Guarded::new(words, GUARD);
-        let mut present = OLD;
-        let got = crate::lookup(book.lent(), lent.lent(), key, &mut present);
-        assert_eq!((got, present), (answer, value), "lookup of {key} in {words:?}");
+        let (mut listed, mut tier) = (OLD, !OLD);
+        let got = crate::lookup(book.lent(), lent.lent(), key, &mut listed, &mut tier);
+        assert_eq!((got, [listed, tier]), (answer, values), "lookup of {key} in {words:?}");
         assert_eq!((book.content(), lent.content()), (tabulation, words), "lookup changed memory");
-        (self.count(Kind::Lookup, got), present == 1)
+        if got == 0 {
+            self.found[listed as usize] += 1;
+        }
+        (self.count(Kind::Lookup, got), (listed == 1).then_some(tier))
     }
 
     /// The stash view: its number. Offset and length name a part of the caller's own words, or nothing.
@@ -159,7 +180,7 @@ impl Beside {
         assert_eq!(got, answer, "view of {words:?}");
         if got == 0 {
             assert_eq!(&words[offset as usize..][..length as usize], expected, "{words:?}");
-            assert_eq!(offset, 4 + 4 * words[0], "the view does not begin with the stash");
+            assert_eq!(offset, 4 + 6 * words[0], "the view does not begin with the stash");
         } else {
             assert_eq!((offset, length), (0, 0), "a refused view is not empty");
         }

@@ -18,7 +18,7 @@ extern "C" {
 
     fn pinorange_insert(
         tabulation: *const u16, tabulation_length: usize, words: *mut u32, words_length: usize,
-        scratch: *mut u32, scratch_length: usize, counters: *mut Counters, key: u32,
+        scratch: *mut u32, scratch_length: usize, counters: *mut Counters, key: u32, tier: u32,
     ) -> u32;
 
     fn pinorange_remove(
@@ -33,7 +33,7 @@ extern "C" {
 
     fn pinorange_lookup(
         tabulation: *const u16, tabulation_length: usize, words: *const u32, words_length: usize,
-        key: u32, present: *mut u32,
+        key: u32, listed: *mut u32, tier: *mut u32,
     ) -> u32;
 
     fn pinorange_stash(words: *const u32, words_length: usize, offset: *mut u32, length: *mut u32) -> u32;
@@ -53,52 +53,42 @@ pub fn init(words: &mut [u32], r: u32, s: u32, counters: &mut Counters) -> u32 {
     unsafe { pinorange_init(words.as_mut_ptr(), words.len(), r, s, counters) }
 }
 
-/// An insert or a remove, as a function.
-pub type Change = fn(&[u16], &mut [u32], &mut [u32], &mut Counters, u32) -> u32;
-
-type ExportedChange = unsafe extern "C" fn(
-    *const u16,
-    usize,
-    *mut u32,
-    usize,
-    *mut u32,
-    usize,
-    *mut Counters,
-    u32,
-) -> u32;
-
-fn call(
-    exported: ExportedChange,
-    tabulation: &[u16],
-    words: &mut [u32],
-    scratch: &mut [u32],
-    counters: &mut Counters,
-    key: u32,
-) -> u32 {
+/// Puts a key in, with its tier.
+#[rustfmt::skip]
+pub fn insert(tabulation: &[u16], words: &mut [u32], scratch: &mut [u32], counters: &mut Counters, key: u32, tier: u32) -> u32 {
     unsafe {
-        exported(
-            tabulation.as_ptr(),
-            tabulation.len(),
-            words.as_mut_ptr(),
-            words.len(),
-            scratch.as_mut_ptr(),
-            scratch.len(),
-            counters,
-            key,
+        pinorange_insert(
+            tabulation.as_ptr(), tabulation.len(), words.as_mut_ptr(), words.len(),
+            scratch.as_mut_ptr(), scratch.len(), counters, key, tier,
         )
     }
-}
-
-/// Puts a key in.
-#[rustfmt::skip]
-pub fn insert(tabulation: &[u16], words: &mut [u32], scratch: &mut [u32], counters: &mut Counters, key: u32) -> u32 {
-    call(pinorange_insert, tabulation, words, scratch, counters, key)
 }
 
 /// Takes a key out.
 #[rustfmt::skip]
 pub fn remove(tabulation: &[u16], words: &mut [u32], scratch: &mut [u32], counters: &mut Counters, key: u32) -> u32 {
-    call(pinorange_remove, tabulation, words, scratch, counters, key)
+    unsafe {
+        pinorange_remove(
+            tabulation.as_ptr(), tabulation.len(), words.as_mut_ptr(), words.len(),
+            scratch.as_mut_ptr(), scratch.len(), counters, key,
+        )
+    }
+}
+
+/// What becomes of a key: an insert, with its tier, or a remove.
+#[derive(Clone, Copy, Debug, PartialEq, Eq)]
+pub enum Change {
+    Insert(u32),
+    Remove,
+}
+
+/// An insert or a remove.
+#[rustfmt::skip]
+pub fn update(change: Change, tabulation: &[u16], words: &mut [u32], scratch: &mut [u32], counters: &mut Counters, key: u32) -> u32 {
+    match change {
+        Change::Insert(tier) => insert(tabulation, words, scratch, counters, key, tier),
+        Change::Remove => remove(tabulation, words, scratch, counters, key),
+    }
 }
 
 /// Says whether the words are a canonical image.
@@ -115,16 +105,13 @@ pub fn check(tabulation: &[u16], words: &[u32], scratch: &mut [u32]) -> u32 {
     }
 }
 
-/// Says whether a key is in the dictionary.
-pub fn lookup(tabulation: &[u16], words: &[u32], key: u32, present: &mut u32) -> u32 {
+/// Says whether a key is in the dictionary, and its tier.
+#[rustfmt::skip]
+pub fn lookup(tabulation: &[u16], words: &[u32], key: u32, listed: &mut u32, tier: &mut u32) -> u32 {
     unsafe {
         pinorange_lookup(
-            tabulation.as_ptr(),
-            tabulation.len(),
-            words.as_ptr(),
-            words.len(),
-            key,
-            present,
+            tabulation.as_ptr(), tabulation.len(), words.as_ptr(), words.len(),
+            key, listed, tier,
         )
     }
 }
@@ -152,12 +139,12 @@ pub fn house(tabulation: &mut [u16]) -> u32 {
 
 /// How many words a dictionary has.
 pub fn words_length(r: u32, s: u32) -> usize {
-    4 + 4 * r as usize + s as usize
+    4 + 6 * r as usize + 2 * s as usize
 }
 
 /// How many words of scratch a change or a check borrows.
 pub fn scratch_length(r: u32, s: u32) -> usize {
-    8 * r as usize + 4 * s as usize
+    12 * r as usize + 8 * s as usize
 }
 
 /// Freshly laid words.
@@ -172,5 +159,5 @@ pub fn fresh(r: u32, s: u32) -> Vec<u32> {
 /// An insert or a remove with a scratch that is just long enough.
 pub fn change(change: Change, tabulation: &[u16], words: &mut [u32], key: u32) -> u32 {
     let mut scratch = vec![u32::MAX; scratch_length(words[0], words[1])];
-    change(tabulation, words, &mut scratch, &mut Counters::default(), key)
+    update(change, tabulation, words, &mut scratch, &mut Counters::default(), key)
 }

@@ -1,30 +1,34 @@
-//! Worked examples through the built library: the edges of the sizes, and the test board of the specification.
+//! Worked examples through the built library: the edges of the sizes, and the test board of the specification, with tier 0 throughout and with others.
 
 use library::beside::{Beside, Kind};
-use library::{change, fresh, insert, lookup, remove, stash, words_length, Counters};
+use library::Change::{Insert, Remove};
+use library::{change, fresh, lookup, scratch_length, stash, words_length, Counters};
 use reference::samples::test_tabulation;
+use reference::set::Member;
 
 #[test]
 fn sizes_at_their_edges() {
     let mut beside = Beside::new();
     let mut counters = Counters::default();
     for (r, s, length, answer) in [
-        (1_024, 64, 4_164, 0),
-        (1_025, 64, 4_168, 2),
-        (1_024, 65, 4_165, 2),
-        (0, 1, 5, 2),
-        (1, 1, 9, 0),
-        (1, 1, 10, 2),
-        (1, 1, 8, 2),
+        (1_024, 64, 6_276, 0),
+        (1_025, 64, 6_282, 2),
+        (1_024, 65, 6_278, 2),
+        (0, 1, 6, 2),
+        (1, 1, 12, 0),
+        (1, 1, 13, 2),
+        (1, 1, 11, 2),
+        (1, 1, 9, 2),
         (1, 0, 0, 2),
-        (1 << 30, 5, 9, 2),
+        (1 << 31, 5, 14, 2),
+        (1, 1 << 31, 10, 2),
         (u32::MAX, u32::MAX, 4, 2),
     ] {
         let mut words = vec![9; length];
         assert_eq!(beside.init(&mut words, r, s, &mut counters), answer);
         assert!(answer == 0 || words.iter().all(|w| *w == 9), "a refused init changed words");
     }
-    assert_eq!((counters.done, counters.refused), (2, 8));
+    assert_eq!((counters.done, counters.refused), (2, 10));
     beside.report(&[Kind::Init]);
 }
 
@@ -33,9 +37,10 @@ fn a_count_at_the_limit_stays() {
     let mut beside = Beside::new();
     let mut words = fresh(1, 0);
     let mut counters = Counters { done: u32::MAX - 1, refused: u32::MAX };
-    for key in [1, 2, 3, 0] {
-        let scratch = [u32::MAX; 8];
-        beside.change(Kind::Insert, &test_tabulation(), &mut words, &scratch, &mut counters, key);
+    for (key, tier) in [(1, 0), (2, 7), (3, 0), (0, 0), (1, 8), (1, 1)] {
+        let scratch = [u32::MAX; 12];
+        let way = Insert(tier);
+        beside.change(way, &test_tabulation(), &mut words, &scratch, &mut counters, key);
     }
     assert_eq!((counters.done, counters.refused), (u32::MAX, u32::MAX));
 }
@@ -44,17 +49,25 @@ fn a_count_at_the_limit_stays() {
 #[test]
 fn the_smallest_dictionary() {
     let tabulation = test_tabulation();
-    let mut words = fresh(1, 0);
-    assert_eq!(change(insert, &tabulation, &mut words, u32::MAX), 0);
-    assert_eq!(change(insert, &tabulation, &mut words, 200), 0);
-    assert_eq!(words, [1, 0, 2, 0, 200, u32::MAX, u32::MAX, 200]);
-    assert_eq!(change(insert, &tabulation, &mut words, 7), 8);
+    for [tier, largest] in [[0, 0], [7, 2]] {
+        let mut words = fresh(1, 0);
+        assert_eq!(change(Insert(largest), &tabulation, &mut words, u32::MAX), 0);
+        assert_eq!(change(Insert(tier), &tabulation, &mut words, 200), 0);
+        assert_eq!(words, [1, 0, 2, 0, 200, u32::MAX, tier, u32::MAX, 200, largest]);
+        assert_eq!(change(Insert(0), &tabulation, &mut words, 7), 8);
+    }
 }
 
-/// The sets of K1 to K11, in every word, and K7 and K10 by a removal.
+/// The keys, each with the tier that its place among them gives.
+fn with_tiers(keys: &[u32], tier: impl Fn(u32) -> u32) -> Vec<Member> {
+    (0..).zip(keys).map(|(place, key)| (*key, tier(place))).collect()
+}
+
+/// The sets of K1 to K11, in every word, and K7 and K10 by a removal: with tier 0 throughout, as the specification has them, and with others.
 #[test]
 fn the_rows_of_the_test_board() {
     let tabulation = test_tabulation();
+    let tiers: [fn(u32) -> u32; 4] = [|_| 0, |_| 7, |place| 1 + place, |place| (5 * place + 3) % 8];
     for (s, keys, removed) in [
         (1, &[][..], None),
         (1, &[17], None),
@@ -68,20 +81,26 @@ fn the_rows_of_the_test_board() {
         (1, &[1, 33, 34, 65, 98], Some(33)),
         (1, &[1, 34, 65, 98, 225], None),
     ] {
-        let mut words = fresh(4, s);
-        for key in keys.iter().rev() {
-            assert_eq!(change(insert, &tabulation, &mut words, *key), 0, "{key} of {keys:?}");
+        for tier in tiers {
+            let members = with_tiers(keys, tier);
+            let mut words = fresh(4, s);
+            for (key, tier) in members.iter().rev() {
+                let way = Insert(*tier);
+                assert_eq!(change(way, &tabulation, &mut words, *key), 0, "{key} of {members:?}");
+            }
+            if let Some(key) = removed {
+                assert_eq!(change(Remove, &tabulation, &mut words, key), 0);
+            }
+            let left: Vec<Member> =
+                members.iter().copied().filter(|(key, _)| Some(*key) != removed).collect();
+            let expected = reference::image::image(&tabulation, 4, s, &left);
+            assert_eq!(Some(words), expected, "{members:?}");
         }
-        if let Some(key) = removed {
-            assert_eq!(change(remove, &tabulation, &mut words, key), 0);
-        }
-        let left: Vec<u32> = keys.iter().copied().filter(|key| Some(*key) != removed).collect();
-        assert_eq!(Some(words), reference::image::image(&tabulation, 4, s, &left), "{keys:?}");
     }
     // K6: the fourth key of one pair of slots has no place with s = 1.
     let mut words = fresh(4, 1);
     for (key, answer) in [(1, 0), (65, 0), (129, 0), (193, 8)] {
-        assert_eq!(change(insert, &tabulation, &mut words, key), answer);
+        assert_eq!(change(Insert(0), &tabulation, &mut words, key), answer);
     }
 }
 
@@ -98,20 +117,127 @@ fn the_test_board() {
     ] {
         let mut words = fresh(4, 1);
         for key in keys.iter().rev() {
-            assert_eq!(change(insert, &tabulation, &mut words, *key), 0);
+            assert_eq!(change(Insert(0), &tabulation, &mut words, *key), 0);
         }
         for (slot, key) in seats {
-            assert_eq!(words[4 + 2 * slot], *key, "slot {slot} of {keys:?}");
+            assert_eq!(words[4 + 3 * slot], *key, "slot {slot} of {keys:?}");
+            assert_eq!(words[4 + 3 * slot + 2], 0, "the tier in slot {slot} of {keys:?}");
         }
     }
     let mut words = fresh(2, 1);
     for (key, answer) in [(65, 0), (1, 0), (33, 0), (97, 8)] {
-        assert_eq!(change(insert, &tabulation, &mut words, key), answer);
+        assert_eq!(change(Insert(0), &tabulation, &mut words, key), answer);
     }
-    assert_eq!(words, [2, 1, 3, 1, 0, 0, 1, 33, 33, 1, 0, 0, 65]);
-    assert_eq!(stash(&words), (0, 12, 1));
-    let mut present = 9;
-    assert_eq!((lookup(&tabulation, &words, 65, &mut present), present), (0, 1));
+    assert_eq!(words, [2, 1, 3, 1, 0, 0, 0, 1, 33, 0, 33, 1, 0, 0, 0, 0, 65, 0]);
+    assert_eq!(stash(&words), (0, 16, 2));
+    let (mut listed, mut tier) = (9, 9);
+    let answer = lookup(&tabulation, &words, 65, &mut listed, &mut tier);
+    assert_eq!((answer, listed, tier), (0, 1, 0));
+}
+
+/// Words of four rows with tiers, written out by hand: a tree whose smallest key has its tier in both slots, a cycle, a stash, and a removal from it.
+#[test]
+fn tiers_on_the_test_board() {
+    let tabulation = test_tabulation();
+    let mut words = fresh(4, 1);
+    let mut call = |way, key, answer, expected: &[[u32; 3]; 8], stash: [u32; 2]| {
+        assert_eq!(change(way, &tabulation, &mut words, key), answer, "{way:?} of {key}");
+        assert_eq!(words[4..28], *expected.as_flattened(), "{way:?} of {key}");
+        assert_eq!(words[28..], stash, "{way:?} of {key}");
+    };
+    const NONE: [u32; 3] = [0, 0, 0];
+    let [one, seventeen] = [[1, 17, 3], [17, 1, 5]];
+    let lone = [1, 1, 3];
+    call(Insert(3), 1, 0, &[NONE, lone, NONE, NONE, lone, NONE, NONE, NONE], [0, 0]);
+    // K3
+    let tree = [NONE, one, NONE, NONE, one, seventeen, NONE, NONE];
+    call(Insert(5), 17, 0, &tree, [0, 0]);
+    call(Insert(4), 1, 10, &tree, [0, 0]);
+    call(Insert(5), 17, 6, &tree, [0, 0]);
+    // the cycle of 1 and 65, from which 17 hangs
+    let cycle = [NONE, [1, 17, 3], NONE, NONE, [65, 1, 7], [17, 65, 5], NONE, NONE];
+    call(Insert(7), 65, 0, &cycle, [0, 0]);
+    call(Insert(2), 129, 0, &cycle, [129, 2]);
+    call(Insert(6), 129, 10, &cycle, [129, 2]);
+    call(Insert(0), 193, 8, &cycle, [129, 2]);
+    // 129 leaves the stash with its tier
+    let other = [NONE, [1, 17, 3], NONE, NONE, [129, 1, 2], [17, 129, 5], NONE, NONE];
+    call(Remove, 65, 0, &other, [0, 0]);
+    call(Insert(0), 193, 0, &other, [193, 0]);
+}
+
+/// Of all refusals that one insert deserves, the first in the order 4, 5, 9, 10, 6, 8 is given. A key that is listed keeps its tier.
+#[test]
+fn nine_and_ten_in_their_order() {
+    let mut beside = Beside::new();
+    let mut counters = Counters::default();
+    let tabulation = test_tabulation();
+    let scratch = vec![3; scratch_length(4, 1)];
+    // K5: the stash is full.
+    let mut words = fresh(4, 1);
+    for (key, tier) in [(1, 3), (65, 0), (129, 6)] {
+        assert_eq!(change(Insert(tier), &tabulation, &mut words, key), 0);
+    }
+    let mut insert = |words: &mut [u32], key, tier| {
+        beside.change(Insert(tier), &tabulation, words, &scratch, &mut counters, key)
+    };
+    let sound = words.clone();
+    for (key, tier, answer) in [
+        (0, 8, 5),
+        (0, 0, 5),
+        (2, 8, 9),
+        (2, u32::MAX, 9),
+        (193, 8, 9),
+        (1, 8, 9),
+        (129, 256, 9),
+        (1, 2, 10),
+        (1, 4, 10),
+        (65, 7, 10),
+        (129, 0, 10),
+        (1, 3, 6),
+        (65, 0, 6),
+        (129, 6, 6),
+        (193, 7, 8),
+    ] {
+        assert_eq!(insert(&mut words, key, tier), answer, "{key} with tier {tier}");
+        assert_eq!(words, sound, "{key} with tier {tier}");
+        let mut tampered = sound.clone();
+        tampered[2] += 1;
+        assert_eq!(insert(&mut tampered, key, tier), 4, "{key} with tier {tier}");
+    }
+    for tier in 0..=8 {
+        let mut words = sound.clone();
+        assert_eq!(insert(&mut words, 2, tier), if tier > 7 { 9 } else { 0 });
+    }
+    // Another tier: taken out, put in again, also with a full stash.
+    for (key, tier) in [(1, 4), (65, 7), (129, 0)] {
+        assert_eq!(change(Remove, &tabulation, &mut words, key), 0);
+        assert_eq!(change(Insert(tier), &tabulation, &mut words, key), 0);
+        let (mut listed, mut found) = (9, 9);
+        assert_eq!(lookup(&tabulation, &words, key, &mut listed, &mut found), 0);
+        assert_eq!((listed, found), (1, tier));
+    }
+}
+
+/// Key 17 in each of its two slots, in each of three stash places, and in a slot that is not its own, with a tier of its own in each: a lookup gives the first
+/// of the five where it may stand. The words are no image.
+#[test]
+fn the_first_of_several_copies() {
+    let mut beside = Beside::new();
+    let tabulation = test_tabulation();
+    let tiers = [4, 9, 7, 0, u32::MAX];
+    for mask in 0..32u32 {
+        let mut words = fresh(4, 3);
+        words[4..7].copy_from_slice(&[17, 17, 1]);
+        for (bit, at) in [4 + 3, 4 + 3 * 5, 28, 30, 32].into_iter().enumerate() {
+            let here = mask >> bit & 1 == 1;
+            words[at] = if here { 17 } else { 3 };
+            words[at + if bit < 2 { 2 } else { 1 }] = tiers[bit];
+        }
+        let first = (0..5).find(|bit| mask >> bit & 1 == 1).map(|bit| tiers[bit]);
+        assert_eq!(beside.lookup(&tabulation, &words, 17), (0, first), "{mask:05b}");
+        assert_eq!(beside.check(&tabulation, &words, &vec![1; scratch_length(4, 3)]), 4);
+    }
 }
 
 #[test]
@@ -128,16 +254,18 @@ fn the_house_tabulation() {
 fn huge_headings_and_wrong_lengths() {
     let mut beside = Beside::new();
     let tabulation = test_tabulation();
-    let headings = [0, 1, 2, 64, 65, 1_024, 1_025, 1 << 30, 0x4000_0001, 0xFFFF_FFFC, u32::MAX];
-    for length in (0..12).chain([68, 4_100, words_length(1_024, 64), 4_165]) {
-        for r in headings {
-            for s in headings {
+    let wrapping = [0x2AAA_AAAB, 1 << 31, 0x8000_0001, 0xFFFF_FFFC, u32::MAX];
+    let headings = [&[0, 1, 2, 64, 65, 1_024, 1_025][..], &wrapping].concat();
+    for length in (0..20).chain([138, 388, 6_148, words_length(1_024, 64), 6_278]) {
+        for r in headings.iter().copied() {
+            for s in headings.iter().copied() {
                 let mut words: Vec<u32> = (0..length as u32).map(|i| i % 40).collect();
                 if length > 1 {
                     (words[0], words[1]) = (r, s);
                 }
                 beside.stash(&words);
                 beside.lookup(&tabulation, &words, length as u32 % 3);
+                beside.lookup(&tabulation, &words, 4);
                 beside.lookup(&tabulation[1..], &words, 7);
                 beside.check(&tabulation, &words, &[1; 40]);
             }

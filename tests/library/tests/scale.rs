@@ -1,15 +1,20 @@
 //! Tests at scale, against the program by another hand: random sequences of calls on small boards, where cycles and full stashes are common, and on the largest;
-//! extreme tabulations; two histories of one set; damaged and random words. Every call is compared in answer, words, scratch, counters and guards, and
-//! every answer that a call can give must come up.
+//! extreme tabulations; two histories of one set; the same keys with other tiers; damaged and random words. Every call is compared in answer, words, scratch,
+//! counters and guards, and every answer that a call can give must come up.
+
+use std::collections::{BTreeMap, BTreeSet};
 
 use library::beside::{Beside, Kind};
-use library::{change, fresh, insert, remove, scratch_length, words_length, Change, Counters};
+use library::Change::{Insert, Remove};
+use library::{change, fresh, scratch_length, words_length, Change, Counters};
 use reference::answer::Refusal;
 use reference::fast::{image, Fast};
+use reference::hash::hashes;
 use reference::house::HOUSE;
 use reference::model::{Call, Model, Reply};
 use reference::rng::Rng;
-use reference::samples::{random_keys, random_tabulation};
+use reference::samples::{random_keys, random_tabulation, random_tier, random_tiers, tier_0};
+use reference::set::Member;
 
 /// A tabulation of the extremes of 16 bits alone.
 fn extreme_tabulation(rng: &mut Rng) -> Vec<u16> {
@@ -30,6 +35,19 @@ fn narrow_tabulation(rng: &mut Rng) -> Vec<u16> {
 
 fn random_words(rng: &mut Rng, length: usize) -> Vec<u32> {
     (0..length).map(|_| rng.next_u32()).collect()
+}
+
+/// A tier for an insert: mostly 0 to 7, now and then above.
+fn any_tier(rng: &mut Rng) -> u32 {
+    match rng.below(10) {
+        0 => rng.pick(&[8, 9, 15, 16, 256, 1 << 31, u32::MAX]),
+        _ => rng.below(8) as u32,
+    }
+}
+
+/// Another tier from 0 to 7.
+fn other_tier(rng: &mut Rng, tier: u32) -> u32 {
+    (tier + 1 + rng.below(7) as u32) % 8
 }
 
 /// A dictionary in the middle of a sequence of calls, with the register that must answer the same.
@@ -71,27 +89,37 @@ impl Board {
         (book, random_words(rng, length), key)
     }
 
+    /// A tier for an insert: of a key that stands in the words often the one that it has.
+    fn tier(&self, rng: &mut Rng, key: u32) -> u32 {
+        match self.register.set().get(&key) {
+            Some(tier) if rng.one_in(2) => *tier,
+            _ => any_tier(rng),
+        }
+    }
+
     /// One call on the words, which the register answers, too.
     fn call(&mut self, rng: &mut Rng, beside: &mut Beside) {
         let (book, scratch, key) = self.lent(rng);
+        let tier = self.tier(rng, key);
         let (tabulation_len, scratch_len) = (book.len(), scratch.len());
         let counters = &mut self.counters;
         let (call, answer) = match rng.below(13) {
             0..=4 => (
-                Call::Insert { tabulation_len, scratch_len, key },
-                beside.change(Kind::Insert, &book, &mut self.words, &scratch, counters, key),
+                Call::Insert { tabulation_len, scratch_len, key, tier },
+                beside.change(Insert(tier), &book, &mut self.words, &scratch, counters, key),
             ),
             5..=7 => (
                 Call::Remove { tabulation_len, scratch_len, key },
-                beside.change(Kind::Remove, &book, &mut self.words, &scratch, counters, key),
+                beside.change(Remove, &book, &mut self.words, &scratch, counters, key),
             ),
             8 => (
                 Call::Check { tabulation_len, scratch_len },
                 beside.check(&book, &self.words, &scratch),
             ),
             9 | 10 => {
-                let (answer, yes) = beside.lookup(&book, &self.words, key);
-                assert_eq!(yes, answer == 0 && self.register.set().contains(&key));
+                let (answer, found) = beside.lookup(&book, &self.words, key);
+                let tier = self.register.set().get(&key).copied();
+                assert_eq!(found, if answer == 0 { tier } else { None });
                 (Call::Lookup { tabulation_len, key }, answer)
             }
             11 => (Call::Stash, beside.stash(&self.words)),
@@ -118,6 +146,7 @@ impl Board {
     /// One call on a copy of the words that is damaged; the sequence goes on with the sound ones.
     fn call_damaged(&self, rng: &mut Rng, beside: &mut Beside) {
         let (book, scratch, key) = self.lent(rng);
+        let tier = self.tier(rng, key);
         let mut words = self.words.clone();
         let mut counters = self.counters;
         for _ in 0..=rng.below(3) {
@@ -132,8 +161,8 @@ impl Board {
             words.truncate(rng.below(words.len()));
         }
         match rng.below(5) {
-            0 => beside.change(Kind::Insert, &book, &mut words, &scratch, &mut counters, key),
-            1 => beside.change(Kind::Remove, &book, &mut words, &scratch, &mut counters, key),
+            0 => beside.change(Insert(tier), &book, &mut words, &scratch, &mut counters, key),
+            1 => beside.change(Remove, &book, &mut words, &scratch, &mut counters, key),
             2 => beside.check(&book, &words, &scratch),
             3 => beside.lookup(&book, &words, key).0,
             _ => beside.stash(&words),
@@ -171,6 +200,9 @@ fn sequences_on_small_boards() {
         Kind::Stash,
         Kind::Hashes,
     ]);
+    for refusal in [9, 10, 6] {
+        assert!(beside.given(Kind::Insert, refusal) > 5_000, "{refusal} is rare");
+    }
 }
 
 /// Thousands of calls at r = 1,024, from nearly empty to full.
@@ -191,20 +223,23 @@ fn sequences_on_the_largest_board() {
         let mut inside = Vec::new();
         // Filled up without comparing; the calls below compare every word.
         for _ in 0..[20, 250, 1_000, 3_000, 100, 700, 1_500, 2_500][round] {
-            let key = rng.next_u32().max(1);
-            if change(insert, &tabulation, &mut words, key) == 0 {
-                inside.push(key);
+            let (key, tier) = (rng.next_u32().max(1), random_tier(&mut rng));
+            if change(Insert(tier), &tabulation, &mut words, key) == 0 {
+                inside.push((key, tier));
             }
         }
         for _ in 0..600 {
-            let strange = rng.next_u32().max(1);
+            let strange = (rng.next_u32().max(1), any_tier(&mut rng));
             let at = rng.below(inside.len());
-            let key = if rng.one_in(3) { inside[at] } else { strange };
+            let (key, mut tier) = if rng.one_in(3) { inside[at] } else { strange };
+            if rng.one_in(3) {
+                tier = any_tier(&mut rng);
+            }
             let scratch = vec![rng.next_u32(); scratch_length(r, s)];
             match rng.below(8) {
                 0..=2 => {
                     let answer = beside.change(
-                        Kind::Insert,
+                        Insert(tier),
                         &tabulation,
                         &mut words,
                         &scratch,
@@ -212,12 +247,12 @@ fn sequences_on_the_largest_board() {
                         key,
                     );
                     if answer == 0 {
-                        inside.push(key);
+                        inside.push((key, tier));
                     }
                 }
                 3 | 4 if inside.len() > 1 => {
                     let answer = beside.change(
-                        Kind::Remove,
+                        Remove,
                         &tabulation,
                         &mut words,
                         &scratch,
@@ -230,13 +265,19 @@ fn sequences_on_the_largest_board() {
                 }
                 5 => assert_eq!(beside.check(&tabulation, &words, &scratch), 0),
                 6 => assert_eq!(beside.stash(&words), 0),
-                _ => assert_eq!(beside.lookup(&tabulation, &words, inside[at]), (0, true)),
+                _ => {
+                    let (key, tier) = inside[at];
+                    assert_eq!(beside.lookup(&tabulation, &words, key), (0, Some(tier)));
+                }
             }
         }
         assert_eq!(words[2] as usize, inside.len());
     }
     println!("{} calls at r = 1,024", beside.calls());
     assert!(beside.calls() > 4_500);
+    for refusal in [9, 10, 6, 8] {
+        assert!(beside.given(Kind::Insert, refusal) > 50, "{refusal} is rare");
+    }
 }
 
 /// Every r under a tabulation of extremes, whose sums are the largest there are.
@@ -252,41 +293,60 @@ fn extreme_tabulations() {
         let scratch = vec![u32::MAX; scratch_length(r, s)];
         let mut words = fresh(r, s);
         for key in [u32::MAX, 0x00FF_00FF, rng.next_u32().max(1), 1, rng.next_u32().max(1)] {
-            beside.change(Kind::Insert, &tabulation, &mut words, &scratch, &mut counters, key);
+            let tier = random_tier(&mut rng);
+            beside.change(Insert(tier), &tabulation, &mut words, &scratch, &mut counters, key);
             beside.lookup(&tabulation, &words, key);
         }
         beside.check(&tabulation, &words, &scratch);
-        beside.change(Kind::Remove, &tabulation, &mut words, &scratch, &mut counters, u32::MAX);
+        beside.change(Remove, &tabulation, &mut words, &scratch, &mut counters, u32::MAX);
     }
 }
 
-/// A random way to a set: its keys in any order, with strangers that come and go, keys that go and come again, and refused calls.
+/// A random way to a set: its keys in any order, with strangers that come and go, keys that go and come again, at first with another tier, and refused calls.
 fn way_to(
     rng: &mut Rng,
     tabulation: &[u16],
     r: u32,
     s: u32,
-    keys: &[u32],
+    members: &[Member],
     strangers: &[u32],
 ) -> Vec<u32> {
     let mut words = fresh(r, s);
-    let mut order = keys.to_vec();
+    let mut order = members.to_vec();
     rng.shuffle(&mut order);
     let mut call = |way: Change, key: u32| change(way, tabulation, &mut words, key);
-    for key in order {
-        let stranger = rng.pick(strangers);
-        if call(insert, stranger) == 0 {
-            assert_eq!(call(insert, stranger), 6);
-            assert_eq!(call(remove, stranger), 0);
+    for (key, tier) in order {
+        let (stranger, strange) = (rng.pick(strangers), random_tier(rng));
+        if call(Insert(strange), stranger) == 0 {
+            assert_eq!(call(Insert(strange), stranger), 6);
+            assert_eq!(call(Insert(other_tier(rng, strange)), stranger), 10);
+            assert_eq!(call(Remove, stranger), 0);
         }
-        assert_eq!(call(insert, key), 0);
         if rng.one_in(3) {
-            assert_eq!(call(remove, key), 0);
-            assert_eq!(call(remove, key), 7);
-            assert_eq!(call(insert, key), 0);
+            assert_eq!(call(Insert(other_tier(rng, tier)), key), 0);
+            assert_eq!(call(Insert(tier), key), 10);
+            assert_eq!(call(Remove, key), 0);
+            assert_eq!(call(Remove, key), 7);
         }
+        assert_eq!(call(Insert(8), key), 9);
+        assert_eq!(call(Insert(tier), key), 0);
     }
     words
+}
+
+/// The sizes, the tabulation and a set of keys that fit, for two histories: mostly of a small board, now and then of the largest.
+fn fitting_set(rng: &mut Rng, round: usize) -> Option<(u32, u32, Vec<u16>, Vec<u32>)> {
+    let large = round % 600 == 0;
+    let (r, s) = if large { (1_024, 64) } else { (1 + rng.below(8) as u32, rng.below(5) as u32) };
+    let tabulation = if large { HOUSE.to_vec() } else { narrow_tabulation(rng) };
+    let count = if large { 600 } else { 1 + rng.below(2 * r as usize) };
+    let keys = if large { any_keys(rng, count) } else { random_keys(rng, count) };
+    image(&tabulation, r, s, &tier_0(&keys)).map(|_| (r, s, tabulation, keys))
+}
+
+/// Keys that are not in the set.
+fn strangers_to(rng: &mut Rng, keys: &[u32]) -> Vec<u32> {
+    (0..6).map(|_| rng.next_u32().max(1)).filter(|key| !keys.contains(key)).collect()
 }
 
 /// Two random histories of one set leave the same words, and those are the image of the set.
@@ -295,24 +355,55 @@ fn two_histories_of_one_set() {
     let mut rng = Rng::new(44);
     let (mut sets, mut stashed) = (0, 0);
     for round in 0..3_000 {
-        let large = round % 600 == 0;
-        let (r, s) =
-            if large { (1_024, 64) } else { (1 + rng.below(8) as u32, rng.below(5) as u32) };
-        let tabulation = if large { HOUSE.to_vec() } else { narrow_tabulation(&mut rng) };
-        let count = if large { 600 } else { 1 + rng.below(2 * r as usize) };
-        let keys = if large { any_keys(&mut rng, count) } else { random_keys(&mut rng, count) };
-        let Some(canonical) = image(&tabulation, r, s, &keys) else { continue };
-        let strangers: Vec<u32> =
-            (0..6).map(|_| rng.next_u32().max(1)).filter(|k| !keys.contains(k)).collect();
-        let one = way_to(&mut rng, &tabulation, r, s, &keys, &strangers);
-        let two = way_to(&mut rng, &tabulation, r, s, &keys, &strangers);
-        assert_eq!(one, two, "two histories of {keys:?}");
-        assert_eq!(one, canonical, "not the image of {keys:?}");
+        let Some((r, s, tabulation, keys)) = fitting_set(&mut rng, round) else { continue };
+        let members = random_tiers(&mut rng, &keys);
+        let canonical = image(&tabulation, r, s, &members).expect("they fit with any tiers");
+        let strangers = strangers_to(&mut rng, &keys);
+        let one = way_to(&mut rng, &tabulation, r, s, &members, &strangers);
+        let two = way_to(&mut rng, &tabulation, r, s, &members, &strangers);
+        assert_eq!(one, two, "two histories of {members:?}");
+        assert_eq!(one, canonical, "not the image of {members:?}");
         sets += 1;
         stashed += canonical[3];
     }
     println!("{sets} sets by two histories each, {stashed} keys stashed");
     assert!(sets > 1_000 && stashed > 500);
+}
+
+/// The same keys with other tiers: the words differ, in the tiers of the keys whose tier is another and in nothing else.
+#[test]
+fn the_same_keys_with_other_tiers() {
+    let mut rng = Rng::new(48);
+    let (mut sets, mut both, mut single, mut stashed) = (0, 0, 0, 0);
+    for round in 1..1_500 {
+        let Some((r, s, tabulation, keys)) = fitting_set(&mut rng, round) else { continue };
+        let members = random_tiers(&mut rng, &keys);
+        let mut others = members.clone();
+        let mut moved = BTreeSet::new();
+        for _ in 0..=rng.below(2) {
+            let at = rng.below(others.len());
+            others[at].1 = other_tier(&mut rng, members[at].1);
+            moved.insert(others[at].0);
+        }
+        let strangers = strangers_to(&mut rng, &keys);
+        let one = way_to(&mut rng, &tabulation, r, s, &members, &strangers);
+        let two = way_to(&mut rng, &tabulation, r, s, &others, &strangers);
+        assert_ne!(one, two, "{members:?} and {others:?}");
+        for at in 0..one.len() {
+            let (word, key) = word_at(&one, at);
+            let is_moved = matches!(word, Word::Tier | Word::StashTier) && moved.contains(&key);
+            assert_eq!(one[at] != two[at], is_moved, "word {at} of {members:?} and {others:?}");
+            match word {
+                Word::Tier if is_moved && stands_twice(&one, key) => both += 1,
+                Word::Tier if is_moved => single += 1,
+                Word::StashTier if is_moved => stashed += 1,
+                _ => {}
+            }
+        }
+        sets += 1;
+    }
+    println!("{sets} pairs of sets; tiers that differ: {both} of a key in both slots, {single} in one, {stashed} in the stash");
+    assert!(sets > 500 && both > 100 && single > 100 && stashed > 20);
 }
 
 /// A set of `count` keys of any size, ascending.
@@ -352,7 +443,7 @@ fn sets_of_all_sizes_and_loads() {
         };
         let keys = any_keys(&mut rng, count);
         let scratch = vec![3; scratch_length(r, s)];
-        let Some(mut words) = image(&tabulation, r, s, &keys) else {
+        let Some(mut words) = image(&tabulation, r, s, &random_tiers(&mut rng, &keys)) else {
             full += 1;
             continue;
         };
@@ -360,53 +451,155 @@ fn sets_of_all_sizes_and_loads() {
         built += 1;
         assert_eq!(beside.check(&tabulation, &words, &scratch), 0);
         for _ in 0..3 {
-            let key = rng.next_u32().max(1);
-            beside.change(Kind::Insert, &tabulation, &mut words, &scratch, &mut counters, key);
+            let (key, tier) = (rng.next_u32().max(1), random_tier(&mut rng));
+            beside.change(Insert(tier), &tabulation, &mut words, &scratch, &mut counters, key);
         }
         if let Some(key) = keys.first() {
-            beside.change(Kind::Remove, &tabulation, &mut words, &scratch, &mut counters, *key);
+            beside.change(Remove, &tabulation, &mut words, &scratch, &mut counters, *key);
         }
     }
     println!("{built} sets built, {full} that do not fit, {stashed} keys stashed");
     assert!(built > 450 && full > 150 && stashed > 3_000);
 }
 
-/// Each word of 300 small images changed to six values: 2 for words 0 and 1, and otherwise as the reference says.
+/// What a word of words of the right shape is.
+#[derive(Clone, Copy, Debug, PartialEq, Eq, PartialOrd, Ord)]
+enum Word {
+    Heading,
+    Key,
+    Next,
+    Tier,
+    StashKey,
+    StashTier,
+}
+
+/// What a word is, and the key that it stands with: 0 where that is none.
+fn word_at(words: &[u32], at: usize) -> (Word, u32) {
+    let stash = 4 + 6 * words[0] as usize;
+    if at < 4 {
+        (Word::Heading, 0)
+    } else if at < stash {
+        let which = (at - 4) % 3;
+        ([Word::Key, Word::Next, Word::Tier][which], words[at - which])
+    } else {
+        let which = (at - stash) % 2;
+        ([Word::StashKey, Word::StashTier][which], words[at - which])
+    }
+}
+
+/// Whether a key stands in two slots of sound words: it is the smallest of a tree.
+fn stands_twice(words: &[u32], key: u32) -> bool {
+    let slots = words[4..4 + 6 * words[0] as usize].chunks_exact(3);
+    key != 0 && slots.filter(|slot| slot[0] == key).count() == 2
+}
+
+/// Each word of 300 small images changed to eight values: 2 for words 0 and 1, and otherwise as the reference says. Every kind of word, of filled and of empty
+/// slots and places, must be found out.
 #[test]
 fn damages_of_one_word() {
     let mut rng = Rng::new(46);
     let mut beside = Beside::new();
-    let (mut tampered, mut another) = (0, 0);
+    let mut tampered: BTreeMap<(Word, bool), u32> = BTreeMap::new();
+    let mut another = 0;
     for _ in 0..300 {
         let (r, s) = (1 + rng.below(4) as u32, rng.below(3) as u32);
         let tabulation = narrow_tabulation(&mut rng);
         let count = rng.below(6);
         let keys = random_keys(&mut rng, count);
-        let Some(sound) = image(&tabulation, r, s, &keys) else { continue };
+        let Some(sound) = image(&tabulation, r, s, &random_tiers(&mut rng, &keys)) else {
+            continue;
+        };
         let scratch = vec![5; scratch_length(r, s)];
         for at in 0..sound.len() {
             let first = keys.first().copied().unwrap_or(9);
-            for value in [0, 1, first, sound[at] ^ 1, sound[at].wrapping_add(1), u32::MAX] {
+            let (word, key) = word_at(&sound, at);
+            for value in [0, 1, 7, 8, first, sound[at] ^ 1, sound[at].wrapping_add(1), u32::MAX] {
                 let mut words = sound.clone();
                 words[at] = value;
                 match beside.check(&tabulation, &words, &scratch) {
-                    4 => tampered += 1,
+                    4 => *tampered.entry((word, key != 0)).or_default() += 1,
                     0 if words != sound => another += 1,
                     answer => assert!(answer == 0 || (answer == 2 && at < 2), "{answer} at {at}"),
                 }
             }
         }
     }
-    println!("{tampered} damages found, {another} that are another image");
-    assert!(tampered > 5_000 && another > 0);
+    println!("damages found: {tampered:?}; {another} that are another image");
+    // Headings stand with no key; every other word stands with one, or is empty.
+    assert_eq!(tampered.len(), 11);
+    assert!(tampered.values().all(|times| *times > 50) && another > 0);
 }
 
-/// Random words: of the right shape with keys that often meet their slots, and of any length and content.
+/// Each tier word of many small images changed: 4 beside an empty slot or place, above 7, and where the key's other slot has the old tier; else the words are
+/// the image of another set, which has this tier. Insert and remove find it out, too, and lookup gives the first tier word as it stands.
+#[test]
+fn damages_of_a_tier() {
+    let mut rng = Rng::new(49);
+    let mut beside = Beside::new();
+    let mut counters = Counters::default();
+    let mut times: BTreeMap<(Word, &str), u32> = BTreeMap::new();
+    for _ in 0..400 {
+        let (r, s) = (1 + rng.below(4) as u32, rng.below(4) as u32);
+        let tabulation = narrow_tabulation(&mut rng);
+        let count = rng.below(7);
+        let keys = random_keys(&mut rng, count);
+        let Some(sound) = image(&tabulation, r, s, &random_tiers(&mut rng, &keys)) else {
+            continue;
+        };
+        let scratch = vec![5; scratch_length(r, s)];
+        for at in 0..sound.len() {
+            let (word, key) = word_at(&sound, at);
+            if !matches!(word, Word::Tier | Word::StashTier) {
+                continue;
+            }
+            let wrong = [0, 1, 6, 7, 8, 9, 255, 1 << 31, u32::MAX];
+            for value in wrong.into_iter().filter(|value| *value != sound[at]) {
+                let mut words = sound.clone();
+                words[at] = value;
+                let (answer, why) = match key {
+                    0 => (4, "empty"),
+                    _ if value > 7 => (4, "above 7"),
+                    _ if stands_twice(&sound, key) => (4, "unlike tiers"),
+                    _ => (0, "another set"),
+                };
+                *times.entry((word, why)).or_default() += 1;
+                assert_eq!(beside.check(&tabulation, &words, &scratch), answer, "{why}: {words:?}");
+                if key != 0 {
+                    let first = copies(&tabulation, &words, key)[0];
+                    assert_eq!(beside.lookup(&tabulation, &words, key), (0, Some(first)), "{why}");
+                }
+                let asked = keys.first().copied().unwrap_or(9);
+                for way in [Insert(value), Insert(0), Remove] {
+                    let mut words = words.clone();
+                    let got =
+                        beside.change(way, &tabulation, &mut words, &scratch, &mut counters, asked);
+                    assert_eq!(got == 4, answer == 4, "{way:?} of {asked}, {why}");
+                }
+            }
+        }
+    }
+    println!("changed tiers: {times:?}");
+    // In slots all four, in the stash all but unlike tiers, since no key stands there twice.
+    assert_eq!(times.len(), 7);
+    assert!(times.values().all(|times| *times > 30));
+}
+
+/// The tier words of all copies of a key that a lookup can meet, in word order: in its slot of table 0, in its slot of table 1, in the stash places.
+fn copies(tabulation: &[u16], words: &[u32], key: u32) -> Vec<u32> {
+    let r = words[0] as usize;
+    let [first, second] = hashes(tabulation, words[0], key).expect("a sound book, r and key");
+    let slots = [first as usize, r + second as usize].map(|slot| &words[4 + 3 * slot..][..3]);
+    let in_slots = slots.into_iter().filter(|slot| slot[0] == key).map(|slot| slot[2]);
+    let places = words[4 + 6 * r..].chunks_exact(2);
+    in_slots.chain(places.filter(|place| place[0] == key).map(|place| place[1])).collect()
+}
+
+/// Random words: of the right shape with keys that often meet their slots, more than once, and of any length and content.
 #[test]
 fn random_memory() {
     let mut rng = Rng::new(47);
     let mut beside = Beside::new();
-    let (mut yes, mut no) = (0, 0);
+    let (mut yes, mut no, mut several) = (0, 0, 0);
     for round in 0..20_000 {
         let (r, s) = (1 + rng.below(5) as u32, rng.below(4) as u32);
         let tabulation = narrow_tabulation(&mut rng);
@@ -415,25 +608,33 @@ fn random_memory() {
         while words.len() < words_length(r, s) {
             words.push(if rng.one_in(2) { rng.pick(&keys) } else { rng.below(4) as u32 });
         }
-        if round % 4 == 0 {
+        let any_length = round % 4 == 0;
+        if any_length {
             let length = rng.below(40);
             words = random_words(&mut rng, length);
         }
         let scratch = random_words(&mut rng, scratch_length(r, s));
         let mut counters = Counters::default();
-        let key = rng.pick(&keys);
-        beside.change(Kind::Insert, &tabulation, &mut words, &scratch, &mut counters, key);
-        beside.change(Kind::Remove, &tabulation, &mut words, &scratch, &mut counters, key);
+        let (key, tier) = (rng.pick(&keys), any_tier(&mut rng));
+        beside.change(Insert(tier), &tabulation, &mut words, &scratch, &mut counters, key);
+        beside.change(Remove, &tabulation, &mut words, &scratch, &mut counters, key);
         beside.check(&tabulation, &words, &scratch);
         beside.stash(&words);
         for key in keys {
-            match beside.lookup(&tabulation, &words, key) {
-                (0, true) => yes += 1,
-                (0, false) => no += 1,
-                _ => {}
+            let (answer, found) = beside.lookup(&tabulation, &words, key);
+            match found {
+                Some(_) => yes += 1,
+                None if answer == 0 => no += 1,
+                None => {}
+            }
+            if !any_length {
+                let copies = copies(&tabulation, &words, key);
+                assert_eq!(found, copies.first().copied(), "{key} in {words:?}");
+                several += u32::from(copies.iter().any(|tier| *tier != copies[0]));
             }
         }
     }
     println!("{} calls on random memory: lookups {yes} yes, {no} no", beside.calls());
-    assert!(yes > 5_000 && no > 5_000);
+    println!("{several} lookups of a key that stands with several tiers");
+    assert!(yes > 5_000 && no > 5_000 && several > 1_000);
 }
