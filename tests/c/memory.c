@@ -19,26 +19,32 @@ static uint32_t words[PINORANGE_WORDS(R, S)];
 static uint32_t scratch[PINORANGE_SCRATCH(R, S)];
 static uint16_t tabulation[PINORANGE_TABULATION_LENGTH];
 static struct pinorange_counters counters;
-static uint32_t accepted;
+static uint32_t accepted, other_tier;
 
 static unsigned char *base; /* where the calls' own stack begins: a local of the function that calls them */
+
+_Static_assert(sizeof words == 25104, "the words of the largest dictionary");
+_Static_assert(sizeof scratch == 51200, "the scratch of the largest dictionary");
 
 /* Every call, the changes up to a full stash: with cycles, with full components, with refusals. */
 static void *all_calls(void *unused)
 {
-    uint32_t present, offset, length, table0, table1;
+    uint32_t listed, tier, offset, length, table0, table1;
     unsigned char local;
     base = &local;
     pinorange_house(tabulation, PINORANGE_TABULATION_LENGTH);
     pinorange_init(words, PINORANGE_WORDS(R, S), R, S, &counters);
     for (uint32_t i = 1; i <= 1800; i++)
         accepted += pinorange_insert(tabulation, PINORANGE_TABULATION_LENGTH, words, PINORANGE_WORDS(R, S), scratch, PINORANGE_SCRATCH(R, S),
-                                     &counters, i * 2654435761u) == PINORANGE_DONE;
+                                     &counters, i * 2654435761u, i % 8) == PINORANGE_DONE;
+    for (uint32_t i = 1; i <= 1800; i += 16)
+        other_tier += pinorange_insert(tabulation, PINORANGE_TABULATION_LENGTH, words, PINORANGE_WORDS(R, S), scratch, PINORANGE_SCRATCH(R, S),
+                                       &counters, i * 2654435761u, 7 - i % 8) == PINORANGE_OTHER_TIER;
     for (uint32_t i = 1; i <= 1800; i += 16)
         pinorange_remove(tabulation, PINORANGE_TABULATION_LENGTH, words, PINORANGE_WORDS(R, S), scratch, PINORANGE_SCRATCH(R, S), &counters,
                          i * 2654435761u);
     pinorange_check(tabulation, PINORANGE_TABULATION_LENGTH, words, PINORANGE_WORDS(R, S), scratch, PINORANGE_SCRATCH(R, S));
-    pinorange_lookup(tabulation, PINORANGE_TABULATION_LENGTH, words, PINORANGE_WORDS(R, S), 5, &present);
+    pinorange_lookup(tabulation, PINORANGE_TABULATION_LENGTH, words, PINORANGE_WORDS(R, S), 5, &listed, &tier);
     pinorange_stash(words, PINORANGE_WORDS(R, S), &offset, &length);
     pinorange_hashes(tabulation, PINORANGE_TABULATION_LENGTH, R, 5, &table0, &table1);
     return unused;
@@ -71,6 +77,7 @@ int main(void)
 
     printf("code and constants %u\nwords %zu\nscratch %zu\ntabulation %zu\ncounters %zu\nstack %zu\n", CODE_BYTES, sizeof words, sizeof scratch,
            sizeof tabulation, sizeof counters, stack);
-    printf("memory.c: %zu of %u bytes; %u keys accepted, %u calls refused\n", sum, HEAD_BYTES, (unsigned)accepted, (unsigned)counters.refused);
-    return sum > HEAD_BYTES || accepted < 1200 || counters.refused == 0;
+    printf("memory.c: %zu of %u bytes; %u keys accepted, %u calls refused, %u of them for another tier\n", sum, HEAD_BYTES, (unsigned)accepted,
+           (unsigned)counters.refused, (unsigned)other_tier);
+    return sum > HEAD_BYTES || accepted < 1200 || other_tier == 0 || counters.refused == other_tier;
 }

@@ -1,5 +1,5 @@
-/* Two pump heads with different pasts: one loads a promotion and cancels it, the other never saw it. Their lists are compared word by word, as a station
- * console does. Exits with 0 when they are alike, and when a third head with another set differs. */
+/* Two pump heads with different pasts: one loads a promotion and cancels it, and mends a card's tier, the other never saw any of it. Their lists are compared
+ * word by word, as a station console does. Exits with 0 when they are alike, and when a third head with another set differs, and a fourth with other tiers. */
 #include "pinorange.h"
 
 #include <stdio.h>
@@ -32,10 +32,10 @@ static void lay(struct head *h)
     expect("init", pinorange_init(h->words, PINORANGE_WORDS(R, S), R, S, &h->counters), PINORANGE_DONE);
 }
 
-static uint32_t add(struct head *h, uint32_t key)
+static uint32_t add(struct head *h, uint32_t key, uint32_t tier)
 {
     return pinorange_insert(tabulation, PINORANGE_TABULATION_LENGTH, h->words, PINORANGE_WORDS(R, S), scratch,
-                            PINORANGE_SCRATCH(R, S), &h->counters, key);
+                            PINORANGE_SCRATCH(R, S), &h->counters, key, tier);
 }
 
 static uint32_t withdraw(struct head *h, uint32_t key)
@@ -44,55 +44,91 @@ static uint32_t withdraw(struct head *h, uint32_t key)
                             PINORANGE_SCRATCH(R, S), &h->counters, key);
 }
 
+/* Looks a card up: its tier must be this one, or it must not be listed (77, which stands there before). */
+static void expect_tier(const char *what, const struct head *h, uint32_t key, uint32_t wanted)
+{
+    uint32_t listed = 9, tier = 77;
+    expect(what, pinorange_lookup(tabulation, PINORANGE_TABULATION_LENGTH, h->words, PINORANGE_WORDS(R, S), key, &listed, &tier),
+           PINORANGE_DONE);
+    expect(what, listed, wanted != 77);
+    expect(what, tier, wanted);
+}
+
+/* The regular cards: number and tier. */
+static uint32_t number(uint32_t card)
+{
+    return card * 7919u;
+}
+
+static uint32_t tier_of(uint32_t card)
+{
+    return card % 8;
+}
+
 int main(void)
 {
-    static struct head one, two, three;
-    uint32_t present = 9, offset = 9, length = 9;
+    static struct head one, two, three, four;
+    uint32_t offset = 9, length = 9;
 
     expect("house", pinorange_house(tabulation, PINORANGE_TABULATION_LENGTH), PINORANGE_DONE);
     lay(&one);
     lay(&two);
     lay(&three);
+    lay(&four);
 
     /* head one: the regular cards, ascending */
     for (uint32_t card = 1; card <= 60; card++)
-        expect("add", add(&one, card * 7919u), PINORANGE_DONE);
+        expect("add", add(&one, number(card), tier_of(card)), PINORANGE_DONE);
 
     /* head two: a promotion first, the regular cards descending, then the promotion cancelled; refused calls in between */
     for (uint32_t card = 1; card <= 20; card++)
-        expect("promotion", add(&two, 900000u + card), PINORANGE_DONE);
+        expect("promotion", add(&two, 900000u + card, 7), PINORANGE_DONE);
     for (uint32_t card = 60; card >= 1; card--)
-        expect("add", add(&two, card * 7919u), PINORANGE_DONE);
-    expect("listed", add(&two, 7919u), PINORANGE_KEY_PRESENT);
-    expect("blank", add(&two, 0), PINORANGE_BLANK_KEY);
+        expect("add", add(&two, number(card), card == 5 ? 2 : tier_of(card)), PINORANGE_DONE);
+    expect("listed", add(&two, number(1), tier_of(1)), PINORANGE_KEY_PRESENT);
+    expect("blank", add(&two, 0, 0), PINORANGE_BLANK_KEY);
+    expect("wrong tier", add(&two, number(1), PINORANGE_MAX_TIER + 1), PINORANGE_WRONG_TIER);
     for (uint32_t card = 1; card <= 20; card++)
         expect("cancelled", withdraw(&two, 900000u + card), PINORANGE_DONE);
     expect("not listed", withdraw(&two, 900001u), PINORANGE_KEY_ABSENT);
 
-    /* head three: one card fewer */
-    for (uint32_t card = 1; card <= 59; card++)
-        expect("add", add(&three, card * 7919u), PINORANGE_DONE);
+    /* card 5 came to head two at tier 2: an add with the right tier is refused and leaves it; withdrawn and added again it has the right one */
+    expect("other tier", add(&two, number(5), tier_of(5)), PINORANGE_OTHER_TIER);
+    expect_tier("the tier stays", &two, number(5), 2);
+    expect("withdrawn", withdraw(&two, number(5)), PINORANGE_DONE);
+    expect_tier("not listed", &two, number(5), 77);
+    expect("added again", add(&two, number(5), tier_of(5)), PINORANGE_DONE);
+
+    /* head three: one card fewer; head four: every card, one of them at another tier */
+    for (uint32_t card = 1; card <= 60; card++) {
+        if (card < 60)
+            expect("add", add(&three, number(card), tier_of(card)), PINORANGE_DONE);
+        expect("add", add(&four, number(card), card == 60 ? 0 : tier_of(card)), PINORANGE_DONE);
+    }
 
     if (memcmp(one.words, two.words, sizeof one.words) != 0) {
-        printf("two heads with the same cards differ\n");
+        printf("two heads with the same cards at the same tiers differ\n");
         failures++;
     }
     if (memcmp(one.words, three.words, sizeof one.words) == 0) {
         printf("two heads with different cards are alike\n");
         failures++;
     }
+    if (memcmp(one.words, four.words, sizeof one.words) == 0) {
+        printf("two heads with the same cards at different tiers are alike\n");
+        failures++;
+    }
     expect("check", pinorange_check(tabulation, PINORANGE_TABULATION_LENGTH, two.words, PINORANGE_WORDS(R, S), scratch,
                                     PINORANGE_SCRATCH(R, S)), PINORANGE_DONE);
-    expect("lookup", pinorange_lookup(tabulation, PINORANGE_TABULATION_LENGTH, two.words, PINORANGE_WORDS(R, S), 7919u, &present),
-           PINORANGE_DONE);
-    expect("present", present, 1);
-    expect("lookup", pinorange_lookup(tabulation, PINORANGE_TABULATION_LENGTH, two.words, PINORANGE_WORDS(R, S), 900001u, &present),
-           PINORANGE_DONE);
-    expect("absent", present, 0);
+    for (uint32_t card = 1; card <= 60; card++)
+        expect_tier("lookup", &two, number(card), tier_of(card));
+    expect_tier("cancelled", &two, 900001u, 77);
+    expect_tier("another tier", &four, number(60), 0);
     expect("stash", pinorange_stash(two.words, PINORANGE_WORDS(R, S), &offset, &length), PINORANGE_DONE);
-    expect("stash count", length, two.words[3]);
-    expect("done", two.counters.done, 101);
-    expect("refused", two.counters.refused, 3);
+    expect("stash offset", offset, 4 + 6 * R);
+    expect("stash length", length, 2 * two.words[3]);
+    expect("done", two.counters.done, 103);
+    expect("refused", two.counters.refused, 5);
     for (size_t i = 0; i < PINORANGE_SCRATCH(R, S); i++)
         expect("scratch", scratch[i], 0);
 
