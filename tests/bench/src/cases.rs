@@ -6,6 +6,8 @@ use std::fmt;
 use reference::hash::hashes;
 use reference::house::HOUSE;
 use reference::rng::Rng;
+use reference::samples::random_tiers;
+use reference::set::Member;
 
 pub const PLACES: u32 = 64;
 
@@ -13,14 +15,21 @@ pub const PLACES: u32 = 64;
 /// at every call.
 const SETS: u64 = 16;
 
-/// A set of keys in a dictionary.
+/// A set in a dictionary.
 pub struct Board {
-    /// The keys that are in it, ascending.
-    pub keys: Vec<u32>,
-    /// A key that is not in it, and for which there is room.
-    pub extra: u32,
-    /// Its words: the canonical image of the keys.
+    /// The keys that are in it, each with its tier, ascending.
+    pub members: Vec<Member>,
+    /// A key that is not in it, and for which there is room, with a tier for it.
+    pub extra: Member,
+    /// Its words: the canonical image of the set.
     pub words: Vec<u32>,
+}
+
+impl Board {
+    /// The keys that are in it, ascending.
+    pub fn keys(&self) -> Vec<u32> {
+        self.members.iter().map(|(key, _)| *key).collect()
+    }
 }
 
 /// How many keys a dictionary has, and how they meet.
@@ -63,12 +72,14 @@ impl Case {
             Load::Path => path(r),
             Load::OnePlace => (vec![0; 2_048], vec![(1..=PLACES + 2).collect()]),
         };
-        // The last key of a set is the extra one.
-        let board = |mut keys: Vec<u32>| {
-            let extra = keys.pop().expect("a set of a case has keys");
-            keys.sort_unstable();
-            let words = reference::fast::image(&tabulation, r, PLACES, &keys).expect("they fit");
-            Board { keys, extra, words }
+        // The last key of a set is the extra one. No tier plays a part in where keys sit, so any tiers fit.
+        let mut rng = Rng::new(u64::from(r));
+        let board = |keys: Vec<u32>| {
+            let mut members = random_tiers(&mut rng, &keys);
+            let extra = members.pop().expect("a set of a case has keys");
+            members.sort_unstable();
+            let words = reference::fast::image(&tabulation, r, PLACES, &members).expect("they fit");
+            Board { members, extra, words }
         };
         let boards = sets.into_iter().map(board).collect();
         Case { load, r, tabulation, boards }
@@ -81,11 +92,11 @@ impl Case {
 
     /// How many keys each of its boards has.
     pub fn keys(&self) -> usize {
-        self.boards[0].keys.len()
+        self.boards[0].members.len()
     }
 
     pub fn scratch(&self) -> Vec<u32> {
-        vec![0; 8 * self.r as usize + 4 * PLACES as usize]
+        vec![0; library::scratch_length(self.r, PLACES)]
     }
 }
 

@@ -5,19 +5,23 @@
 mod cases;
 mod twin;
 
-use std::collections::HashSet;
+use std::collections::{HashMap, HashSet};
 use std::hint::black_box;
 use std::time::Instant;
 
 use cases::{Board, Case, LOADS, SIZES};
-use library::{Change, Counters};
+use library::Counters;
+use reference::set::Member;
+
+type Insert = fn(&[u16], &mut [u32], &mut [u32], &mut Counters, u32, u32) -> u32;
+type Remove = fn(&[u16], &mut [u32], &mut [u32], &mut Counters, u32) -> u32;
 
 /// The calls of one partner.
 struct Partner {
-    insert: Change,
-    remove: Change,
+    insert: Insert,
+    remove: Remove,
     check: fn(&[u16], &[u32], &mut [u32]) -> u32,
-    lookup: fn(&[u16], &[u32], u32, &mut u32) -> u32,
+    lookup: fn(&[u16], &[u32], u32, &mut u32, &mut u32) -> u32,
 }
 
 const LIBRARY: Partner = Partner {
@@ -64,15 +68,15 @@ fn call(
     partner: &Partner,
     number: usize,
     case: &Case,
-    extra: u32,
+    (key, tier): Member,
     words: &mut [u32],
     scratch: &mut [u32],
 ) -> u32 {
     let book = &case.tabulation;
     let mut counters = Counters::default();
     match number {
-        0 => (partner.insert)(book, words, scratch, &mut counters, extra),
-        1 => (partner.remove)(book, words, scratch, &mut counters, extra),
+        0 => (partner.insert)(book, words, scratch, &mut counters, key, tier),
+        1 => (partner.remove)(book, words, scratch, &mut counters, key),
         _ => (partner.check)(book, words, scratch),
     }
 }
@@ -107,36 +111,31 @@ fn changes(case: &Case) -> Found {
 
 /// As many keys as the board has, none of them in it.
 fn others(board: &Board) -> Vec<u32> {
-    let inside: HashSet<u32> = board.keys.iter().copied().collect();
+    let inside: HashSet<u32> = board.keys().into_iter().collect();
     let spread = (1..).map(|i: u32| i.wrapping_mul(2_654_435_761));
     spread.filter(|key| *key != 0 && !inside.contains(key)).take(inside.len()).collect()
 }
 
 /// A lookup of some keys on one board, where each is found by the table it stands in: the library's nanoseconds, the shortest of many rounds, and the medians
-/// of its time to the twin's and to that of std's HashSet. All three must agree.
+/// of its time to the twin's and to that of std's HashMap. All three must agree, in the tiers, too: for a found key 1 and its tier are added up.
 fn lookups(case: &Case, board: &Board, asked: &[u32]) -> [f64; 3] {
-    let set: HashSet<u32> = board.keys.iter().copied().collect();
+    let map: HashMap<u32, u32> = board.members.iter().copied().collect();
     let by = |partner: &Partner, key: u32| {
-        let mut present = 0;
-        (partner.lookup)(&case.tabulation, &board.words, key, &mut present);
-        present
+        let (mut listed, mut tier) = (0, 0);
+        (partner.lookup)(&case.tabulation, &board.words, key, &mut listed, &mut tier);
+        listed + tier
     };
-    let present = asked.iter().filter(|key| set.contains(key)).count() as u32;
+    let in_map = |key: u32| map.get(&key).map_or(0, |tier| 1 + tier);
+    let sum = asked.iter().map(|key| in_map(*key)).sum();
     let time = |find: &dyn Fn(u32) -> u32| {
         let start = Instant::now();
         let found = black_box(asked.iter().map(|key| find(*key)).sum::<u32>());
         let time = start.elapsed().as_nanos() as f64 / asked.len() as f64;
-        assert_eq!(found, present, "{}", case.name());
+        assert_eq!(found, sum, "{}", case.name());
         time
     };
-    let rounds = (0..20 * ROUNDS).map(|_| {
-        [
-            time(&|key| by(&LIBRARY, key)),
-            time(&|key| by(&TWIN, key)),
-            time(&|key| u32::from(set.contains(&key))),
-        ]
-    });
-    let times: Vec<[f64; 3]> = rounds.collect();
+    let round = |_| [time(&|key| by(&LIBRARY, key)), time(&|key| by(&TWIN, key)), time(&in_map)];
+    let times: Vec<[f64; 3]> = (0..20 * ROUNDS).map(round).collect();
     let ratio = |partner: usize| median(times.iter().map(|t| t[0] / t[partner]).collect());
     [times.iter().map(|t| t[0]).fold(f64::MAX, f64::min), ratio(1), ratio(2)]
 }
@@ -164,11 +163,11 @@ fn print_changes(sizes: &[[Case; LOADS.len()]]) {
 }
 
 fn print_lookups<'a>(cases: impl Iterator<Item = &'a Case>) {
-    println!("\n| lookup | keys | library ns | to the twin | to HashSet |");
+    println!("\n| lookup | keys | library ns | to the twin | to HashMap |");
     println!("|---|---|---|---|---|");
     for case in cases {
         let board = &case.boards[0];
-        for (what, asked) in [("its keys", board.keys.clone()), ("others", others(board))] {
+        for (what, asked) in [("its keys", board.keys()), ("others", others(board))] {
             let [ours, twin, std] = lookups(case, board, &asked);
             let name = format!("{}, {what}", case.name());
             println!("| {name} | {} | {ours:.1} | {twin:.2} | {std:.2} |", asked.len());
@@ -183,15 +182,17 @@ fn one(partner: &str, call: &str, case: &Case) {
     let mut words = board.words.clone();
     let mut scratch = case.scratch();
     let mut counters = Counters::default();
-    let (book, middle) = (&case.tabulation, board.keys[board.keys.len() / 2]);
+    let (book, (middle, _)) = (&case.tabulation, board.members[board.members.len() / 2]);
+    let (extra, tier) = board.extra;
     let answer = match call {
-        "insert" => (partner.insert)(book, &mut words, &mut scratch, &mut counters, board.extra),
+        "insert" => (partner.insert)(book, &mut words, &mut scratch, &mut counters, extra, tier),
         "remove" => (partner.remove)(book, &mut words, &mut scratch, &mut counters, middle),
         "check" => (partner.check)(book, &words, &mut scratch),
         "lookup" => {
-            let mut present = 0;
-            let asked = board.keys.iter().copied().chain(others(board));
-            asked.map(|key| (partner.lookup)(book, &words, key, &mut present)).max().unwrap_or(0)
+            let (mut listed, mut tier) = (0, 0);
+            let asked = board.keys().into_iter().chain(others(board));
+            let lookup = |key: u32| (partner.lookup)(book, &words, key, &mut listed, &mut tier);
+            asked.map(lookup).max().unwrap_or(0)
         }
         _ => panic!("no such call: {call}"),
     };

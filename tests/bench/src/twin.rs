@@ -1,15 +1,22 @@
 //! The partner of the benchmark: insert, remove, check and lookup as a Rust engineer would write them for speed, with the same promise (answers, words,
-//! scratch and counters of the specification) and the same algorithm (collect, sort, build, compare; change, build, write), in lent scratch and
-//! without allocation. Where std has something faster than plain code, as its sort, it is used. Every call that is timed is compared with the library's.
+//! scratch and counters of the specification) and the same algorithm (collect, sort, build, find the tiers, compare; change, build, find the tiers, write), in
+//! lent scratch and without allocation. Where std has something faster than plain code, as its sort, it is used. Every call that is timed is compared with the
+//! library's.
 
 use library::Counters;
 
-const TABULATION_LENGTH: usize = 2_048;
+type Tabulation = [u16; 2_048];
+
 const HEADER: usize = 4;
+/// Words of a slot: key, next, tier.
+const SLOT: usize = 3;
+/// Words of a stash place: key, tier.
+const PLACE: usize = 2;
+const MAX_TIER: u32 = 7;
 
 /// The slot of a key in a table of r slots.
 #[inline]
-fn hash(tabulation: &[u16; TABULATION_LENGTH], table: usize, r: u32, key: u32) -> u32 {
+fn hash(tabulation: &Tabulation, table: usize, r: u32, key: u32) -> u32 {
     let bytes = key.to_le_bytes();
     let entry = |i: usize| u32::from(tabulation[1_024 * table + 256 * i + usize::from(bytes[i])]);
     (entry(0) + entry(1) + entry(2) + entry(3)) % r
@@ -17,7 +24,7 @@ fn hash(tabulation: &[u16; TABULATION_LENGTH], table: usize, r: u32, key: u32) -
 
 /// The two slots of a key in the row of both tables' slots.
 #[inline]
-fn ends(tabulation: &[u16; TABULATION_LENGTH], r: u32, key: u32) -> (usize, usize) {
+fn ends(tabulation: &Tabulation, r: u32, key: u32) -> (usize, usize) {
     let [first, second] = [0, 1].map(|table| hash(tabulation, table, r, key));
     (first as usize, (r + second) as usize)
 }
@@ -26,35 +33,66 @@ fn ends(tabulation: &[u16; TABULATION_LENGTH], r: u32, key: u32) -> (usize, usiz
 #[inline]
 fn shape(words: &[u32]) -> Option<(u32, u32)> {
     let &[r, s, _, _, ..] = words else { return None };
-    let fits =
-        (1..=1_024).contains(&r) && s <= 64 && words.len() == HEADER + 4 * r as usize + s as usize;
+    let fits = (1..=1_024).contains(&r)
+        && s <= 64
+        && words.len() == HEADER + 2 * SLOT * r as usize + PLACE * s as usize;
     fits.then_some((r, s))
 }
 
-/// 0 and whether the key stands in the words, or 1, 2 or 5.
+/// The tier of the first stash place that holds a key. Most keys that come as far as the stash are not in it, so all places are compared first, several at once.
+#[inline]
+fn tier_in_stash(places: &[u32], key: u32) -> Option<u32> {
+    let mut places = places.chunks_exact(PLACE);
+    if !places.clone().fold(false, |any, place| any | (place[0] == key)) {
+        return None;
+    }
+    places.find(|place| place[0] == key).map(|place| place[1])
+}
+
+/// The tier that stands with the first copy of a key in words of the right shape: in its slot of table 0, in that of table 1, in the stash.
+#[inline]
+fn tier_in(tabulation: &Tabulation, words: &[u32], r: u32, key: u32) -> Option<u32> {
+    let in_slot = |slot: u32| {
+        let slot = &words[HEADER + SLOT * slot as usize..][..SLOT];
+        (slot[0] == key).then(|| slot[2])
+    };
+    in_slot(hash(tabulation, 0, r, key))
+        .or_else(|| in_slot(r + hash(tabulation, 1, r, key)))
+        .or_else(|| tier_in_stash(&words[HEADER + 2 * SLOT * r as usize..], key))
+}
+
+/// 0 and whether the key stands in the words, with its tier, or 1, 2 or 5.
 #[inline(never)]
 #[export_name = "twin_lookup"]
-pub fn lookup(tabulation: &[u16], words: &[u32], key: u32, present: &mut u32) -> u32 {
-    let Ok(tabulation) = <&[u16; TABULATION_LENGTH]>::try_from(tabulation) else { return 1 };
+pub fn lookup(
+    tabulation: &[u16],
+    words: &[u32],
+    key: u32,
+    listed: &mut u32,
+    tier: &mut u32,
+) -> u32 {
+    let Ok(tabulation) = <&Tabulation>::try_from(tabulation) else { return 1 };
     let Some((r, _)) = shape(words) else { return 2 };
     if key == 0 {
         return 5;
     }
-    let holds = |slot: u32| words[HEADER + 2 * slot as usize] == key;
-    let stands = holds(hash(tabulation, 0, r, key))
-        || holds(r + hash(tabulation, 1, r, key))
-        || words[HEADER + 4 * r as usize..].contains(&key);
-    *present = u32::from(stands);
+    let found = tier_in(tabulation, words, r, key);
+    *listed = u32::from(found.is_some());
+    if let Some(found) = found {
+        *tier = found;
+    }
     0
 }
 
-/// Scratch in its parts: keys (2r + s), held, next and sets (2r each), stash (s).
+/// Scratch in its parts: keys (2r + s), held, next and sets (2r each), stash (s), and the tiers of what is held (2r) and stashed (s).
 struct Parts<'a> {
     keys: &'a mut [u32],
     held: &'a mut [u32],
     next: &'a mut [u32],
     sets: &'a mut [u32],
     stash: &'a mut [u32],
+    tiers: &'a mut [u32],
+    beside: &'a mut [u32],
 }
 
 fn split(scratch: &mut [u32], r: u32, s: u32) -> Parts<'_> {
@@ -63,7 +101,9 @@ fn split(scratch: &mut [u32], r: u32, s: u32) -> Parts<'_> {
     let (held, rest) = rest.split_at_mut(m);
     let (next, rest) = rest.split_at_mut(m);
     let (sets, rest) = rest.split_at_mut(m);
-    Parts { keys, held, next, sets, stash: &mut rest[..s] }
+    let (stash, rest) = rest.split_at_mut(s);
+    let (tiers, rest) = rest.split_at_mut(m);
+    Parts { keys, held, next, sets, stash, tiers, beside: &mut rest[..s] }
 }
 
 /// The representative of a slot's set. A word from m on marks one.
@@ -77,7 +117,7 @@ fn find(sets: &[u32], mut slot: usize) -> usize {
 }
 
 struct Build<'a, 'b> {
-    tabulation: &'a [u16; TABULATION_LENGTH],
+    tabulation: &'a Tabulation,
     r: u32,
     parts: &'a mut Parts<'b>,
 }
@@ -223,6 +263,22 @@ impl Build<'_, '_> {
         }
     }
 
+    /// The tiers of what is held and stashed: that of the new member is given, the others are found in the old words.
+    fn place_tiers(&mut self, words: &[u32], (new, tier): (u32, u32)) {
+        let of = |key: u32| match key {
+            0 => 0,
+            _ if key == new => tier,
+            _ => tier_in(self.tabulation, words, self.r, key).unwrap_or(0),
+        };
+        let parts = &mut *self.parts;
+        for (tier, &key) in parts.tiers.iter_mut().zip(parts.held.iter()) {
+            *tier = of(key);
+        }
+        for (tier, &key) in parts.beside.iter_mut().zip(parts.stash.iter()) {
+            *tier = of(key);
+        }
+    }
+
     fn build(&mut self, n: usize) -> Option<usize> {
         self.link(n);
         self.label();
@@ -236,10 +292,10 @@ impl Build<'_, '_> {
 
 /// The keys that stand in the words, ascending, at the front of `keys`; how many.
 fn collect(words: &[u32], r: u32, keys: &mut [u32]) -> usize {
-    let rest = HEADER + 4 * r as usize;
+    let rest = HEADER + 2 * SLOT * r as usize;
     let mut n = 0;
-    let in_slots = words[HEADER..rest].chunks_exact(2).map(|slot| slot[0]);
-    for key in in_slots.chain(words[rest..].iter().copied()) {
+    let in_slots = words[HEADER..rest].chunks_exact(SLOT).map(|slot| slot[0]);
+    for key in in_slots.chain(words[rest..].chunks_exact(PLACE).map(|place| place[0])) {
         if key != 0 {
             keys[n] = key;
             n += 1;
@@ -257,50 +313,72 @@ fn collect(words: &[u32], r: u32, keys: &mut [u32]) -> usize {
 }
 
 fn matches(words: &[u32], parts: &Parts, n: usize, stashed: usize) -> bool {
-    let rest = HEADER + 2 * parts.held.len();
+    let rest = HEADER + SLOT * parts.held.len();
+    let slots = parts.held.iter().zip(parts.next.iter()).zip(parts.tiers.iter());
+    let places = parts.stash.iter().zip(parts.beside.iter());
     words[2] as usize == n
         && words[3] as usize == stashed
         && words[HEADER..rest]
-            .chunks_exact(2)
-            .zip(parts.held.iter().zip(parts.next.iter()))
-            .all(|(slot, (key, next))| slot[0] == *key && slot[1] == *next)
-        && words[rest..] == *parts.stash
+            .chunks_exact(SLOT)
+            .zip(slots)
+            .all(|(slot, ((key, next), tier))| slot == [*key, *next, *tier])
+        && words[rest..]
+            .chunks_exact(PLACE)
+            .zip(places)
+            .all(|(place, (key, tier))| place == [*key, *tier])
 }
 
 fn write(words: &mut [u32], parts: &Parts, n: usize, stashed: usize) {
-    let rest = HEADER + 2 * parts.held.len();
+    let rest = HEADER + SLOT * parts.held.len();
     words[2] = n as u32;
     words[3] = stashed as u32;
-    let built = parts.held.iter().zip(parts.next.iter());
-    for (slot, (key, next)) in words[HEADER..rest].chunks_exact_mut(2).zip(built) {
-        slot[0] = *key;
-        slot[1] = *next;
+    let slots = parts.held.iter().zip(parts.next.iter()).zip(parts.tiers.iter());
+    for (slot, ((key, next), tier)) in words[HEADER..rest].chunks_exact_mut(SLOT).zip(slots) {
+        slot.copy_from_slice(&[*key, *next, *tier]);
     }
-    words[rest..].copy_from_slice(parts.stash);
+    let places = parts.stash.iter().zip(parts.beside.iter());
+    for (place, (key, tier)) in words[rest..].chunks_exact_mut(PLACE).zip(places) {
+        place.copy_from_slice(&[*key, *tier]);
+    }
 }
 
-/// What all three calls start with: the refusals 1 to 4, or how many keys stand at the front of scratch.
-fn load(tabulation: &[u16], words: &[u32], scratch: &mut [u32]) -> Result<usize, u32> {
-    let tabulation = <&[u16; TABULATION_LENGTH]>::try_from(tabulation).map_err(|_| 1u32)?;
+/// What all three calls start with: the refusals 1 to 4, or the tabulation and how many keys stand at the front of scratch.
+fn load<'a>(
+    tabulation: &'a [u16],
+    words: &[u32],
+    scratch: &mut [u32],
+) -> Result<(&'a Tabulation, usize), u32> {
+    let tabulation = <&Tabulation>::try_from(tabulation).map_err(|_| 1u32)?;
     let (r, s) = shape(words).ok_or(2u32)?;
-    if scratch.len() < 8 * r as usize + 4 * s as usize {
+    if scratch.len() < 12 * r as usize + 8 * s as usize {
         return Err(3);
     }
     let mut parts = split(scratch, r, s);
     let n = collect(words, r, parts.keys);
-    let stashed = Build { tabulation, r, parts: &mut parts }.build(n).ok_or(4u32)?;
-    if matches(words, &parts, n, stashed) {
-        Ok(n)
+    let mut build = Build { tabulation, r, parts: &mut parts };
+    let stashed = build.build(n).ok_or(4u32)?;
+    build.place_tiers(words, (0, 0));
+    let small = parts.tiers.iter().chain(parts.beside.iter()).all(|tier| *tier <= MAX_TIER);
+    if small && matches(words, &parts, n, stashed) {
+        Ok((tabulation, n))
     } else {
         Err(4)
     }
 }
 
-fn renew(tabulation: &[u16], words: &mut [u32], scratch: &mut [u32], n: usize) -> Result<(), u32> {
-    let tabulation = <&[u16; TABULATION_LENGTH]>::try_from(tabulation).map_err(|_| 1u32)?;
+/// The new set's keys stand at the front of scratch; the new member's tier is given, those of the others stand in the words.
+fn renew(
+    tabulation: &Tabulation,
+    words: &mut [u32],
+    scratch: &mut [u32],
+    n: usize,
+    new: (u32, u32),
+) -> Result<(), u32> {
     let (r, s) = (words[0], words[1]);
     let mut parts = split(scratch, r, s);
-    let stashed = Build { tabulation, r, parts: &mut parts }.build(n).ok_or(8u32)?;
+    let mut build = Build { tabulation, r, parts: &mut parts };
+    let stashed = build.build(n).ok_or(8u32)?;
+    build.place_tiers(words, new);
     write(words, &parts, n, stashed);
     Ok(())
 }
@@ -310,18 +388,26 @@ fn insert_words(
     words: &mut [u32],
     scratch: &mut [u32],
     key: u32,
+    tier: u32,
 ) -> Result<(), u32> {
-    let n = load(tabulation, words, scratch)?;
+    let (tabulation, n) = load(tabulation, words, scratch)?;
     if key == 0 {
         return Err(5);
     }
-    let Err(at) = scratch[..n].binary_search(&key) else { return Err(6) };
+    if tier > MAX_TIER {
+        return Err(9);
+    }
+    let at = match scratch[..n].binary_search(&key) {
+        Ok(_) if tier_in(tabulation, words, words[0], key) == Some(tier) => return Err(6),
+        Ok(_) => return Err(10),
+        Err(at) => at,
+    };
     if (2 * words[0] + words[1]) as usize <= n {
         return Err(8);
     }
     scratch.copy_within(at..n, at + 1);
     scratch[at] = key;
-    renew(tabulation, words, scratch, n + 1)
+    renew(tabulation, words, scratch, n + 1, (key, tier))
 }
 
 fn remove_words(
@@ -330,13 +416,13 @@ fn remove_words(
     scratch: &mut [u32],
     key: u32,
 ) -> Result<(), u32> {
-    let n = load(tabulation, words, scratch)?;
+    let (tabulation, n) = load(tabulation, words, scratch)?;
     if key == 0 {
         return Err(5);
     }
     let Ok(at) = scratch[..n].binary_search(&key) else { return Err(7) };
     scratch.copy_within(at + 1..n, at);
-    renew(tabulation, words, scratch, n - 1)
+    renew(tabulation, words, scratch, n - 1, (0, 0))
 }
 
 fn count(counters: &mut Counters, answer: Result<(), u32>) -> u32 {
@@ -353,8 +439,9 @@ pub fn insert(
     scratch: &mut [u32],
     counters: &mut Counters,
     key: u32,
+    tier: u32,
 ) -> u32 {
-    let answer = insert_words(tabulation, words, scratch, key);
+    let answer = insert_words(tabulation, words, scratch, key, tier);
     scratch.fill(0);
     count(counters, answer)
 }
