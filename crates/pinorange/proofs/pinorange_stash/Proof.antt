@@ -1,8 +1,9 @@
 -- `pinorange::pinorange_stash` meets its contract: a view that is not refused has a small offset.
+use Prim.Native.Nat.{ℕ, _*_}
 use mathlib.Core.Path.{_≡_, sym, _∙_, ap}
 use native.Mathlib.Omega.{arith}
 use borrow.Author.Tests.{eq-eqb, ne-eqb}
-use Rattle.layout.specs.Layout.{stash-at}
+use Rattle.layout.specs.Layout.{stash-at, stash-count, place-width}
 use Rattle.layout.specs.Answers.{view-refusal}
 use Rattle.layout.specs.Shape.{viewed}
 use Rattle.pinorange.specs.Out.{offset-out, length-out}
@@ -33,13 +34,29 @@ stash-start-requires c κs = omega (arith, c .read-header .ensures .0, viewed _ 
 cast-offset : tie.Need-cast-offset
 cast-offset c = omega (arith, c .stash-start .ensures, c .before .read-header .ensures .0, viewed _ (accepted (c .before .before)))
 
+wide-requires : tie.Need-wide-requires
+wide-requires c κs = search needs
+
+-- the heading is read, and how many places are filled
+abbrev read : tie.After-wide → tie.After-read-header
+read w = w .before .before
+
+filled : (w : tie.After-wide) → w .wide .result ≡ stash-count (read w .before .before .before .before .args .words .now)
+filled w = w .wide .ensures ∙ read w .read-header .ensures .1 .1 .1
+
+mul-length : tie.Need-mul-length
+mul-length c = omega (arith, filled c, viewed _ (accepted (read c .before)))
+
+cast-length : tie.Need-cast-length
+cast-length c = omega (arith, filled c, viewed _ (accepted (read c .before)))
+
 returns-2 : tie.Need-returns-2
 unfolding offset-out length-out
 returns-2 c =
-    let n = accepted (c .before .before) in
-    let h = c .before .read-header .ensures in
+    let n = accepted (read c .before) in
+    let h = read c .read-header .ensures in
     let t = eq-eqb _ 0 n in
-    (sym n, (simp t (c .stash-start .ensures ∙ ap stash-at (h .0)), simp t (h .1 .1 .1)))
+    (sym n, (simp t (c .before .stash-start .ensures ∙ ap stash-at (h .0)), simp t (ap (λ (k : ℕ). place-width * k) (filled c))))
 
 pub pinorange-stash-spec : {M : Type 1} → statement M
 pinorange-stash-spec =
@@ -50,4 +67,7 @@ pinorange-stash-spec =
     read-header-requires
     stash-start-requires
     cast-offset
+    wide-requires
+    mul-length
+    cast-length
     returns-2)

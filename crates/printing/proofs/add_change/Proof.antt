@@ -8,14 +8,14 @@ use Rattle.printing.proofs.add_change.Tie as tie
 make-room-requires : tie.Need-make-room-requires
 make-room-requires c κs = search needs
 
-enum-told : tie.Need-enum-told
-enum-told c = search needs
+enum-known-kind : tie.Need-enum-known-kind
+enum-known-kind c = search needs
 
 put-insert-requires : tie.Need-put-insert-requires
 put-insert-requires c κs = search needs
 
-enum-told-2 : tie.Need-enum-told-2
-enum-told-2 c = search needs
+enum-told : tie.Need-enum-told
+enum-told c = search needs
 
 put-remove-requires : tie.Need-put-remove-requires
 put-remove-requires c κs = search needs
@@ -26,8 +26,16 @@ start m = m .before .before
 
 returns : tie.Need-returns
 returns c =
-    let m = c .before .before .before .before in
-    omega (arith, m .make-room .ensures, c .put-insert .ensures .moved, insert-short (start m .args .key) (start m .args .tier) (start m .args .answer) (omega arith) (omega arith) (omega arith))
+    let t = c .before .before in
+    let m = t .before .before .before in
+    let tier = t .before .kind .given .0 .0 in
+    let k = t .known-told .given in
+    omega (
+      arith,
+      m .make-room .ensures,
+      c .put-insert .ensures .moved,
+      insert-short (start m .args .key) tier (start m .args .answer) (omega arith) (omega (arith, k .0)) (omega arith),
+    )
 
 returns-2 : tie.Need-returns-2
 returns-2 c =
@@ -39,9 +47,9 @@ add-change-spec =
     tie.close
     (tie.spec
     make-room-requires
-    enum-told
+    enum-known-kind
     put-insert-requires
-    enum-told-2
+    enum-told
     put-remove-requires
     returns
     returns-2)
