@@ -1,14 +1,15 @@
 -- `console::first_line` is safe and ends: the measure is what is left of the bytes that a line of a known form can have.
 use borrow.Author.Needs.{needs}
-use Prim.Native.Nat.{_≤_, _-_}
+use Prim.Native.Nat.{suc, _≤_, _-_}
+use Rattle.lines.specs.Command.{longest}
 use Rattle.console.proofs.first_line.Statement.{statement}
 use Rattle.console.proofs.first_line.Tie as tie
 
 abbrev Inv-loop : tie.InvT-loop
-Inv-loop line₀ i₀ line i = i ≤ 22
+Inv-loop line₀ i₀ line i = i ≤ suc longest
 
 abbrev μ-loop : tie.MeasureT-loop
-μ-loop line₀ i₀ line i = 22 - i
+μ-loop line₀ i₀ line i = suc longest - i
 
 empty-line-requires : tie.Need-empty-line-requires Inv-loop μ-loop
 empty-line-requires c κs = search needs
