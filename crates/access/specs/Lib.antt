@@ -1,2 +1,2 @@
--- What the contracts of `access` cite beside the definitions of `layout`: the first of some places that holds a key.
-pub mod Places
+-- What the proofs of `access` cite beside the laws of `layout`: what is looked at for a key, and what is found.
+pub mod Found

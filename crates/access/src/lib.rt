@@ -8,15 +8,16 @@ ghost use lib.ListN.{length, getD, take, drop};
 ghost use Rattle.tabulation.specs.Hash.{tabulation-length, max-slots};
 ghost use Rattle.layout.specs.Layout.{header-words, header-length, slot-width, slots-of, places-of, key-count};
 ghost use Rattle.layout.specs.Layout.{stash-count, sizes-in-range, shaped, words-length, scratch-length, key-at};
-ghost use Rattle.layout.specs.Layout.{stash-at, tier-at, place-width, max-places, place-entries, slot-entry, looked-at, tier-in};
+ghost use Rattle.layout.specs.Layout.{stash-at, tier-at, place-width, max-places, slot-entry, stash-entries, looked-at, tier-in};
 ghost use Rattle.layout.specs.Shape.{Sized, Shaped};
 ghost use Rattle.refusals.specs.Refusal.{done};
+ghost use Rattle.access.specs.Found.{own-slots};
 ghost use Rattle.layout.specs.Answers.{number, values, lookup-refusal, lookup-values, looked-up, view-refusal, view-of};
-ghost use Rattle.access.specs.Places.{FirstPlace};
 ghost use Rattle.layout.specs.Answers.{fresh-refusal, fresh-words};
 use layout::Found;
 use layout::Header;
 use layout::Slot;
+use places::find_place;
 use refusals::BLANK_KEY;
 use refusals::NOT_CANONICAL;
 use refusals::WRONG_SHAPE;
@@ -32,7 +33,7 @@ pub const HEADER_LENGTH: usize = 4;
 pub const SLOT_WIDTH: usize = 3;
 
 // The words of a stash place: its key, its tier.
-pub const PLACE_WIDTH: usize = 2;
+pub const PLACE_WIDTH: usize = places::PLACE_WIDTH;
 
 // The largest tier.
 pub const MAX_TIER: u32 = 7;
@@ -170,42 +171,11 @@ fn slot_tier(words: &[u32], slot: u32) -> u32
     words[HEADER_LENGTH + SLOT_WIDTH * wide(slot) + 2]
 }
 
-// The first of the places that holds the key; if none does, as many as there are. Every place is looked at, from the
-// last on, so that the compiler can compare several at once.
-fn place_of(places: &[u32], count: usize, key: u32) -> usize
-    requires { ⌜ (length (now places) ≡ place-width * count) × (count ≤ max-places) ⌝ }
-    ensures { λ i. ⌜ FirstPlace (now (places .entry)) count key i ⌝ }
-{
-    let mut at = count;
-    let mut i = count;
-    while 0 < i {
-        i -= 1;
-        if key == places[PLACE_WIDTH * i] {
-            at = i;
-        }
-    }
-    at
-}
-
-// Where a key is found among the places: its tier, or that it is in none.
-fn find_place(places: &[u32], count: usize, key: u32) -> Found
-    requires { ⌜ (length (now places) ≡ place-width * count) × (count ≤ max-places) ⌝ }
-    ensures numbered { λ f. ⌜ number f ≡ done ⌝ }
-    ensures valued { λ f. ⌜ values f ≡ looked-up (place-entries count (now (places .entry))) key ⌝ }
-{
-    let at = place_of(places, count, key);
-    if at < count {
-        return Found::Listed(places[PLACE_WIDTH * at + 1]);
-    }
-    Found::Absent
-}
-
-// Where a key is found in words: in its slot of table 0, in its slot of table 1, or in the stash; its tier, or that it
-// is not there.
-fn find(tabulation: &[u16], words: &[u32], key: u32) -> Found
+// Where a key is found among its two slots: in that of table 0, in that of table 1, or in neither.
+fn in_slots(tabulation: &[u16], words: &[u32], key: u32) -> Found
     requires { ⌜ (length (now tabulation) ≡ tabulation-length) × Shaped (now words) ⌝ }
     ensures numbered { λ f. ⌜ number f ≡ done ⌝ }
-    ensures valued { λ f. ⌜ values f ≡ looked-up (looked-at (now (tabulation .entry)) (now (words .entry)) key) key ⌝ }
+    ensures valued { λ f. ⌜ values f ≡ looked-up (own-slots (now (tabulation .entry)) (now (words .entry)) key) key ⌝ }
 {
     let header = read_header(words);
     let first = tabulation::first_slot(tabulation, header.slots, key);
@@ -216,22 +186,56 @@ fn find(tabulation: &[u16], words: &[u32], key: u32) -> Found
     if in_slot(words, second, key) {
         return Found::Listed(slot_tier(words, second));
     }
+    Found::Absent
+}
+
+// Where a key is found in the stash.
+fn in_stash(words: &[u32], key: u32) -> Found
+    requires { ⌜ Shaped (now words) ⌝ }
+    ensures numbered { λ f. ⌜ number f ≡ done ⌝ }
+    ensures valued { λ f. ⌜ values f ≡ looked-up (stash-entries (now (words .entry))) key ⌝ }
+{
+    let header = read_header(words);
     let start = stash_start(header.slots);
     let count = wide(header.places);
     find_place(&words[start..start + PLACE_WIDTH * count], count, key)
 }
 
-// The tier at which a key is found, 0 where it is not.
-pub fn tier_found(tabulation: &[u16], words: &[u32], key: u32) -> u32
+// Lookup without its refusals: the tier that stands where the key is found first, or that it is not there.
+fn find(tabulation: &[u16], words: &[u32], key: u32) -> Found
     requires { ⌜ (length (now tabulation) ≡ tabulation-length) × Shaped (now words) ⌝ }
-    ensures { λ t. ⌜ t ≡ tier-in (now (tabulation .entry)) (now (words .entry)) key ⌝ }
+    ensures numbered { λ f. ⌜ number f ≡ done ⌝ }
+    ensures valued { λ f. ⌜ values f ≡ looked-up (looked-at (now (tabulation .entry)) (now (words .entry)) key) key ⌝ }
 {
-    let found = find(tabulation, words, key);
+    let found = in_slots(tabulation, words, key);
+    let Found::Absent = found else {
+        return found;
+    };
+    in_stash(words, key)
+}
+
+// The tier of what was found, 0 where nothing was.
+fn tier_of(found: Found) -> u32
+    ensures { λ t. ⌜ t ≡ getD (values found) 1 0 ⌝ }
+{
     match found {
         Found::Listed(tier) => tier,
         Found::Absent => 0,
         Found::Refused(_) => 0,
     }
+}
+
+// The tier at which a key is found, 0 where it is not: the two steps of `find` once more. As a call of `find`, which is
+// too long to be put in its caller's place, it makes an insert take 2 % more instructions.
+pub fn tier_found(tabulation: &[u16], words: &[u32], key: u32) -> u32
+    requires { ⌜ (length (now tabulation) ≡ tabulation-length) × Shaped (now words) ⌝ }
+    ensures { λ t. ⌜ t ≡ tier-in (now (tabulation .entry)) (now (words .entry)) key ⌝ }
+{
+    let found = in_slots(tabulation, words, key);
+    let Found::Listed(tier) = found else {
+        return tier_of(in_stash(words, key));
+    };
+    tier
 }
 
 // The tier of the key, or that it is not there, on any words of the right shape; or 1, 2 or 5.

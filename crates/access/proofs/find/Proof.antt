@@ -1,155 +1,45 @@
--- `access::find` meets its contract: both slots and the stash lie inside words of the right shape, and they are looked at in this order.
-use Prim.Native.Nat.{_+_, _*_, _<_}
-use mathlib.Core.Path.{_≡_, refl, sym, _∙_, ap}
-use mathlib.Core.Bool.{Bool}
-use native.Mathlib.Nat.{add-sub-cancel-left}
+-- `access::find` meets its contract: what is found in the slots counts, and else what is found in the stash.
+use mathlib.Core.Path.{_∙_, ap}
+use mathlib.Core.Logic.{inl, inr}
 use native.Mathlib.Omega.{arith}
-use lib.Dec.{eqb}
-use Rattle.tabulation.specs.Hash.{tables}
-use Rattle.tabulation.specs.Slots.{slot-0, slot-1, slot-0-lt, slot-1-lt}
-use Rattle.layout.specs.Layout.{stash-at, slots-of, slot-entry}
-use Rattle.layout.specs.Shape.{Shaped}
+use denote.Enum.Declared.{tagOf}
+use Rattle.layout.proofs.Found.{the-type}
 use borrow.Author.Needs.{needs}
-use Rattle.access.specs.Places.{found-first, found-second, found-stash}
+use Rattle.access.specs.Found.{slots-first, slots-absent}
 use Rattle.access.proofs.find.Statement.{statement}
 use Rattle.access.proofs.find.Tie as tie
 
-read-header-requires : tie.Need-read-header-requires
-read-header-requires c κs = search needs
+in-slots-requires : tie.Need-in-slots-requires
+in-slots-requires c κs = search needs
 
-first-slot-requires : tie.Need-first-slot-requires
-first-slot-requires c κs = search needs
+enum-told : tie.Need-enum-told
+enum-told c = search needs
 
--- the first slot is known
-abbrev start : tie.After-first-slot → tie.Start
-start f = f .before .before .before .before
-
-first-is : (f : tie.After-first-slot) → let a = start f .args in
-    f .first-slot .result ≡ slot-0 (tables (a .tabulation .now) (slots-of (a .words .now))) (a .key)
-first-is f = rw (f .before .read-header .ensures .0) at (f .first-slot .ensures)
-
-first-in : (f : tie.After-first-slot) → f .first-slot .result < slots-of (start f .args .words .now)
-first-in f =
-    let a = start f .args in
-    omega (arith, first-is f, slot-0-lt (tables (a .tabulation .now) (slots-of (a .words .now))) (start f .pre .1 .sizes .has-slots) (a .key))
-
-in-slot-requires : tie.Need-in-slot-requires
-in-slot-requires c κs = let l = first-in c in let h = start c .pre .1 in (omega (arith, h), omega (arith, h))
-
--- it is compared with the key
-first-test : (i : tie.After-in-slot) → let a = start (i .before) .args in
-    i .in-slot .result ≡ eqb (a .key) (slot-entry (a .words .now) (slot-0 (tables (a .tabulation .now) (slots-of (a .words .now))) (a .key)) .key)
-first-test i = rw (first-is (i .before)) at (i .in-slot .ensures)
-
-slot-tier-requires : tie.Need-slot-tier-requires
-slot-tier-requires c κs = let f = c .before .before in let l = first-in f in let h = start f .pre .1 in (omega (arith, h), omega (arith, h))
+-- the slots are looked at
+abbrev start : tie.After-in-slots → tie.Start
+start s = s .before .before .before
 
 returns : tie.Need-returns
 returns c =
-    let i = c .before .before in
-    let a = start (i .before) .args in
-    (refl, found-first (a .tabulation .now) (a .words .now) (a .key) (sym (first-test i) ∙ c .before .if1 .taken) (rw (first-is (i .before)) at (c .slot-tier .ensures)))
+    let s = c .before in
+    let a = start s .args in (
+      s .in-slots .ensures .0,
+      slots-first (a .tabulation .now) (a .words .now) (a .key) (s .in-slots .result) (s .in-slots .ensures .1)
+          (λ q. elim (c .match .keys2) [ inl e ↦ omega (arith, ap (tagOf the-type) q) | inr e ↦ omega (arith, ap (tagOf the-type) q) ]),
+    )
 
-second-slot-requires : tie.Need-second-slot-requires
-second-slot-requires c κs = search needs
-
--- it does not have the key, and the second is known
-abbrev earlier : tie.After-second-slot → tie.After-in-slot
-earlier d = d .before .before
-
-second-is : (d : tie.After-second-slot) → let a = start (earlier d .before) .args in
-    d .second-slot .result ≡ slot-1 (tables (a .tabulation .now) (slots-of (a .words .now))) (a .key)
-second-is d = rw (earlier d .before .before .read-header .ensures .0) at (d .second-slot .ensures)
-
-second-in : (d : tie.After-second-slot) → let w = start (earlier d .before) .args .words .now in d .second-slot .result < slots-of w + slots-of w
-second-in d =
-    let s = start (earlier d .before) in
-    let a = s .args in
-    omega (arith, second-is d, slot-1-lt (tables (a .tabulation .now) (slots-of (a .words .now))) (s .pre .1 .sizes .has-slots) (a .key))
-
-in-slot-requires-2 : tie.Need-in-slot-requires-2
-in-slot-requires-2 c κs = let l = second-in c in let h = start (earlier c .before) .pre .1 in (omega (arith, h), omega (arith, h))
-
-second-test : (j : tie.After-in-slot2) → let a = start (earlier (j .before) .before) .args in
-    j .in-slot2 .result ≡ eqb (a .key) (slot-entry (a .words .now) (slot-1 (tables (a .tabulation .now) (slots-of (a .words .now))) (a .key)) .key)
-second-test j = rw (second-is (j .before)) at (j .in-slot2 .ensures)
-
-slot-tier-requires-2 : tie.Need-slot-tier-requires-2
-slot-tier-requires-2 c κs =
-    let d = c .before .before in
-    let l = second-in d in
-    let h = start (earlier d .before) .pre .1 in
-    (omega (arith, h), omega (arith, h))
+in-stash-requires : tie.Need-in-stash-requires
+in-stash-requires c κs = search needs
 
 returns-2 : tie.Need-returns-2
 returns-2 c =
-    let j = c .before .before in
-    let i = earlier (j .before) in
-    let a = start (i .before) .args in (
-      refl,
-      found-second (a .tabulation .now) (a .words .now) (a .key) (sym (first-test i) ∙ j .before .before .if1 .left) (sym (second-test j) ∙ c .before .if2 .taken)
-          (rw (second-is (j .before)) at (c .slot-tier2 .ensures)),
-    )
-
-stash-start-requires : tie.Need-stash-start-requires
-stash-start-requires c κs = search needs
-
-wide-requires : tie.Need-wide-requires
-wide-requires c κs = search needs
-
-mul-find-place : tie.Need-mul-find-place
-mul-find-place c = search needs
-
-add-find-place : tie.Need-add-find-place
-add-find-place c = search needs
-
-mul-find-place-2 : tie.Need-mul-find-place-2
-mul-find-place-2 c = search needs
-
-sub-find-place : tie.Need-sub-find-place
-sub-find-place c = search needs
-
-part-find-place-start : tie.Need-part-find-place-start
-part-find-place-start c = search needs
-
-part-find-place-end : tie.Need-part-find-place-end
-part-find-place-end c = search needs
-
-find-place-requires : tie.Need-find-place-requires
-find-place-requires c κs = search needs
-
-returns-3 : tie.Need-returns-3
-returns-3 c =
-    let w = c .before .before in
-    let s = w .before in
-    let j = s .before .before in
-    let i = earlier (j .before) in
-    let h = i .before .before .read-header .ensures in (
-      c .find-place .ensures .0,
-      found-stash _ _ _ (sym (first-test i) ∙ j .before .before .if1 .left) (sym (second-test j) ∙ s .before .if2 .left)
-          (s .stash-start .ensures ∙ ap stash-at (h .0)) (w .wide .ensures ∙ h .1 .0) (c .find-place .ensures .1),
+    let t = c .before in
+    let s = t .before .before in
+    let a = start s .args in (
+      c .in-stash .ensures .0,
+      c .in-stash .ensures .1
+          ∙ slots-absent (a .tabulation .now) (a .words .now) (a .key) (s .in-slots .result) (s .in-slots .ensures .1) (t .enum-told .given .1),
     )
 
 pub find-spec : {M : Type 1} → statement M
-find-spec =
-    tie.close
-    (tie.spec
-    read-header-requires
-    first-slot-requires
-    in-slot-requires
-    slot-tier-requires
-    returns
-    second-slot-requires
-    in-slot-requires-2
-    slot-tier-requires-2
-    returns-2
-    stash-start-requires
-    wide-requires
-    mul-find-place
-    add-find-place
-    mul-find-place-2
-    sub-find-place
-    part-find-place-start
-    part-find-place-end
-    find-place-requires
-    returns-3)
+find-spec = tie.close (tie.spec in-slots-requires enum-told returns in-stash-requires returns-2)

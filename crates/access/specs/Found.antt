@@ -1,0 +1,118 @@
+-- What is looked at for a key, one after the other, and what is found there. Assumes nothing.
+use Prim.Native.Nat.{ℕ, zero, suc, _+_, _*_, _-_}
+use mathlib.Core.Path.{_≡_, refl, sym, _∙_, ap}
+use mathlib.Core.Bool.{Bool, true, false, cond, _||_, true≢false}
+use mathlib.Core.Logic.{_⊎_, inl, inr}
+use mathlib.Core.List.{List, [], _∷_}
+use native.Mathlib.Omega.{arith}
+use borrow.Rule.Slice.PartMut.{midOf}
+use lib.Dec.{eqb}
+use lib.ListN.{length, getD, take, drop}
+use Rattle.basics.specs.Tests.{test}
+use Rattle.basics.specs.Sets.{member, in-member}
+use Rattle.layout.specs.Entries.{Entry, keys-of, tier-of, tier-absent}
+use Rattle.tabulation.specs.Hash.{Family, tables}
+use Rattle.tabulation.specs.Slots.{slot-0, slot-1}
+use Rattle.layout.specs.Layout.{place-width, stash-at, slots-of, places-of, place-entries, slot-entry, stash-entries, looked-at}
+use Rattle.layout.specs.Answers.{values, looked-up}
+use Rattle.layout.specs.declared.Found.{Found}
+use Rattle.layout.specs.declared.Found.the-variants.{Listed, Absent, Refused}
+
+-- places are read from their own words alone
+places-take : (n : ℕ) (us : List ℕ) → place-entries n (take (place-width * n) us) ≡ place-entries n us
+unfolding place-entries
+places-take zero us = refl
+places-take (suc n) [] = let e : place-width * suc n ≡ suc (suc (place-width * n)) = omega arith in rw e
+places-take (suc n) (x ∷ []) = let e : place-width * suc n ≡ suc (suc (place-width * n)) = omega arith in rw e
+places-take (suc n) (x ∷ y ∷ us) = let e : place-width * suc n ≡ suc (suc (place-width * n)) = omega arith in rw (e, places-take n us)
+
+-- what is looked up always says something
+never-silent : (L : List Entry) (key : ℕ) → [] ≡ looked-up L key → ⊥
+never-silent L key = go (member key (keys-of L))
+  where
+    go : (m : Bool) → [] ≡ cond m (1 ∷ tier-of L key ∷ []) (0 ∷ []) → ⊥
+    go true e = absurd (omega (arith, ap length e))
+    go false e = absurd (omega (arith, ap length e))
+
+-- what is looked at for a key, one after the other: its two slots,
+module _ (tabulation ws : List ℕ) (key : ℕ) where
+  abbrev F : Family
+  F = tables tabulation (slots-of ws)
+
+  abbrev pub own-slots : List Entry
+  own-slots = slot-entry ws (slot-0 F key) ∷ slot-entry ws (slot-1 F key) ∷ []
+
+  pub found-first : eqb key (slot-entry ws (slot-0 F key) .key) ≡ true → {t : ℕ} → t ≡ slot-entry ws (slot-0 F key) .tier
+      → 1 ∷ t ∷ [] ≡ looked-up own-slots key
+  found-first e q = rw (e, q)
+
+  module _ (e : eqb key (slot-entry ws (slot-0 F key) .key) ≡ false) where
+    pub found-second : eqb key (slot-entry ws (slot-1 F key) .key) ≡ true → {t : ℕ} → t ≡ slot-entry ws (slot-1 F key) .tier
+        → 1 ∷ t ∷ [] ≡ looked-up own-slots key
+    found-second f q = rw (e, f, q)
+
+    pub found-neither : eqb key (slot-entry ws (slot-1 F key) .key) ≡ false → 0 ∷ [] ≡ looked-up own-slots key
+    found-neither f = rw (e, f)
+
+-- and the stash
+pub found-stash : (ws : List ℕ) (key : ℕ) {start count : ℕ} {vs : List ℕ} → start ≡ stash-at (slots-of ws) → count ≡ places-of ws
+    → vs ≡ looked-up (place-entries count (midOf start (start + place-width * count - start) ws)) key
+    → vs ≡ looked-up (stash-entries ws) key
+found-stash ws key {start} {count} a n q =
+    let l : start + place-width * count - start ≡ place-width * count = omega arith in
+    q ∙ (rw (l, places-take count (drop start ws), a, n))
+
+-- Two entries before others: what is found in them counts, and where nothing is, what is found behind them.
+module _ (c d : Entry) (L : List Entry) (key : ℕ) where
+  two-missed : 0 ∷ [] ≡ looked-up (c ∷ d ∷ []) key → looked-up L key ≡ looked-up (c ∷ d ∷ L) key
+  two-missed = go (eqb key (c .key)) (eqb key (d .key))
+    where
+      go : (x y : Bool) → 0 ∷ [] ≡ cond (x || (y || false)) (1 ∷ cond x (c .tier) (cond y (d .tier) 0) ∷ []) (0 ∷ [])
+          → looked-up L key ≡ cond (x || (y || member key (keys-of L))) (1 ∷ cond x (c .tier) (cond y (d .tier) (tier-of L key)) ∷ []) (0 ∷ [])
+      go true y e = absurd (omega (arith, ap length e))
+      go false true e = absurd (omega (arith, ap length e))
+      go false false e = refl
+
+  two-found : {t : ℕ} → 1 ∷ t ∷ [] ≡ looked-up (c ∷ d ∷ []) key → 1 ∷ t ∷ [] ≡ looked-up (c ∷ d ∷ L) key
+  two-found {t} = go (eqb key (c .key)) (eqb key (d .key))
+    where
+      go : (x y : Bool) → 1 ∷ t ∷ [] ≡ cond (x || (y || false)) (1 ∷ cond x (c .tier) (cond y (d .tier) 0) ∷ []) (0 ∷ [])
+          → 1 ∷ t ∷ [] ≡ cond (x || (y || member key (keys-of L))) (1 ∷ cond x (c .tier) (cond y (d .tier) (tier-of L key)) ∷ []) (0 ∷ [])
+      go true y e = e
+      go false true e = e
+      go false false e = absurd (omega (arith, ap length e))
+
+-- So it is with the slots before the stash, whatever was answered of the slots, f.
+module _ (tabulation ws : List ℕ) (key : ℕ) (f : Found) (told : values f ≡ looked-up (own-slots tabulation ws key) key) where
+  abbrev first-slot : Entry
+  first-slot = slot-entry ws (slot-0 (tables tabulation (slots-of ws)) key)
+
+  abbrev second-slot : Entry
+  second-slot = slot-entry ws (slot-1 (tables tabulation (slots-of ws)) key)
+
+  -- listed in one of them
+  pub slots-listed : {t : ℕ} → f ≡ Listed t → 1 ∷ t ∷ [] ≡ looked-up (looked-at tabulation ws key) key
+  slots-listed q = two-found first-slot second-slot (stash-entries ws) key (sym (ap values q) ∙ told)
+
+  -- or else in the stash
+  pub slots-absent : f ≡ Absent → looked-up (stash-entries ws) key ≡ looked-up (looked-at tabulation ws key) key
+  slots-absent q = two-missed first-slot second-slot (stash-entries ws) key (sym (ap values q) ∙ told)
+
+  -- there is no third answer
+  answers : (f : Found) → values f ≡ looked-up (own-slots tabulation ws key) key → ((t : ℕ) × (f ≡ Listed t)) ⊎ (f ≡ Absent)
+  answers (Listed t) e = inl (t, refl)
+  answers Absent e = inr refl
+  answers (Refused k) e = absurd (never-silent (own-slots tabulation ws key) key e)
+
+  pub slots-first : (f ≡ Absent → ⊥) → values f ≡ looked-up (looked-at tabulation ws key) key
+  slots-first n = elim (answers f told) [ inl l ↦ ap values (l .1) ∙ slots-listed (l .1) | inr a ↦ absurd (n a) ]
+
+  pub slots-passed : ((t : ℕ) → f ≡ Listed t → ⊥) → f ≡ Absent
+  slots-passed n = elim (answers f told) [ inl l ↦ absurd (n (l .0) (l .1)) | inr a ↦ a ]
+
+-- what is looked up says the tier
+pub looked-tier : (L : List Entry) (key : ℕ) → getD (looked-up L key) 1 0 ≡ tier-of L key
+looked-tier L key = elim (test (member key (keys-of L))) [
+  | inl m ↦ rw m
+  | inr m ↦ rw m (sym (tier-absent L (λ i. true≢false (sym (in-member i) ∙ m))))
+]
