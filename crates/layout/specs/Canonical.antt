@@ -1,7 +1,7 @@
 -- Whether given words are the canonical image of a set, decided by a computation: the keys that stand in the words make a set, and the words must be
 -- its image. The definitions come first; the theorems say that no other set has to be tried, and that differing sets have differing images.
 -- Assumes nothing.
-use Prim.Native.Nat.{ℕ, _<_}
+use Prim.Native.Nat.{ℕ, _≤_, _<_}
 use mathlib.Core.Path.{_≡_, refl, sym, _∙_, ap}
 use mathlib.Core.Bool.{Bool, true, false, not, _&&_, true≢false}
 use mathlib.Core.Logic.{inl, inr, _↔_}
@@ -127,6 +127,10 @@ module _ (tabulation ws : List ℕ) where
       λ e Q L t h. true≢false (sym (image-of-canonical t h .2) ∙ e),
       λ n. elim (test (canonical tabulation ws)) [ inl e ↦ absurd (n P (set-in tabulation ws) refl (canonical-true e)) | inr e ↦ e ],
     )
+
+-- "Each card gets a tier, 0 to 7": no canonical words have another.
+pub canonical-tier : (tabulation ws : List ℕ) → canonical tabulation ws ≡ true → (e : Entry) → In e (set-in tabulation ws) → e .tier ≤ 7
+canonical-tier tabulation ws c e i = canonical-true tabulation ws c .valid .tiers e i
 
 -- every image passes
 pub image-canonical : (P : Params) (L : List Entry) → sizes-in-range (P .slots) (P .places) ≡ true → ValidSet L → fits P (keys-of L) ≡ true

@@ -205,12 +205,12 @@ module _ {P : Params} {L : List Entry} {ws : List ℕ} (h : Holds P L ws) (full-
     held-blank kind b = held-set kind ∙ (rw b)
 
     -- row 9
-    pub held-tier : (tier : ℕ) → blank key ≡ false → max-tier < tier → change-outcome (Insert tier) (P .tabulation) ws scratch key .answer ≡ wrong-tier
+    pub held-tier : (tier : ℕ) → blank key ≡ false → 7 < tier → change-outcome (Insert tier) (P .tabulation) ws scratch key .answer ≡ wrong-tier
     unfolding change-outcome
     held-tier tier b l = held-set (Insert tier) ∙ (rw (b, lt-ltb max-tier tier l))
 
     module _ (b : blank key ≡ false) where
-      module _ (tier : ℕ) (small : tier ≤ max-tier) where
+      module _ (tier : ℕ) (small : tier ≤ 7) where
         -- rows 10 and 6: an insert of a key of the set is refused, and so never changes its tier
         pub held-other : member key (keys-of L) ≡ true → (tier-of L key ≡ tier → ⊥)
             → change-outcome (Insert tier) (P .tabulation) ws scratch key .answer ≡ other-tier
