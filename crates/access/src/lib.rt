@@ -8,7 +8,7 @@ ghost use lib.ListN.{length, getD, take, drop};
 ghost use Rattle.tabulation.specs.Hash.{tabulation-length, max-slots};
 ghost use Rattle.layout.specs.Layout.{header-words, header-length, slot-width, slots-of, places-of, key-count};
 ghost use Rattle.layout.specs.Layout.{stash-count, sizes-in-range, shaped, words-length, scratch-length, key-at};
-ghost use Rattle.layout.specs.Layout.{stash-at, tier-at, place-width, max-places, slot-entry, stash-entries, looked-at, tier-in};
+ghost use Rattle.layout.specs.Layout.{stash-at, tier-at, slot-entry, stash-entries, looked-at, tier-in};
 ghost use Rattle.layout.specs.Shape.{Sized, Shaped};
 ghost use Rattle.refusals.specs.Refusal.{done};
 ghost use Rattle.access.specs.Found.{own-slots};

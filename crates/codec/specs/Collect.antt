@@ -4,13 +4,12 @@ use Prim.Native.Nat.{ℕ, zero, suc, _+_, _*_, _-_, _≤_, _<_}
 use mathlib.Core.Path.{_≡_, refl, sym, _∙_, ap}
 use mathlib.Core.Bool.{Bool, true, false, not, cond}
 use mathlib.Core.List.{List, [], _∷_, _++_, append-assoc, append-nil}
-use native.Mathlib.Nat.{mul-suc}
 use native.Mathlib.Numerals.{add-one}
 use native.Mathlib.Omega.{arith}
 use borrow.Author.Tests.{eq-eqb, ne-eqb}
 use lib.Dec.{eqb}
 use lib.ListN.{length, getD, set, take, drop, length-append}
-use lib.Seq.{getD-drop, drop-drop, drop-cons, take-suc-set, take-append-le}
+use lib.Seq.{getD-drop, drop-drop, take-suc-set, take-append-le}
 use Rattle.basics.specs.Sets.{keep, length-keep}
 use Rattle.ordered.specs.Keys.{sorted, distinct}
 use Rattle.ordered.specs.Sorting.{sorted-length}

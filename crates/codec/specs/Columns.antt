@@ -1,6 +1,6 @@
 -- Columns of words: some words from `from` on, each `step` after the one before. What comparing with a column, and writing one, come to. Assumes nothing.
 use Prim.Native.Nat.{ℕ, zero, suc, _+_, _*_, _-_, _≤_, _<_}
-use mathlib.Core.Path.{_≡_, refl, sym, _∙_, ap}
+use mathlib.Core.Path.{_≡_, refl, _∙_, ap}
 use mathlib.Core.Bool.{true, _&&_}
 use mathlib.Core.List.{List, [], _∷_}
 use native.Mathlib.Nat.{mul-zero, mul-suc}
@@ -8,7 +8,7 @@ use native.Mathlib.Omega.{arith}
 use lib.Dec.{eqb}
 use lib.ListN.{length, getD, set, drop, length-set, drop-of-length-le}
 use lib.Seq.{drop-cons, getD-set-same, getD-set-other}
-use Rattle.basics.specs.Lists.{same, same-true, true-same}
+use Rattle.basics.specs.Lists.{same}
 
 -- `count` words from `from` on, each `step` after the one before
 unfoldable pub picked : List ℕ → ℕ → ℕ → ℕ → List ℕ

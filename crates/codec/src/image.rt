@@ -1,6 +1,6 @@
 // An image in its columns: what the slots hold, their next numbers, their tiers; the keys and the tiers of the stash
-// places. Whether given words are it, and the writing of it into words. The columns are lent as they are, so that nothing
-// here knows where they lie.
+// places. Whether given words are it, and the writing of it into words. The columns are lent as they are: nothing here
+// knows where they lie.
 ghost use mathlib.Core.Path.{_≡_};
 ghost use lib.ListN.{length};
 ghost use Rattle.basics.specs.Lists.{same};

@@ -4,7 +4,7 @@ use Prim.Native.Nat.{ℕ, _+_, _*_, _≤_, _<_}
 use mathlib.Core.Path.{_≡_, refl, sym, _∙_, ap}
 use mathlib.Core.Bool.{Bool, true, false, not, cond, false≢true}
 use mathlib.Core.Logic.{inl, inr}
-use mathlib.Core.List.{List, [], _∷_, _++_, List·Memᴰ as In}
+use mathlib.Core.List.{List, [], _∷_, List·Memᴰ as In}
 use native.Mathlib.Omega.{arith}
 use borrow.Author.Tests.{eq-eqb, ne-eqb, lt-ltb, le-ltb}
 use lib.Dec.{eqb, ltb}
@@ -15,9 +15,9 @@ use Rattle.basics.specs.Sets.{member, member-in, without, out-in, Asc}
 use Rattle.ordered.specs.Place.{with-cases}
 use Rattle.ordered.specs.Keys.{with-key}
 use Rattle.refusals.specs.Refusal.{done, not-canonical, blank-key, key-present, key-absent, stash-full, wrong-tier, other-tier, first-refusal, front-applies}
-use Rattle.tabulation.specs.Hash.{tabulation-length, blank}
+use Rattle.tabulation.specs.Hash.{blank}
 use Rattle.layout.specs.Entries.{max-tier, keys-of, tier-of, tiered, keys-tiered, tiered-agree, tier-tiered}
-use Rattle.layout.specs.Layout.{ValidKeys, params-of, slots-of, places-of, scratch-length, shaped, fits, image, keys-in, tier-in, set-in}
+use Rattle.layout.specs.Layout.{ValidKeys, params-of, slots-of, places-of, scratch-length, fits, image, keys-in, tier-in, set-in}
 use Rattle.layout.specs.Canonical.{canonical, canonical-true}
 use Rattle.layout.specs.Answers as Answers
 use Rattle.layout.specs.Answers.{lookup-values}

@@ -1,15 +1,13 @@
 -- What lookup, the stash view and the laying of fresh words answer and leave, for every content and length of the lent words (document 01, "What a
 -- call gives back"). These definitions are the promises.
 use Prim.Native.Nat.{ℕ, _*_, _-_}
-use mathlib.Core.Path.{_≡_}
-use mathlib.Core.Bool.{Bool, true, false, not, cond, _&&_, _||_}
+use mathlib.Core.Bool.{Bool, not, cond, _&&_}
 use mathlib.Core.List.{List, [], _∷_, List·Memᴰ as In}
 use lib.Dec.{eqb, ltb}
-use lib.ListN.{length, getD, take, drop, replicate}
+use lib.ListN.{length, take, drop, replicate}
 use Rattle.basics.specs.Sets.{member}
 use Rattle.refusals.specs.Refusal.{done, wrong-tabulation, wrong-shape, not-canonical, blank-key, first-refusal, first-refusal-in}
-use Rattle.tabulation.specs.Hash.{tabulation-length, blank, tables}
-use Rattle.tabulation.specs.Slots.{slot-0, slot-1}
+use Rattle.tabulation.specs.Hash.{tabulation-length, blank}
 use Rattle.layout.specs.Entries.{Entry, keys-of, tier-of}
 use Rattle.layout.specs.Layout.{shaped, sizes-in-range, slots-of, places-of, stash-count, place-width, stash-at, words-length, looked-at}
 use Rattle.layout.specs.declared.Found.{Found}

@@ -1,12 +1,12 @@
 -- The image of a set, its tiers taken away, is the image of its keys as document 01 has it: seats, next numbers and stash go by the keys alone. Assumes nothing.
 use Prim.Native.Nat.{ℕ, zero, suc, _+_, _-_}
-use mathlib.Core.Path.{_≡_, refl, _∙_, ap}
+use mathlib.Core.Path.{_≡_, refl}
 use mathlib.Core.Bool.{true}
 use mathlib.Core.List.{List, [], _∷_, _++_}
 use lib.ListN.{length, getD, drop, replicate}
 use Rattle.cuckoo.specs.Graph.{slot-key, slot-next}
 use Rattle.tabulation.specs.Slots.{slot-0, slot-1}
-use Rattle.layout.specs.Entries.{Entry, keys-of, tier-of}
+use Rattle.layout.specs.Entries.{Entry, keys-of}
 use Rattle.layout.specs.Layout.{Params, family, header-of, header-words, header-length, slot-width, slots-of, stash-of, fits, image, slot-words, stash-entries, slot-words-by, image-by}
 use Rattle.layout.specs.Standing.{image-stash-keys}
 

@@ -1,7 +1,7 @@
 -- A set is keys, each with what travels with it, its tier: a list of entries, ascending in the key. Seats, stash and next go by the keys alone. The definitions
 -- come first: a reader must believe them. Assumes nothing.
 use Prim.Native.Nat.{ℕ, zero, suc}
-use mathlib.Core.Path.{_≡_, refl, sym, _∙_, ap}
+use mathlib.Core.Path.{_≡_, refl, sym, ap}
 use mathlib.Core.Bool.{cond}
 use mathlib.Core.Logic.{inl, inr}
 use mathlib.Core.List.{List, [], _∷_, _++_, List·Memᴰ as In, List·Memᴰ·head as here, List·Memᴰ·tail as there}
@@ -10,7 +10,7 @@ use borrow.Author.Tests.{eq-eqb, ne-eqb}
 use lib.Dec.{eqb}
 use lib.ListN.{length, replicate}
 use Rattle.basics.specs.Tests.{eq?}
-use Rattle.basics.specs.Sets.{Asc, none, some}
+use Rattle.basics.specs.Sets.{Asc, some}
 
 -- a key and its tier
 pub record Entry : Type 0 where

@@ -11,7 +11,7 @@ use Rattle.basics.specs.Sets.{member, without, below, none, some}
 use Rattle.ordered.specs.Keys.{with-key, above}
 use Rattle.refusals.specs.Refusal.{done, stash-full}
 use Rattle.tabulation.specs.Hash.{tabulation-length, slots-in-range, blank}
-use Rattle.layout.specs.Entries.{Entry, max-tier, keys-of, tiered, tier-of}
+use Rattle.layout.specs.Entries.{Entry, max-tier, keys-of}
 use Rattle.layout.specs.Layout.{ValidKeys, ValidSet, scratch-length, sizes-in-range}
 use Rattle.layout.specs.Board.{Row, rows, plain, Shown, Full, board, board-tabulation, board-length, board-rows}
 use Rattle.layout.specs.Board as Board

@@ -10,7 +10,7 @@ use native.Mathlib.Omega.{arith}
 use borrow.Author.Tests.{eq-eqb, ne-eqb, lt-ltb, le-ltb, ltb-false, not-false}
 use lib.Dec.{eqb, ltb}
 use lib.ListN.{length}
-use Rattle.basics.specs.Tests.{test, eq?, zero-one}
+use Rattle.basics.specs.Tests.{test, eq?}
 use Rattle.basics.specs.Sets.{Asc, without, member, member-in, in-member, out-in, out-ne, in-out}
 use Rattle.cuckoo.specs.Placement.{Placement}
 use Rattle.ordered.specs.Keys.{with-key}

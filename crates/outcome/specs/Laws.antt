@@ -7,7 +7,6 @@ use mathlib.Core.Logic.{_⊎_, inl, inr, _↔_}
 use mathlib.Core.List.{List, [], _∷_, _++_, List·Memᴰ as In, List·Memᴰ·head as here, List·Memᴰ·tail as there}
 use native.Mathlib.Omega.{arith}
 use borrow.Author.Tests.{eqb-true, eq-eqb, ne-eqb, ltb-false, lt-ltb, le-ltb, not-false}
-use lib.Dec.{eqb, ltb}
 use lib.ListN.{length, replicate}
 use Rattle.basics.specs.Tests.{test}
 use Rattle.basics.specs.Sets.{member}

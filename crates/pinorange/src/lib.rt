@@ -9,7 +9,6 @@ ghost use Rattle.layout.specs.Answers.{lookup-refusal, view-refusal, fresh-refu
 ghost use Rattle.outcome.specs.Outcome.{change-outcome, check-outcome};
 ghost use Rattle.counters.specs.Counters.{counted};
 ghost use Rattle.pinorange.specs.House.{house-answer, housed};
-ghost use Rattle.outcome.specs.declared.Change.the-variants.{Insert, Remove};
 ghost use Rattle.pinorange.specs.Out.{listed-out, tier-out, offset-out, length-out};
 use access::PLACE_WIDTH;
 use counters::Counters;
@@ -19,8 +18,8 @@ use refusals::WRONG_TABULATION;
 use tabulation::TABULATION_LENGTH;
 use words::wide;
 
-// The tier of a key. Done, `listed` is 1 and `tier` the tier, or `listed` is 0 and `tier` stays as it was; refused, both
-// stay.
+// The tier of a key. Done, `listed` is 1 and `tier` the tier, or `listed` is 0 and `tier` stays as it was; refused,
+// both stay.
 #[no_mangle]
 pub extern "C" fn pinorange_lookup(
     tabulation: &[u16],
@@ -95,7 +94,8 @@ pub extern "C" fn pinorange_insert(
     tier: u32,
 ) -> u32
     ensures changed { λ n. ⌜ record { answer = n; words = now (words .exit); scratch = now (scratch .exit) }
-        ≡ change-outcome (Insert tier) (now (tabulation .entry)) (now (words .entry)) (now (scratch .entry)) key ⌝ }
+        ≡ change-outcome (Change.Insert tier) (now (tabulation .entry)) (now (words .entry)) (now (scratch .entry))
+        key ⌝ }
     ensures moved { λ n. ⌜ now (counters .exit) ≡ counted (now (counters .entry)) n ⌝ }
 {
     let old = *counters;
@@ -114,7 +114,7 @@ pub extern "C" fn pinorange_remove(
     key: u32,
 ) -> u32
     ensures changed { λ n. ⌜ record { answer = n; words = now (words .exit); scratch = now (scratch .exit) }
-        ≡ change-outcome Remove (now (tabulation .entry)) (now (words .entry)) (now (scratch .entry)) key ⌝ }
+        ≡ change-outcome Change.Remove (now (tabulation .entry)) (now (words .entry)) (now (scratch .entry)) key ⌝ }
     ensures moved { λ n. ⌜ now (counters .exit) ≡ counted (now (counters .entry)) n ⌝ }
 {
     let old = *counters;

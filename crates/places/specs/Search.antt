@@ -1,6 +1,6 @@
 -- A key is looked up among the places of the stash: it is none of their words, or they are gone through from the first on. Assumes nothing.
 use Prim.Native.Nat.{ℕ, zero, suc, _*_, _-_, _≤_, _<_, _+_}
-use mathlib.Core.Path.{_≡_, refl, sym, _∙_, ap}
+use mathlib.Core.Path.{_≡_, refl, sym, _∙_}
 use mathlib.Core.Bool.{Bool, false, true, _||_, true≢false}
 use mathlib.Core.Logic.{inl, inr}
 use mathlib.Core.List.{List, [], _∷_, _++_, List·Memᴰ as In, List·Memᴰ·head as here, List·Memᴰ·tail as there, List·Memᴰ·append-cases}
@@ -11,7 +11,7 @@ use lib.Dec.{eqb}
 use lib.ListN.{length, getD, take, drop, take-append-drop, length-drop}
 use lib.Seq.{getD-drop, drop-drop, drop-cons, take-all}
 use Rattle.basics.specs.Tests.{test}
-use Rattle.basics.specs.Sets.{member, member-in, in-member, no-member}
+use Rattle.basics.specs.Sets.{member, in-member, no-member}
 use Rattle.layout.specs.Entries.{Entry, keys-of}
 use Rattle.layout.specs.Layout.{place-width, place-entries}
 use Rattle.layout.specs.Answers.{looked-up}

@@ -1,6 +1,6 @@
-// The places of the stash, a key and its tier each: whether a key stands in one, and its tier. A lookup of an absent key
-// goes through all of them, so that is made fast: every word is compared first, keys and tiers alike, in a loop that
-// takes several at once.
+// The places of the stash, a key and its tier each: whether a key stands in one, and its tier. A lookup of an absent
+// key goes through all of them, so that is made fast: every word is compared first, keys and tiers alike, in a loop
+// that takes several at once.
 ghost use mathlib.Core.Path.{_≡_};
 ghost use mathlib.Core.Bool.{_||_};
 ghost use Prim.Native.Nat.{_*_, _≤_};

@@ -1,15 +1,15 @@
 -- The image of a set in scratch, with its tiers placed behind it: its columns are those of the set's image. Assumes nothing.
-use Prim.Native.Nat.{ℕ, zero, _+_, _*_, _-_, _≤_, _<_}
+use Prim.Native.Nat.{ℕ, _+_, _*_, _-_, _≤_, _<_}
 use mathlib.Core.Path.{_≡_, refl, sym, _∙_, ap}
-use mathlib.Core.Bool.{Bool, true, false, not, cond}
+use mathlib.Core.Bool.{Bool, true, not}
 use mathlib.Core.Logic.{_⊎_, inl, inr}
 use mathlib.Core.List.{List, List·Memᴰ as In, Memᴰ·append-left}
 use native.Mathlib.Omega.{arith}
-use borrow.Author.Tests.{eq-eqb, ne-eqb, ltb-true, lt-ltb}
+use borrow.Author.Tests.{ne-eqb, ltb-true}
 use lib.Dec.{ltb}
 use lib.ListN.{length, getD, take, drop, replicate, length-take, length-drop}
 use lib.Seq.{getD-take, getD-drop}
-use Rattle.basics.specs.Tests.{eq?, le?, bool-ext}
+use Rattle.basics.specs.Tests.{le?, bool-ext}
 use Rattle.basics.specs.Sets.{Asc, any, any-true, true-any}
 use Rattle.basics.specs.Lists.{same, getD-in}
 use Rattle.ordered.specs.Sorting.{in-at}
@@ -24,7 +24,7 @@ use Rattle.build.specs.Scratch.{parts, used}
 use Rattle.build.specs.Scratch as Scratch
 use Rattle.build.specs.Build.{Standing}
 use Rattle.codec.specs.Image.{ImageColumns, alike-image}
-use Rattle.renewal.specs.Tiers.{tier-now, tiers-now, tiers-at}
+use Rattle.renewal.specs.Tiers.{tier-now, tiers-at}
 use Rattle.renewal.specs.Parts.{beside-at, tiers-in, beside-in, small-in, alike-in, TiersPlaced, stretch-kept, held-key, stashed-key, scratch-columns}
 
 -- the parts of the build are as they were

@@ -5,14 +5,13 @@ use mathlib.Core.Path.{_≡_, refl, sym, _∙_, ap}
 use mathlib.Core.Bool.{Bool, true, false, not, cond, _&&_}
 use mathlib.Core.List.{List, [], _∷_, List·Memᴰ as In}
 use native.Mathlib.Omega.{arith}
-use borrow.Author.Tests.{lt-leb, not-false}
-use lib.Dec.{eqb, ltb}
+use borrow.Author.Tests.{lt-leb}
 use lib.ListN.{length, take}
 use lib.Seq.{take-take, length-take-le}
 use Rattle.basics.specs.Lists.{same}
 use Rattle.refusals.specs.Refusal.{done, not-canonical, stash-full, first-refusal, front-none}
 use Rattle.tabulation.specs.Hash.{tables}
-use Rattle.layout.specs.Layout.{Params, ValidKeys, family, params-of, slots-of, places-of, scratch-length, shaped, stash-of, fits, image, keys-in, fits-by}
+use Rattle.layout.specs.Layout.{Params, ValidKeys, family, params-of, slots-of, places-of, stash-of, fits, image, keys-in, fits-by}
 use Rattle.layout.specs.Entries.{Entry, keys-of, tier-of, tiered, keys-tiered, tier-absent}
 use Rattle.layout.specs.Canonical.{canonical}
 use Rattle.layout.specs.Shape.{Shaped, shape}

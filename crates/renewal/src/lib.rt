@@ -88,7 +88,8 @@ pub fn renew(
     tier: u32,
 ) -> u32
     requires { ⌜ Buildable (slots-of (now words)) (places-of (now words)) n (now tabulation) (now scratch)
-        × (Shaped (now words) × (scratch-length (slots-of (now words)) (places-of (now words)) ≤ length (now scratch))) ⌝ }
+        × (Shaped (now words)
+        × (scratch-length (slots-of (now words)) (places-of (now words)) ≤ length (now scratch))) ⌝ }
     ensures answered { λ a. ⌜ a ≡ new-answer (params-of (now (tabulation .entry)) (now (words .entry)))
         (take n (now (scratch .entry))) ⌝ }
     ensures written { λ a. ⌜ now (words .exit) ≡ new-words (params-of (now (tabulation .entry)) (now (words .entry)))

@@ -1,14 +1,11 @@
 -- `access::in_slots` meets its contract: both slots lie inside words of the right shape, and they are looked at in this order.
-use Prim.Native.Nat.{_+_, _*_, _<_}
-use mathlib.Core.Path.{_≡_, refl, sym, _∙_, ap}
-use mathlib.Core.Bool.{Bool}
-use native.Mathlib.Nat.{add-sub-cancel-left}
+use Prim.Native.Nat.{_+_, _<_}
+use mathlib.Core.Path.{_≡_, refl, sym, _∙_}
 use native.Mathlib.Omega.{arith}
 use lib.Dec.{eqb}
 use Rattle.tabulation.specs.Hash.{tables}
 use Rattle.tabulation.specs.Slots.{slot-0, slot-1, slot-0-lt, slot-1-lt}
-use Rattle.layout.specs.Layout.{stash-at, slots-of, slot-entry}
-use Rattle.layout.specs.Shape.{Shaped}
+use Rattle.layout.specs.Layout.{slots-of, slot-entry}
 use borrow.Author.Needs.{needs}
 use Rattle.access.specs.Found.{found-first, found-second, found-neither}
 use Rattle.access.proofs.in_slots.Statement.{statement}

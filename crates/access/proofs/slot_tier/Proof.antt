@@ -1,7 +1,4 @@
 -- `access::slot_tier` meets its contract.
-use mathlib.Core.Path.{ap}
-use Prim.Native.Nat.{ℕ, _+_}
-use native.Mathlib.Omega.{arith}
 use borrow.Author.Needs.{needs}
 use Rattle.access.proofs.slot_tier.Statement.{statement}
 use Rattle.access.proofs.slot_tier.Tie as tie

@@ -54,8 +54,8 @@ use Rattle.counted.proofs.update as callee
 use Rattle.counted.proofs.update.Symbol as callee-def
 use Rattle.counted.proofs.update.Symbol.{name as #callee}
 use Rattle.counted.proofs.update.Met as callee-thm
-use Rattle.pinorange.proofs.Counting.{slice-val, ref-val, counters-val, opens-counters, closes-counters, counters-of, answer-fits, spelled, shown, with-fact, says}
-use Rattle.pinorange.proofs.Updating.{kind-of, Callee, Changed, Moved, Tokens, Had, Passed, passed, passed-types, passed-vals, to-callee, goes-callee}
+use Rattle.pinorange.proofs.Counting.{slice-val, ref-val, opens-counters, closes-counters, counters-of, answer-fits, spelled, shown, with-fact, says}
+use Rattle.pinorange.proofs.Updating.{kind-of, Callee, Changed, Moved, Tokens, Had, Passed, passed, to-callee, goes-callee}
 use Rattle.pinorange.proofs.pinorange_insert.Key.{name as #self}
 use Rattle.pinorange.proofs.pinorange_insert as self
 use Rattle.pinorange.proofs.pinorange_insert.Statement as stated

@@ -1,5 +1,5 @@
 -- `places::find_place` meets its contract: a key that is none of the words is in no place; otherwise the first place that holds it is found.
-use Prim.Native.Nat.{_≤_, _<_, _-_}
+use Prim.Native.Nat.{_≤_, _-_}
 use mathlib.Core.Path.{_≡_, refl, sym, _∙_}
 use native.Mathlib.Numerals.{add-one}
 use native.Mathlib.Omega.{arith}

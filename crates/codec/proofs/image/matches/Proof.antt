@@ -4,7 +4,6 @@ use borrow.Author.Tests.{eq-eqb, ne-eqb, not-true, not-false}
 use lib.Dec.{eqb}
 use mathlib.Core.Bool.{true}
 use Rattle.layout.specs.Layout.{stash-at, key-count, stash-count}
-use Rattle.codec.specs.Image.{places-alike}
 use borrow.Author.Needs.{needs}
 use Rattle.codec.proofs.image.matches.Statement.{statement}
 use Rattle.codec.proofs.image.matches.Tie as tie

@@ -1,6 +1,6 @@
 -- `codec::image::same_column` meets its contract: what is left of the column is compared with what is left of the slice.
-use Prim.Native.Nat.{_≤_, _<_, _+_, _*_, _-_, suc}
-use mathlib.Core.Path.{_≡_, refl, sym, _∙_}
+use Prim.Native.Nat.{_≤_, _<_, _+_, _*_, _-_}
+use mathlib.Core.Path.{_≡_, sym, _∙_}
 use native.Mathlib.Numerals.{add-one}
 use native.Mathlib.Omega.{arith}
 use lib.ListN.{length, drop}

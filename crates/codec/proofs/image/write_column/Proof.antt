@@ -1,5 +1,5 @@
 -- `codec::image::write_column` meets its contract: what is written, and what is left to write, are together the column.
-use Prim.Native.Nat.{_≤_, _<_, _+_, _*_, _-_, suc}
+use Prim.Native.Nat.{_≤_, _<_, _+_, _*_, _-_}
 use mathlib.Core.Path.{_≡_, refl, sym, _∙_}
 use native.Mathlib.Numerals.{add-one}
 use native.Mathlib.Omega.{arith}

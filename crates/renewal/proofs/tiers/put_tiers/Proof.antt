@@ -1,6 +1,6 @@
 -- `renewal::tiers::put_tiers` meets its contract: after i turns i tiers stand behind `to`, and the words before it are as they were.
 use Prim.Native.Nat.{_≤_, _-_}
-use mathlib.Core.Path.{_≡_, refl}
+use mathlib.Core.Path.{_≡_}
 use native.Mathlib.Omega.{arith}
 use Rattle.renewal.specs.Tiers.{PutTo, put-start, put-turn, put-kept, put-all}
 use borrow.Author.Needs.{needs}
