@@ -17,10 +17,11 @@ use Rattle.ordered.specs.Keys.{with-key}
 use Rattle.refusals.specs.Refusal.{done, not-canonical, blank-key, key-present, key-absent, stash-full, wrong-tier, other-tier, first-refusal, front-applies}
 use Rattle.tabulation.specs.Hash.{blank}
 use Rattle.layout.specs.Entries.{max-tier, keys-of, tier-of, tiered, keys-tiered, tiered-agree, tier-tiered}
-use Rattle.layout.specs.Layout.{ValidKeys, params-of, slots-of, places-of, scratch-length, fits, image, keys-in, tier-in, set-in}
+use Rattle.layout.specs.Layout.{ValidKeys, params-of, slots-of, places-of, scratch-length, fits, image, keys-in, looked-at, tier-in, set-in}
 use Rattle.layout.specs.Canonical.{canonical, canonical-true}
 use Rattle.layout.specs.Answers as Answers
-use Rattle.layout.specs.Answers.{lookup-values}
+use Rattle.layout.specs.Answers.{looked-up}
+use Rattle.layout.specs.Look.{image-found}
 use Rattle.layout.specs.declared.Found.{Found}
 use Rattle.layout.specs.declared.Found.the-variants.{Listed, Absent, Refused}
 use Rattle.layout.specs.Shape.{Shaped, shape}
@@ -32,7 +33,7 @@ use Rattle.outcome.specs.declared.Change.{Change}
 use Rattle.outcome.specs.declared.Change.the-variants.{Insert, Remove}
 use Rattle.outcome.specs.Outcome.{early-refusals, keys-changed, tier-changed, changed, set-refusals, change-refusal, change-outcome, check-outcome}
 use Rattle.outcome.specs.Laws.{Ready, change-refused, check-ready, change-ready, change-set}
-use Rattle.outcome.specs.Held.{passed-holds, held-lookup, one-too-many, changed-keys, keys-changed-valid}
+use Rattle.outcome.specs.Held.{one-too-many, changed-keys, keys-changed-valid}
 use Rattle.renewal.specs.declared.Reading.{Reading}
 use Rattle.renewal.specs.declared.Reading.the-variants.{Keys, NotCanonical}
 use Rattle.renewal.specs.Tiers.{tier-now}
@@ -150,12 +151,14 @@ module _ {tabulation ws scratch : List ℕ} {n key : ℕ} (Z : Settable tabulati
                 ∙ ap (λ (n : ℕ). cond (eqb n done) (image P L) ws) (sym a),
           )
 
-  -- A lookup in these words finds exactly the keys of their set.
-  module _ (f : Found) (told : Answers.values f ≡ lookup-values tabulation ws key) where
+  -- What is found in these words of a key is what a lookup says: exactly the keys of their set are.
+  module _ (f : Found) (told : Answers.values f ≡ looked-up (looked-at tabulation ws key) key) where
     looks-up : Answers.values f ≡ cond (member key (keys-in ws)) (1 ∷ tier-of (set-in tabulation ws) key ∷ []) (0 ∷ [])
     looks-up =
-        let h = passed-holds tabulation ws (Z .ready .shape) (Z .image) in
-        told ∙ held-lookup h (Z .ready .full-length) key ∙ (rw (Z .not-blank, set-keys))
+        let h = canonical-true tabulation ws (Z .image) in
+        let e : looked-up (looked-at tabulation ws key) key ≡ looked-up (set-in tabulation ws) key =
+        rw (← h .is) at (image-found (params-of tabulation ws) (set-in tabulation ws) (h .fit) (h .valid) (sizes .sizes .has-slots) key (Z .not-blank)) in
+        told ∙ e ∙ (rw set-keys)
 
     pub found-listed : {t : ℕ} → f ≡ Listed t → member key (keys-in ws) ≡ true
     found-listed e = elim (test (member key (keys-in ws))) [

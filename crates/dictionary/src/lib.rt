@@ -56,7 +56,7 @@ fn remove_key(tabulation: &[u16], words: &mut [u32], scratch: &mut [u32], n: usi
     requires { ⌜ Settable (now tabulation) (now words) (now scratch) n key ⌝ }
     ensures { λ a. ⌜ Decided Remove (now (tabulation .entry)) (now (words .entry)) key a (now (words .exit)) ⌝ }
 {
-    let found = access::lookup(tabulation, &*words, key);
+    let found = access::find(tabulation, &*words, key);
     let Found::Listed(_) = found else {
         return KEY_ABSENT;
     };

@@ -57,7 +57,7 @@ module _ {P : Params} {L : List Entry} {ws : List ℕ} (h : Holds P L ws) where
   held-scratch = ap (λ (Q : Params). scratch-length (Q .slots) (Q .places)) held-params
 
 -- Words that pass hold the set of the keys that stand in them.
-pub passed-holds : (tabulation ws : List ℕ) → shaped ws ≡ true → canonical tabulation ws ≡ true → Holds (params-of tabulation ws) (set-in tabulation ws) ws
+passed-holds : (tabulation ws : List ℕ) → shaped ws ≡ true → canonical tabulation ws ≡ true → Holds (params-of tabulation ws) (set-in tabulation ws) ws
 passed-holds tabulation ws formed c = record { range = sized-true (slots-of ws) (places-of ws) (shape ws formed .sizes); is = canonical-true tabulation ws c }
 
 -- the new set

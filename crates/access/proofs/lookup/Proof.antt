@@ -1,10 +1,15 @@
 -- `access::lookup` meets its contract: each `return` is the first refusal whose test holds, or where the key is found.
-use mathlib.Core.Path.{_≡_, sym, _∙_}
+use mathlib.Core.Path.{_≡_, sym, _∙_, ap}
 use mathlib.Core.Bool.{true}
+use mathlib.Core.Logic.{inl, inr}
+use native.Mathlib.Omega.{arith}
+use denote.Enum.Declared.{tagOf}
 use borrow.Author.Tests.{eq-eqb, ne-eqb, not-true, not-false}
 use Rattle.layout.specs.Layout.{shaped}
 use Rattle.layout.specs.Shape.{shape}
 use Rattle.layout.specs.Answers.{lookup-refusal, lookup-values}
+use Rattle.layout.proofs.Found.{the-type}
+use Rattle.access.specs.Found.{slots-first, slots-absent}
 use borrow.Author.Needs.{needs}
 use Rattle.access.proofs.lookup.Statement.{statement}
 use Rattle.access.proofs.lookup.Tie as tie
@@ -42,16 +47,42 @@ ranged e = e .before .before
 formed : (e : tie.Else3) → shaped (ranged e .before .before .before .before .before .args .words .now) ≡ true
 formed e = sym (ranged e .before .is-shaped .ensures) ∙ not-false _ (ranged e .if2 .left)
 
-find-requires : tie.Need-find-requires
-find-requires c κs = (search needs, shape _ (formed c))
+in-slots-requires : tie.Need-in-slots-requires
+in-slots-requires c κs = (search needs, shape _ (formed c))
+
+enum-told : tie.Need-enum-told
+enum-told c = search needs
+
+-- the slots are looked at
+abbrev start : tie.After-in-slots → tie.Start
+start s = ranged (s .before) .before .before .before .before .before
 
 returns-4 : tie.Need-returns-4
 unfolding lookup-refusal lookup-values
 returns-4 c =
-    let e = c .before in
+    let s = c .before in
+    let a = start s .args in
+    let e = s .before in
     let t = eq-eqb _ _ (ranged e .before .before .if1 .left) in
     let v = sym (e .before .is-blank .ensures) ∙ e .if3 .left in
-    (c .find .ensures .0 ∙ sym (simp (t, formed e, v)), c .find .ensures .1 ∙ sym (simp (t, formed e, v)))
+    let f = slots-first (a .tabulation .now) (a .words .now) (a .key) (s .in-slots .result) (s .in-slots .ensures .1)
+    (λ q. elim (c .match .keys2) [ inl e ↦ omega (arith, ap (tagOf the-type) q) | inr e ↦ omega (arith, ap (tagOf the-type) q) ]) in
+    (s .in-slots .ensures .0 ∙ sym (simp (t, formed e, v)), f ∙ sym (simp (t, formed e, v)))
+
+in-stash-requires : tie.Need-in-stash-requires
+in-stash-requires c κs = shape _ (formed (c .before .before .before))
+
+returns-5 : tie.Need-returns-5
+unfolding lookup-refusal lookup-values
+returns-5 c =
+    let k = c .before in
+    let s = k .before .before in
+    let a = start s .args in
+    let e = s .before in
+    let t = eq-eqb _ _ (ranged e .before .before .if1 .left) in
+    let v = sym (e .before .is-blank .ensures) ∙ e .if3 .left in
+    let f = slots-absent (a .tabulation .now) (a .words .now) (a .key) (s .in-slots .result) (s .in-slots .ensures .1) (k .enum-told .given .1) in
+    (c .in-stash .ensures .0 ∙ sym (simp (t, formed e, v)), c .in-stash .ensures .1 ∙ f ∙ sym (simp (t, formed e, v)))
 
 pub lookup-spec : {M : Type 1} → statement M
 lookup-spec =
@@ -62,5 +93,8 @@ lookup-spec =
     returns-2
     is-blank-requires
     returns-3
-    find-requires
-    returns-4)
+    in-slots-requires
+    enum-told
+    returns-4
+    in-stash-requires
+    returns-5)

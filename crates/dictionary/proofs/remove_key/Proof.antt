@@ -1,4 +1,4 @@
--- `dictionary::remove_key` meets its contract: a lookup says that the key is not listed, or the set without it is built.
+-- `dictionary::remove_key` meets its contract: the key is not found in the words, or the set without it is built.
 use Prim.Native.Nat.{_+_, _-_, _*_, _≤_}
 use mathlib.Core.Path.{_≡_, ap}
 use mathlib.Core.Bool.{true}
@@ -7,6 +7,7 @@ use native.Mathlib.Omega.{arith}
 use denote.Enum.Declared.{tagOf}
 use Rattle.basics.specs.Sets.{member}
 use Rattle.layout.specs.Layout.{slots-of, places-of, keys-in}
+use Rattle.layout.specs.Shape.{shape}
 use Rattle.layout.proofs.Found.{the-type}
 use Rattle.outcome.specs.declared.Change.the-variants.{Remove}
 use Rattle.dictionary.specs.Core.{key-count, front-fits, front-asc, found-listed, found-absent, remove-present, remove-some, remove-renewed, changed-buildable, changed-renewed}
@@ -14,8 +15,8 @@ use borrow.Author.Needs.{needs}
 use Rattle.dictionary.proofs.remove_key.Statement.{statement}
 use Rattle.dictionary.proofs.remove_key.Tie as tie
 
-lookup-requires : tie.Need-lookup-requires
-lookup-requires c κs = search needs
+find-requires : tie.Need-find-requires
+find-requires c κs = let z = c .before .before .before .before .pre in (z .ready .full-length, shape _ (z .ready .shape))
 
 enum-told : tie.Need-enum-told
 enum-told c = c .match .keys1
@@ -23,14 +24,14 @@ enum-told c = c .match .keys1
 same-length : tie.Need-same-length
 same-length c = search needs
 
--- the key is looked up
-abbrev origin : tie.After-lookup → tie.Start
+-- the key is looked for
+abbrev origin : tie.After-find → tie.Start
 origin l = l .before .before .before .before .before
 
 returns : tie.Need-returns
 returns c =
     let l = c .before in
-    found-absent (origin l .pre) (l .lookup .result) (l .lookup .ensures .1)
+    found-absent (origin l .pre) (l .find .result) (l .find .ensures .1)
     (λ t q. elim (c .match .keys2) [ inl e ↦ omega (arith, ap (tagOf the-type) q) | inr e ↦ omega (arith, ap (tagOf the-type) q) ])
 
 -- it is listed
@@ -40,7 +41,7 @@ start e = origin (e .before .before)
 present : (e : tie.After-enum-told) → member (start e .args .key) (keys-in (start e .args .words .now)) ≡ true
 present e =
     let l = e .before .before in
-    found-listed (origin l .pre) (l .lookup .result) (l .lookup .ensures .1) (e .enum-told .given .1)
+    found-listed (origin l .pre) (l .find .result) (l .find .ensures .1) (e .enum-told .given .1)
 
 few : (e : tie.After-enum-told) → start e .args .n - 1 ≤ 2 * slots-of (start e .args .words .now) + places-of (start e .args .words .now)
 few e = omega (arith, key-count (start e .pre))
@@ -78,7 +79,7 @@ pub remove-key-spec : {M : Type 1} → statement M
 remove-key-spec =
     tie.close
     (tie.spec
-    lookup-requires
+    find-requires
     enum-told
     same-length
     returns
