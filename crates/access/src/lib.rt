@@ -201,9 +201,9 @@ fn in_stash(words: &[u32], key: u32) -> Found
     find_place(&words[start..start + PLACE_WIDTH * count], count, key)
 }
 
-// Lookup without its refusals: the tier that stands where the key is found first, or that it is not there. Its two steps
-// stand in `lookup` and `tier_found` once more: called there, they are too long for the compiler to put them in the
-// caller's place, and a lookup takes a fifth more time, an insert 2 % more instructions.
+// Lookup without its refusals: the tier that stands where the key is found first, or that it is not there. Its two
+// steps stand in `lookup` and `tier_found` once more: called there, they are too long for the compiler to put them in
+// the caller's place, and a lookup takes a fifth more time, an insert 2 % more instructions.
 pub fn find(tabulation: &[u16], words: &[u32], key: u32) -> Found
     requires { ⌜ (length (now tabulation) ≡ tabulation-length) × Shaped (now words) ⌝ }
     ensures numbered { λ f. ⌜ number f ≡ done ⌝ }
