@@ -2,7 +2,7 @@
 -- examples, and the rest is theorems: lists (Sets, Lists); joined slots (Joined), the forest (Forest) and what settling leaves (Settling, Kruskal); walks
 -- and cycles as a reader means them (Walks, Cycles); where keys sit (Seating, Tree, Components, Places), which is what document 01 says and nothing else
 -- (Bullets, Unique, Filled, Next); components do not touch each other (Locality); no rule has a smaller stash (Placement); and only the ends of the set's
--- own keys count (Agree). docs/CLAIMS.md says which theorem stands for which sentence.
+-- own keys count (Agree), and of the keys only their order and their ends (Renaming). docs/CLAIMS.md says which theorem stands for which sentence.
 pub mod Graph
 pub mod Rows
 pub mod Joined
@@ -21,4 +21,5 @@ pub mod Filled
 pub mod Next
 pub mod Locality
 pub mod Placement
+pub mod Renaming
 pub mod Agree
