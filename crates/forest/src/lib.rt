@@ -1,115 +1,132 @@
-// The oriented forest in `held`, a word for each of the 2r slots: the key that stands there, 0 for none. Each key leads
-// from where it stands to its other slot, towards the root of its tree, which is bare (specs/Oriented.antt). The tree
-// of a slot is re-rooted there, and a component is finished: afterwards each of its slots holds its occupant in the
-// canonical image.
+// The oriented forest of ranks, in one lent stretch of words: first a word for each of the 2r slots, the rank that stands
+// there or 0, then the edges of the ranks 1, 2, .. (specs/Graph.antt). Each rank leads from where it stands to its other
+// slot, towards the root of its tree, which is bare (specs/Oriented.antt). The tree of a slot is re-rooted there, and a
+// component is finished: afterwards each of its slots holds its occupant in the canonical image.
 ghost use mathlib.Core.Path.{_≡_};
-ghost use Prim.Native.Nat.{_*_, _≤_, _<_};
+ghost use Prim.Native.Nat.{_*_, _<_};
 ghost use lib.ListN.{length};
-ghost use Rattle.tabulation.specs.Hash.{tables, Hashing};
-ghost use Rattle.forest.specs.HeldForest.{other, rerooted, lowest, holding};
-ghost use Rattle.forest.specs.HeldForest.{finished-tree, exchanged, finished-cycle};
+ghost use Rattle.forest.specs.Edges.{edge-at};
+ghost use Rattle.forest.specs.Graph.{Graph, edges-in, first-slot, second-slot, other-slot, rerooted, lowest};
+ghost use Rattle.forest.specs.Graph.{finished-tree, exchanged, finished-cycle};
+use words::wide;
 
-// The other slot of a key that stands in `slot`.
-fn other_slot(tabulation: &[u16], r: u32, slot: u32, key: u32) -> u32
-    requires { ⌜ Hashing (now tabulation) r ⌝ }
-    ensures { λ w. ⌜ (w ≡ other (tables (now (tabulation .entry)) r) slot key) × (w < 2 * r) ⌝ }
+// An edge has the slot in table 0, and this times the slot in table 1.
+const SLOTS: u32 = 2_048;
+
+// The edge of a rank.
+fn edge(graph: &[u32], r: u32, rank: u32) -> u32
+    requires { ⌜ Graph r (now graph) × (0 < rank) × (rank < length (edges-in r (now graph))) ⌝ }
+    ensures { λ e. ⌜ e ≡ edge-at r (edges-in r (now (graph .entry))) rank ⌝ }
 {
-    if slot < r {
-        return tabulation::second_slot(tabulation, r, key);
-    }
-    tabulation::first_slot(tabulation, r, key)
+    let at = wide(2 * r) + wide(rank) - 1;
+    graph[at]
 }
 
-// Makes `slot` the root of its tree, and leaves the key `carry` there: every key on the way to the old root moves to
+// The slot of a rank in table 0. That of 0 is the first, as good as any, so that no caller needs to ask.
+fn first_slot(graph: &[u32], r: u32, rank: u32) -> u32
+    requires { ⌜ Graph r (now graph) × (rank < length (edges-in r (now graph))) ⌝ }
+    ensures { λ v. ⌜ (v ≡ first-slot r (now (graph .entry)) rank) × (v < 2 * r) ⌝ }
+{
+    if rank == 0 {
+        return 0;
+    }
+    edge(graph, r, rank) % SLOTS
+}
+
+// The slot of a rank in table 1.
+fn second_slot(graph: &[u32], r: u32, rank: u32) -> u32
+    requires { ⌜ Graph r (now graph) × (0 < rank) × (rank < length (edges-in r (now graph))) ⌝ }
+    ensures { λ v. ⌜ (v ≡ second-slot r (now (graph .entry)) rank) × (v < 2 * r) ⌝ }
+{
+    edge(graph, r, rank) / SLOTS % SLOTS
+}
+
+// The other slot of a rank that stands in `slot`.
+fn other_slot(graph: &[u32], r: u32, slot: u32, rank: u32) -> u32
+    requires { ⌜ Graph r (now graph) × (0 < rank) × (rank < length (edges-in r (now graph))) ⌝ }
+    ensures { λ v. ⌜ (v ≡ other-slot r (now (graph .entry)) slot rank) × (v < 2 * r) ⌝ }
+{
+    if slot < r {
+        return second_slot(graph, r, rank);
+    }
+    first_slot(graph, r, rank)
+}
+
+// Makes `slot` the root of its tree, and leaves the rank `carry` there: every rank on the way to the old root moves to
 // its other slot. No way is longer than there are slots, which bounds the loop.
-pub fn reroot(held: &mut [u32], tabulation: &[u16], r: u32, slot: u32, carry: u32)
-    requires { ⌜ Hashing (now tabulation) r × (length (now held) ≡ 2 * r) × (slot < 2 * r) ⌝ }
-    ensures { λ _. ⌜ now (held .exit) ≡ rerooted (tables (now (tabulation .entry)) r)
-        (now (held .entry)) carry slot ⌝ }
+pub fn reroot(graph: &mut [u32], r: u32, slot: u32, carry: u32)
+    requires { ⌜ Graph r (now graph) × (slot < 2 * r) × (carry < length (edges-in r (now graph))) ⌝ }
+    ensures { λ _. ⌜ now (graph .exit) ≡ rerooted r (now (graph .entry)) carry slot ⌝ }
 {
     let mut at = slot;
     let mut moving = carry;
     let mut left = 2 * r + 1;
     while 0 < left {
-        let key = held[at as usize];
-        held[at as usize] = moving;
-        if key == 0 {
+        let rank = graph[at as usize];
+        graph[at as usize] = moving;
+        if rank == 0 {
             return;
         }
-        moving = key;
-        at = other_slot(tabulation, r, at, key);
+        moving = rank;
+        at = other_slot(&*graph, r, at, rank);
         left -= 1;
     }
 }
 
-// The slot of the smallest key on the way from `slot` to the root of its tree.
-fn lowest_slot(held: &[u32], tabulation: &[u16], r: u32, slot: u32) -> u32
-    requires { ⌜ Hashing (now tabulation) r × (length (now held) ≡ 2 * r) × (slot < 2 * r) ⌝ }
-    ensures { λ s. ⌜ (s ≡ lowest (tables (now (tabulation .entry)) r) (now (held .entry)) slot)
-        × (s < 2 * r) ⌝ }
+// The slot of the smallest rank on the way from `slot` to the root of its tree.
+fn lowest_slot(graph: &[u32], r: u32, slot: u32) -> u32
+    requires { ⌜ Graph r (now graph) × (slot < 2 * r) ⌝ }
+    ensures { λ v. ⌜ (v ≡ lowest r (now (graph .entry)) slot) × (v < 2 * r) ⌝ }
 {
     let mut at = slot;
     let mut low = slot;
     let mut left = 2 * r + 1;
     while 0 < left {
-        let key = held[at as usize];
-        if key == 0 {
+        let rank = graph[at as usize];
+        if rank == 0 {
             return low;
         }
-        if key < held[low as usize] {
+        if rank < graph[low as usize] {
             low = at;
         }
-        at = other_slot(tabulation, r, at, key);
+        at = other_slot(graph, r, at, rank);
         left -= 1;
     }
     low
 }
 
-// Finishes a component without a cycle, whose smallest key is `key`.
-pub fn finish_tree(held: &mut [u32], tabulation: &[u16], r: u32, key: u32)
-    requires { ⌜ Hashing (now tabulation) r × (length (now held) ≡ 2 * r) ⌝ }
-    ensures { λ _. ⌜ now (held .exit) ≡ finished-tree (tables (now (tabulation .entry)) r)
-        (now (held .entry)) key ⌝ }
+// Finishes a component without a cycle, whose smallest rank is `rank`.
+pub fn finish_tree(graph: &mut [u32], r: u32, rank: u32)
+    requires { ⌜ Graph r (now graph) × (rank < length (edges-in r (now graph))) ⌝ }
+    ensures { λ _. ⌜ now (graph .exit) ≡ finished-tree r (now (graph .entry)) rank ⌝ }
 {
-    let first = tabulation::first_slot(tabulation, r, key);
-    reroot(&mut *held, tabulation, r, first, key);
+    let first = first_slot(&*graph, r, rank);
+    reroot(&mut *graph, r, first, rank);
 }
 
-// The key in the slot `low` goes out of the tree, `key` comes in at its slot in table 1, and the tree is re-rooted at
+// The rank in the slot `low` goes out of the tree, `rank` comes in at its slot in table 1, and the tree is re-rooted at
 // the other's slot in table 0.
-fn exchange(held: &mut [u32], tabulation: &[u16], r: u32, key: u32, low: u32)
-    requires { ⌜ Hashing (now tabulation) r × (length (now held) ≡ 2 * r) × (low < 2 * r) ⌝ }
-    ensures { λ _. ⌜ now (held .exit) ≡ exchanged (tables (now (tabulation .entry)) r)
-        (now (held .entry)) key low ⌝ }
+fn exchange(graph: &mut [u32], r: u32, rank: u32, low: u32)
+    requires { ⌜ Graph r (now graph) × (0 < rank) × (rank < length (edges-in r (now graph))) × (low < 2 * r) ⌝ }
+    ensures { λ _. ⌜ now (graph .exit) ≡ exchanged r (now (graph .entry)) rank low ⌝ }
 {
-    let smallest = held[low as usize];
-    held[low as usize] = 0;
-    let second = tabulation::second_slot(tabulation, r, key);
-    reroot(&mut *held, tabulation, r, second, key);
-    let first = tabulation::first_slot(tabulation, r, smallest);
-    reroot(&mut *held, tabulation, r, first, smallest);
+    let smallest = graph[low as usize];
+    graph[low as usize] = 0;
+    let second = second_slot(&*graph, r, rank);
+    reroot(&mut *graph, r, second, rank);
+    let first = first_slot(&*graph, r, smallest);
+    reroot(&mut *graph, r, first, smallest);
 }
 
-// Finishes a component with a cycle, whose one key outside the forest is `key`: that comes in for the smallest key on
+// Finishes a component with a cycle, whose one rank outside the forest is `rank`: that comes in for the smallest rank on
 // the cycle.
-pub fn finish_cycle(held: &mut [u32], tabulation: &[u16], r: u32, key: u32)
-    requires { ⌜ Hashing (now tabulation) r × (length (now held) ≡ 2 * r) ⌝ }
-    ensures { λ _. ⌜ now (held .exit) ≡ finished-cycle (tables (now (tabulation .entry)) r)
-        (now (held .entry)) key ⌝ }
+pub fn finish_cycle(graph: &mut [u32], r: u32, rank: u32)
+    requires { ⌜ Graph r (now graph) × (0 < rank) × (rank < length (edges-in r (now graph))) ⌝ }
+    ensures { λ _. ⌜ now (graph .exit) ≡ finished-cycle r (now (graph .entry)) rank ⌝ }
 {
-    let first = tabulation::first_slot(tabulation, r, key);
-    reroot(&mut *held, tabulation, r, first, 0);
-    let second = tabulation::second_slot(tabulation, r, key);
-    let low = lowest_slot(&*held, tabulation, r, second);
-    exchange(&mut *held, tabulation, r, key, low);
-}
-
-// Whether a key stands in one of its two slots.
-pub fn holds(held: &[u32], tabulation: &[u16], r: u32, key: u32) -> bool
-    requires { ⌜ Hashing (now tabulation) r × (length (now held) ≡ 2 * r) ⌝ }
-    ensures { λ b. ⌜ b ≡ holding (tables (now (tabulation .entry)) r) (now (held .entry)) key ⌝ }
-{
-    let first = tabulation::first_slot(tabulation, r, key);
-    let second = tabulation::second_slot(tabulation, r, key);
-    held[first as usize] == key || held[second as usize] == key
+    let first = first_slot(&*graph, r, rank);
+    reroot(&mut *graph, r, first, 0);
+    let second = second_slot(&*graph, r, rank);
+    let low = lowest_slot(&*graph, r, second);
+    exchange(&mut *graph, r, rank, low);
 }
