@@ -1,72 +1,63 @@
--- The whole build: the passes one after the other, and the theorem that they give what the definitions of `cuckoo` say. Assumes nothing.
-use Prim.Native.Nat.{ℕ, zero, suc, _-_, _<_, _≤_}
-use mathlib.Core.Path.{_≡_}
+-- The whole build on ranks: the passes one after the other, and the theorem that they give what the definitions of `cuckoo` say of the ranks 1..n. Assumes nothing.
+use Prim.Native.Nat.{ℕ, zero, suc, _-_, _*_, _%_, _<_, _≤_}
+use mathlib.Core.Path.{_≡_, refl, sym, _∙_, ap}
 use mathlib.Core.Bool.{cond}
-use mathlib.Core.List.{List, _++_, List·Memᴰ as In}
+use mathlib.Core.List.{List, [], _++_, map, List·Memᴰ as In}
 use native.Mathlib.Omega.{arith}
-use lib.Dec.{ltb}
-use lib.ListN.{length, drop, replicate, length-replicate}
-use borrow.Author.Tests.{lt-ltb, le-ltb}
-use Rattle.tabulation.specs.Hash.{Family, max-slots as table-slots}
-use Rattle.tabulation.specs.Slots.{slot-0, slot-1, slots-apart}
-use Rattle.cuckoo.specs.Graph.{seated, stash, slot-key, slot-next}
+use lib.ListN.{length, length-map, getD, drop, replicate, length-replicate}
+use Rattle.cuckoo.specs.Graph.{seated, stash, next, slot-key, slot-next}
 use Rattle.basics.specs.Sets.{Asc}
-use Rattle.cuckoo.specs.Seating.{Ends}
 use Rattle.cuckoo.specs.Forest.{forest}
-use Rattle.forest.specs.HeldForest.{other, slot-count, other-end, slots-fit}
-use Rattle.partition.specs.Words.{max-points}
-use Rattle.build.specs.EachSlot.{listed, is-listed}
-use Rattle.build.specs.Seat.{Occupied}
-use Rattle.build.specs.Link.{Linking, unlinked, link-keys, Linked, link-all, forest-few}
-use Rattle.build.specs.Labels.{Labels, labelled, label-all}
-use Rattle.build.specs.Notes.{Noting, Marks, nothing-noted, noted, noted-held, Stashed, over, fit, stashed}
-use Rattle.build.specs.Finish.{finished, finish-all}
-use Rattle.build.specs.Next.{last-seen, chained, blanked, next-all}
+use Rattle.cuckoo.specs.Seating.{Ends}
+use Rattle.cuckoo.specs.Renaming.{from-in, from-asc, ranks, ranked, Renames, ranked-slot-key, ranked-slot-next, ranked-stash}
+use Rattle.partition.specs.Words.{rep-of, max-points}
+use Rattle.forest.specs.Edges.{Edges, end-0, end-1, other-end, ends-fit, ends-apart, ends-turn}
+use Rattle.build.specs.EachSlot.{listed, listed-slot, is-listed}
+use Rattle.build.specs.Link.{Linking, unlinked, link-keys, link-length, Linked, Marked, link-all, forest-few}
+use Rattle.build.specs.Labels.{Labels, Words, labelled, labelled-length, labels-all, words-all}
+use Rattle.build.specs.Notes.{pair, lows, Lows, lows-all, Noting, Going, nothing-noted, noted, Stashed, over, fit, stashed, Smallest}
+use Rattle.build.specs.Finish.{finish-ranks, Occupied, note-smallest, finish-all}
+use Rattle.build.specs.Next.{Chaining, nexts, next-all, next-held}
 
--- what the build answers: that the stash has no room; or the held words, the next words and the stash words, and how many keys the stash has
-pub data Attempt : Type 0 where
-  overflow : Attempt
-  made : (held next stash : List ℕ) (count : ℕ) → Attempt
+-- what the build answers: that the stash has no room; or the held words, the next words by rank and the stash words, and how many ranks the stash has
+pub data Built : Type 0 where
+  overflow : Built
+  made : (held next stash : List ℕ) (count : ℕ) → Built
 
--- m slots, the ascending keys S
-module _ (a b : ℕ → ℕ) (other : ℕ → ℕ → ℕ) (m : ℕ) (S : List ℕ) where
-  -- step 1, from cleared held words and a set for each slot
+-- m slots, the ranks 1..n; `words`: what stands in the next words before
+module _ (a b : ℕ → ℕ) (other : ℕ → ℕ → ℕ) (m n : ℕ) (words : List ℕ) where
   unfoldable pub linking : Linking
-  linking = link-keys a b other (suc m) S (unlinked m)
+  linking = link-keys a b other m (ranks n) (unlinked m words)
 
-  -- `words`: what stands in the next words before
-  module _ (words : List ℕ) where
-    -- step 2
-    unfoldable pub labels : List ℕ
-    labels = labelled (linking .sets) m words
+  unfoldable pub labels : List ℕ
+  labels = labelled a (linking .sets) n (linking .next)
 
-    -- s stash words
-    module _ (s : ℕ) where
-      -- step 3, from cleared notes and cleared stash words
-      unfoldable pub noting : Noting
-      noting = noted a b (linking .held) labels S (nothing-noted m (replicate s 0))
+  unfoldable pub low : List ℕ
+  low = lows m labels (ranks n) (replicate m 0)
 
-      unfoldable pub notes : List ℕ
-      notes = noted-held a b (linking .held) labels S (noting .notes)
+  -- s stash words
+  module _ (s : ℕ) where
+    unfoldable pub noting : Noting
+    noting = noted m (ranks n) (nothing-noted low labels (replicate s 0))
 
-      -- step 4
-      unfoldable pub held : List ℕ
-      held = finished a b other (suc m) notes m 0 (linking .held)
+    unfoldable pub held : List ℕ
+    held = finish-ranks a b other m (noting .next) (noting .notes) (ranks n) (linking .held)
 
-      -- step 5
-      unfoldable pub nexts : List ℕ
-      nexts = blanked held m (chained a b held S (record { last = last-seen a b held labels S notes; next = labels }) .next)
+    unfoldable pub chain : List ℕ
+    chain = nexts m (ranks n) (record { notes = noting .notes; next = noting .next })
 
-      -- The build. Code stops after step 3 where there is no room in the stash.
-      unfoldable pub built : Attempt
-      built = cond (noting .overflow) overflow (made held nexts (noting .stash) (noting .count))
+    -- The build. Code stops after step 4 where there is no room in the stash.
+    unfoldable pub built : Built
+    built = cond (noting .overflow) overflow (made held chain (noting .stash) (noting .count))
 
-module _ (a b : ℕ → ℕ) (S : List ℕ) where
-  -- What the definitions say, for m slots and s stash words: each slot's key and next, and the stash, filled up with zeros.
-  unfoldable pub canonical-parts : ℕ → ℕ → Attempt
-  canonical-parts m s =
-      let D = stash a b S in
-      cond (ltb s (length D)) overflow (made (listed (slot-key a b S) m 0) (listed (slot-next a b S) m 0) (D ++ replicate (s - length D) 0) (length D))
+-- What the definitions say, for m slots and s stash words: there is no room for the stash; or the held words are the slots' ranks, the stash words are the stash,
+-- filled up with zeros, and the word of each seated rank is its next, and so each slot's next is that of the rank that it holds.
+pub data Right (a b : ℕ → ℕ) (S : List ℕ) (m s : ℕ) (out : Built) : Type 0 where
+  full : s < length (stash a b S) → out ≡ overflow → Right a b S m s out
+  right : (nx : List ℕ) → length (stash a b S) ≤ s
+      → out ≡ made (listed (slot-key a b S) m 0) nx (stash a b S ++ replicate (s - length (stash a b S)) 0) (length (stash a b S))
+      → ((c : ℕ) → In c (seated a b S) → getD nx c 0 ≡ next a b (seated a b S) c)
+      → ((v : ℕ) → v < m → getD nx (slot-key a b S v) 0 ≡ slot-next a b S v) → Right a b S m s out
 
 drop-zeros : (k s : ℕ) → drop {A = ℕ} k (replicate s 0) ≡ replicate (s - k) 0
 drop-zeros zero s = let e : s - 0 ≡ s = omega arith in rw e
@@ -74,49 +65,94 @@ drop-zeros (suc k) zero = let e : 0 - suc k ≡ 0 = omega arith in rw e
 drop-zeros (suc k) (suc s) = let e : suc s - suc k ≡ s - k = omega arith in rw e (drop-zeros k s)
 
 module _ {a b : ℕ → ℕ} {other : ℕ → ℕ → ℕ} (turn : (c v w : ℕ) → Ends a b c v w → other v c ≡ w) {m : ℕ} (few : m ≤ max-points)
-    (fits : (c : ℕ) → (a c < m) × (b c < m)) {S : List ℕ} (asc : Asc S) (nonzero : (c : ℕ) → In c S → c ≡ 0 → ⊥) where
-  pub linking-is : Linked a b m (forest a b S) (linking a b other m S)
+    (fits : (c : ℕ) → (a c < m) × (b c < m)) (two : (c : ℕ) → a c ≡ b c → ⊥) (n : ℕ) (small : n < pair) (words : List ℕ) (long : n < length words) where
+  abbrev S : List ℕ
+  S = ranks n
+
+  asc : Asc S
+  asc = from-asc 1 n
+
+  within : (x : ℕ) → In x S → (0 < x) × (x ≤ n)
+  within x i = let k = from-in 1 n i in (omega arith, omega arith)
+
+  linking-is : Linked a b m (forest a b S) (linking a b other m n words)
+      × ((x : ℕ) → In x S → x < length words → Marked m (forest a b S) (linking a b other m n words .next) x)
   unfolding linking
-  linking-is = link-all turn m fits few asc nonzero
+  linking-is = link-all turn m fits few asc (λ c i e. omega (arith, within c i)) words
 
-  module _ (words : List ℕ) (size : length words ≡ m) where
-    pub labels-is : Labels a b S m (labels a b other m S words)
-    unfolding labels
-    labels-is = label-all linking-is words size
+  labels-is : Labels a b S m (rep-of (linking a b other m n words .sets))
+  labels-is = labels-all (linking-is .0)
 
-    module _ (s : ℕ) where
-      noting-is : Stashed a b S (labels a b other m S words) m (linking a b other m S .held) (replicate s 0) (noting a b other m S words s)
-      unfolding noting
-      noting-is = stashed m fits asc nonzero (linking-is .whole) labels-is (replicate s 0)
+  next-long : n < length (linking a b other m n words .next)
+  unfolding linking unlinked
+  next-long = rw (link-length a b other m S (unlinked m words)) long
 
-      module _ (two : (c : ℕ) → a c ≡ b c → ⊥) where
-        module _ (M : Marks a b S (labels a b other m S words) (notes a b other m S words s)) (long : length (notes a b other m S words s) ≡ m) where
-          held-is : Occupied a b (seated a b S) m (held a b other m S words s)
-          unfolding held
-          held-is = finish-all turn m fits two asc nonzero (linking-is .whole) (suc m) (omega (arith, forest-few asc linking-is)) labels-is M (linking-is .size)
+  words-is : Words a b S m (rep-of (linking a b other m n words .sets)) (labels a b other m n words)
+  unfolding labels
+  words-is = words-all n (linking a b other m n words .sets) (linking a b other m n words .next) next-long within
+      (λ x i. linking-is .1 x i (omega (arith, within x i)))
 
-          nexts-is : nexts a b other m S words s ≡ listed (slot-next a b S) m 0
-          unfolding nexts slot-next slot-key
-          nexts-is =
-              let N = next-all m fits asc nonzero held-is labels-is (notes a b other m S words s) long in
-              is-listed (slot-next a b S) m (nexts a b other m S words s) (N .0) (N .1)
+  labels-long : n < length (labels a b other m n words)
+  unfolding labels
+  labels-long = rw (labelled-length a (linking a b other m n words .sets) n (linking a b other m n words .next)) next-long
 
-        -- Theorem: the build gives what the definitions say. It is overflow exactly if the stash has more than s keys; otherwise the held, next and stash
-        -- words are exactly those of the canonical image, whatever stood in the scratch.
-        pub built-is : built a b other m S words s ≡ canonical-parts a b S m s
-        unfolding built canonical-parts notes slot-key
-        built-is =
-            let zeros : length {A = ℕ} (replicate s 0) ≡ s = length-replicate s 0 in
-            elim noting-is [
-              | over l e ↦ rw (e, lt-ltb s (length (stash a b S)) (omega arith))
-              | fit l e k t long M ↦
-                  let O = held-is M long in
-                  let h = is-listed (slot-key a b S) m (held a b other m S words s) (O .size) (O .is) in
-                  rw (e, le-ltb s (length (stash a b S)) (omega arith), k, t, drop-zeros (length (stash a b S)) s, nexts-is M long, h)
-            ]
+  low-is : Lows m S (labels a b other m n words) (low a b other m n words)
+  unfolding low
+  low-is = lows-all m (labels a b other m n words) asc
 
--- The same at the slots that a tabulation gives, with r slots to a table.
-module _ (F : Family) (some : 0 < F .slots) (few : F .slots ≤ table-slots) {S : List ℕ} (asc : Asc S) (nonzero : (c : ℕ) → In c S → c ≡ 0 → ⊥) where
-  pub built-tables : (words : List ℕ) → length words ≡ slot-count F → (s : ℕ)
-      → built (slot-0 F) (slot-1 F) (other F) (slot-count F) S words s ≡ canonical-parts (slot-0 F) (slot-1 F) S (slot-count F) s
-  built-tables words size s = built-is (other-end F some) (omega arith) (slots-fit F some) asc nonzero words size s (λ c. slots-apart F some c c)
+  module _ (s : ℕ) where
+    abbrev lab : ℕ → ℕ
+    lab = rep-of (linking a b other m n words .sets)
+
+    abbrev N : Noting
+    N = noting a b other m n words s
+
+    noting-is : Stashed a b m S lab (labels a b other m n words) (low a b other m n words) (replicate s 0) N
+    unfolding noting
+    noting-is = stashed m fits asc labels-is words-is (λ x i. let k = within x i in (k .0, omega arith, omega (arith, labels-long))) low-is (replicate s 0)
+
+    module _ (G : Going a b m S lab (labels a b other m n words) (low a b other m n words) [] N) where
+      inner : (x : ℕ) → In x S → (0 < x) × (x < pair)
+      inner x i = let k = within x i in (k .0, omega arith)
+
+      held-is : Occupied a b (seated a b S) m (held a b other m n words s)
+      unfolding held
+      held-is = finish-all turn m fits asc (λ c i. two c) (linking-is .0 .whole) (forest-few asc (linking-is .0)) labels-is words-is low-is inner G (linking-is .0 .size)
+
+      notes-are : (l : ℕ) → l < m → Smallest a b S lab l (getD (N .notes) l 0 % pair)
+      notes-are = note-smallest turn m fits asc (λ c i. two c) (linking-is .0 .whole) (forest-few asc (linking-is .0)) labels-is words-is low-is inner G
+
+      abbrev before : Chaining
+      before = record { notes = N .notes; next = N .next }
+
+      in-next : (x : ℕ) → In x S → (0 < x) × (x < pair) × (x < length (N .next))
+      in-next x i = let k = within x i in (k .0, omega arith, omega (arith, G .next-size, labels-long))
+
+      chain-is : (c : ℕ) → In c (seated a b S) → getD (chain a b other m n words s) c 0 ≡ next a b (seated a b S) c
+      unfolding chain
+      chain-is = next-all m fits asc labels-is before (G .notes-size) in-next (λ x i. G .placed x i (λ k. elim k [ ])) notes-are
+
+      chain-held : (v : ℕ) → v < m → getD (chain a b other m n words s) (getD (held a b other m n words s) v 0) 0 ≡ slot-next a b S v
+      unfolding chain
+      chain-held v f = next-held m fits asc labels-is before (G .notes-size) in-next (λ x i. G .placed x i (λ k. elim k [ ])) notes-are
+          held-is (omega (arith, G .next-size, labels-long)) v f
+
+    -- Theorem: the build gives what the definitions say of the ranks, whatever stood in the next words.
+    pub built-is : Right a b S m s (built a b other m n words s)
+    unfolding built slot-key
+    built-is =
+        let zeros : length {A = ℕ} (replicate s 0) ≡ s = length-replicate s 0 in
+        let D = stash a b S in
+        elim noting-is [
+          | over l e ↦ full (omega arith) (rw e)
+          | fit l e k t G ↦
+              let O = held-is G in
+              let h = is-listed (slot-key a b S) m (held a b other m n words s) (O .size) (O .is) in
+              right (chain a b other m n words s) (omega arith) (rw (e, k, t, drop-zeros (length D) s, h)) (chain-is G)
+              (λ v f. ap (λ (c : ℕ). getD (chain a b other m n words s) c 0) (sym (O .is v f)) ∙ chain-held G v f)
+        ]
+
+-- The same for edges in a list, one for each rank.
+module _ {r : ℕ} {edges : List ℕ} (P : Edges r edges) (n : ℕ) (small : n < pair) (words : List ℕ) (long : n < length words) (s : ℕ) where
+  pub built-edges : Right (end-0 r edges) (end-1 r edges) (ranks n) (2 * r) s (built (end-0 r edges) (end-1 r edges) (other-end r edges) (2 * r) n words s)
+  built-edges = built-is (ends-turn P) (omega (arith, P .most)) (ends-fit P) (ends-apart P) n small words long s

@@ -33,7 +33,7 @@ each-slot-before f (suc n) v words u l =
     let x = f v (getD words v 0) in
     each-slot-before f n (suc v) (set words v x) u (omega arith) ∙ getD-set-other words v u x 0 (omega arith)
 
-each-slot-at : (f : ℕ → ℕ → ℕ) (n v : ℕ) (words : List ℕ) (u : ℕ) → v ≤ u → u < v + n → v + n ≤ length words
+pub each-slot-at : (f : ℕ → ℕ → ℕ) (n v : ℕ) (words : List ℕ) (u : ℕ) → v ≤ u → u < v + n → v + n ≤ length words
     → getD (each-slot f n v words) u 0 ≡ f u (getD words u 0)
 unfolding each-slot
 each-slot-at f zero v words u l k fit = absurd (omega arith)
@@ -65,7 +65,7 @@ listed-at f zero v i l = absurd (omega arith)
 listed-at f (suc n) v zero l = let e : v + 0 ≡ v = omega arith in rw e
 listed-at f (suc n) v (suc i) l = let e : v + suc i ≡ suc v + i = omega arith in rw e (listed-at f n (suc v) i (omega arith))
 
-listed-slot : (f : ℕ → ℕ) (m v : ℕ) → v < m → getD (listed f m 0) v 0 ≡ f v
+pub listed-slot : (f : ℕ → ℕ) (m v : ℕ) → v < m → getD (listed f m 0) v 0 ≡ f v
 listed-slot f m v l = let e : 0 + v ≡ v = omega arith in rw (listed-at f m 0 v l, e)
 
 -- a list of m words is the list of what they are

@@ -1,7 +1,6 @@
--- From ascending keys to the canonical image. The passes of the build as functions on lists, and what they compute (EachSlot to Built); how the parts lie in
--- scratch (Scratch); the same passes over scratch, for the code (Access to Whole); what callers read (Build). Assumes nothing.
+-- From ranks and their edges to the canonical image: the passes on lists (Link, Labels, Notes, Finish, Next), that they give what `cuckoo` defines (Built), how
+-- they lie in scratch (Scratch), and what callers read (Build).
 pub mod EachSlot
-pub mod Seat
 pub mod Link
 pub mod Labels
 pub mod Notes
@@ -11,9 +10,4 @@ pub mod Built
 pub mod Scratch
 pub mod Access
 pub mod LinkCode
-pub mod Passes
-pub mod NotesCode
-pub mod FinishCode
-pub mod NextCode
 pub mod Build
-pub mod Whole

@@ -1,7 +1,6 @@
--- Step 3 of the build: for each label one note, the key that decides how the component sits, and the stash. A key held in neither of its slots
--- closes a cycle: the first of a label is noted there, and the others are the stash, ascending. Then the held keys: the first of a label without a
--- note is noted there, a tree's smallest key. Assumes nothing.
-use Prim.Native.Nat.{ℕ, suc, _+_, _<_, _≤_}
+-- Steps 3 and 4 of the build: what is noted at each label, and the stash. First, descending over the ranks of the forest, the smallest of each label. Then,
+-- ascending over the others, the first of each label, which is noted beside it; the rest of them are the stash. Assumes nothing.
+use Prim.Native.Nat.{ℕ, suc, _+_, _-_, _*_, _%_, _/_, _<_, _≤_}
 use mathlib.Core.Path.{_≡_, refl, sym, _∙_, ap}
 use mathlib.Core.Bool.{Bool, true, false, cond, not}
 use mathlib.Core.Logic.{inl, inr}
@@ -10,265 +9,376 @@ use native.Mathlib.Omega.{arith}
 use lib.Dec.{eqb, ltb}
 use lib.ListN.{length, getD, set, length-set, drop, replicate, length-replicate}
 use lib.Seq.{sets, sets-eq, getD-set-same, getD-set-other}
-use borrow.Author.Tests.{eq-eqb, ne-eqb, lt-ltb, le-ltb}
-use Rattle.basics.specs.Tests.{eq?, le?}
-use Rattle.basics.specs.Sets.{member, keep, in?, Sub, Asc, some, in-member, no-member}
+use borrow.Author.Tests.{lt-ltb, le-ltb}
+use Rattle.basics.specs.Sets.{member, keep}
 use Rattle.cuckoo.specs.Graph.{seated, stash}
-use Rattle.cuckoo.specs.Joined.{edge}
-use Rattle.cuckoo.specs.Forest.{forest, spans}
+use Rattle.basics.specs.Tests.{eq?, le?}
+use Rattle.basics.specs.Sets.{in?, Sub, Asc, some, in-member, no-member, below, below-in, below-lt, out-sub, out-in}
+use Rattle.cuckoo.specs.Joined.{Joined, jsym, jrefl, mono}
+use Rattle.cuckoo.specs.Forest.{forest, forest-in, spans-key, acyclic}
 use Rattle.cuckoo.specs.Settling.{seated-forest, seated-is, is-seated, tree, smallest}
+use Rattle.cuckoo.specs.Seating.{Bare, ends-near}
+use Rattle.cuckoo.specs.Tree.{far-some}
 use Rattle.forest.specs.Link.{getD-zeros}
-use Rattle.forest.specs.Oriented.{OrientedForest, standing}
-use Rattle.build.specs.Seat.{standing-tree, standing-off}
-use Rattle.build.specs.Labels.{Labels, label-of, label-fit, same-label, label-joined}
+use Rattle.build.specs.Labels.{Labels, Words, label-fit, same-label, label-joined}
 
--- the notes, one word for each label; the stash words, of which the first `count` are written; and whether one more was wanted
+-- Step 3, and the notes of step 6: descending over the ranks whose word is a label, each is noted there. Of R the larger come first.
+unfoldable pub lows : ℕ → List ℕ → List ℕ → List ℕ → List ℕ
+lows m next [] notes = notes
+lows m next (c ∷ R) notes = let s = lows m next R notes in cond (ltb (getD next c 0) m) (set s (getD next c 0) c) s
+
+-- y is the smallest of R whose word is k, and `old` where there is none
+pub data Least (next R : List ℕ) (k old y : ℕ) : Type 0 where
+  found : In y R → getD next y 0 ≡ k → ((x : ℕ) → In x R → getD next x 0 ≡ k → y ≤ x) → Least next R k old y
+  none-of : y ≡ old → ((x : ℕ) → In x R → getD next x 0 ≡ k → ⊥) → Least next R k old y
+
+-- the words `low` have the smallest for each label, and 0 where there is none
+pub record Lows (m : ℕ) (S next low : List ℕ) : Type 0 where
+  pub size : length low ≡ m
+  pub at : (l : ℕ) → l < m → Least next S l 0 (getD low l 0)
+
+module _ (m : ℕ) (next : List ℕ) where
+  lows-skip : (c : ℕ) (R notes : List ℕ) → m ≤ getD next c 0 → lows m next (c ∷ R) notes ≡ lows m next R notes
+  unfolding lows
+  lows-skip c R notes l = rw (le-ltb (getD next c 0) m l)
+
+  lows-put : (c : ℕ) (R notes : List ℕ) → getD next c 0 < m → lows m next (c ∷ R) notes ≡ set (lows m next R notes) (getD next c 0) c
+  unfolding lows
+  lows-put c R notes l = rw (lt-ltb (getD next c 0) m l)
+
+  pub lows-length : (R notes : List ℕ) → length (lows m next R notes) ≡ length notes
+  unfolding lows
+  lows-length [] notes = refl
+  lows-length (c ∷ R) notes = elim (le? m (getD next c 0)) [
+    | inl l ↦ rw (le-ltb (getD next c 0) m l) (lows-length R notes)
+    | inr l ↦ rw (lt-ltb (getD next c 0) m l) (length-set (lows m next R notes) (getD next c 0) c ∙ lows-length R notes)
+  ]
+
+  least-skip : {c k old y : ℕ} {R : List ℕ} → (getD next c 0 ≡ k → ⊥) → Least next R k old y → Least next (c ∷ R) k old y
+  least-skip n (found i e low) = found (there i) e (λ x j q. elim j [ here p ↦ absurd (n (ap (λ (z : ℕ). getD next z 0) (sym p) ∙ q)) | there t ↦ low x t q ])
+  least-skip n (none-of e no′) = none-of e (λ x j q. elim j [ here p ↦ n (ap (λ (z : ℕ). getD next z 0) (sym p) ∙ q) | there t ↦ no′ x t q ])
+
+  -- Law of step 3, for any words
+  pub lows-least : (notes : List ℕ) → length notes ≡ m → (R : List ℕ) → Asc R → (l : ℕ) → l < m
+      → Least next R l (getD notes l 0) (getD (lows m next R notes) l 0)
+  unfolding lows
+  lows-least notes sz [] ordered l fit = none-of refl (λ x i. elim i [ ])
+  lows-least notes sz (c ∷ R) (some up ordered) l fit =
+      let ih = lows-least notes sz R ordered l fit in
+      let s = lows m next R notes in
+      elim (eq? l (getD next c 0)) [
+        | inl q ↦
+            let f : getD next c 0 < m = omega arith in
+            let e : getD (lows m next (c ∷ R) notes) l 0 ≡ c =
+            rw (lows-put c R notes f, q) (getD-set-same s (getD next c 0) c 0 (omega (arith, lows-length R notes))) in
+            rw e (found (here refl) (sym q) (λ x i k. elim i [ here p ↦ omega arith | there t ↦ omega (arith, up x t) ]))
+        | inr n ↦ elim (le? m (getD next c 0)) [
+          | inl g ↦ rw (lows-skip c R notes g) (least-skip (λ q. n (sym q)) ih)
+          | inr g ↦ rw (lows-put c R notes g, getD-set-other s (getD next c 0) l c 0 n) (least-skip (λ q. n (sym q)) ih)
+        ]
+      ]
+
+pub lows-all : (m : ℕ) (next : List ℕ) {S : List ℕ} → Asc S → Lows m S next (lows m next S (replicate m 0))
+lows-all m next {S} asc = record {
+  size = lows-length m next S (replicate m 0) ∙ length-replicate m 0;
+  at = λ l fit. let h = lows-least m next (replicate m 0) (length-replicate m 0) S asc l fit in rw (getD-zeros m l) at h;
+}
+
+-- A rank has one of the forest in its component that is not larger.
+pub smaller-near : {a b : ℕ → ℕ} (S : List ℕ) {c : ℕ} → (a c ≡ b c → ⊥) → In c S
+    → (x : ℕ) × In x (forest a b S) × Joined a b S (a c) (a x) × (x ≤ c)
+smaller-near {a} {b} S {c} two i = elim (in? c (forest a b S)) [
+  | inl f ↦ (c, f, jrefl, omega arith)
+  | inr n ↦
+      let X = below (suc c) (forest a b S) in
+      let F = forest a b S in
+      let bare : Bare a b X (b c) = λ x k j y. acyclic S (below-in (suc c) F k) (mono (out-sub x (λ d. below-in (suc c) F)) y) in
+      let r = far-some bare (jsym (spans-key S (suc c) c (omega arith) i)) two in
+      let f = below-in (suc c) F (r .1 .c-in) in
+      let l = below-lt (suc c) F (r .1 .c-in) in
+      (r .0, f, mono (λ d k. forest-in a b S d (below-in (suc c) F k)) (ends-near (r .1 .ends) (r .1 .c-in)), omega arith)
+]
+
+-- A word of the notes has two ranks: the smallest of the forest, and `pair` times the first of the others.
+abbrev pub pair : ℕ
+pair = 4096
+
+-- the notes, a word for each label; the words of the ranks; the stash words, of which the first `count` are written; and whether one more was wanted
 pub record Noting : Type 0 where
   pub notes : List ℕ
+  pub next : List ℕ
   pub stash : List ℕ
   pub count : ℕ
   pub overflow : Bool
 
--- the key c is noted at label l
+-- the rank c is noted at label l, and its word is the label
 abbrev pub note-at : ℕ → ℕ → Noting → Noting
-note-at l c N = record { notes = set (N .notes) l c; stash = N .stash; count = N .count; overflow = N .overflow }
+note-at l c N = record { notes = set (N .notes) l (getD (N .notes) l 0 + pair * c); next = set (N .next) c l; stash = N .stash; count = N .count; overflow = N .overflow }
 
--- the key c goes to the stash
-abbrev pub stash-key : ℕ → Noting → Noting
-stash-key c N = record { notes = N .notes; stash = set (N .stash) (N .count) c; count = suc (N .count); overflow = N .overflow }
+-- the rank c goes to the stash, and its word is m
+abbrev pub stash-rank : ℕ → ℕ → Noting → Noting
+stash-rank m c N = record { notes = N .notes; next = set (N .next) c m; stash = set (N .stash) (N .count) c; count = suc (N .count); overflow = N .overflow }
 
--- there is no room for it
 abbrev pub overflowed : Noting → Noting
-overflowed N = record { notes = N .notes; stash = N .stash; count = N .count; overflow = true }
+overflowed N = record { notes = N .notes; next = N .next; stash = N .stash; count = N .count; overflow = true }
 
--- before the first pass: m words without a note, and the stash words
-abbrev pub nothing-noted : ℕ → List ℕ → Noting
-nothing-noted m words = record { notes = replicate m 0; stash = words; count = 0; overflow = false }
+-- before the first rank
+abbrev pub nothing-noted : List ℕ → List ℕ → List ℕ → Noting
+nothing-noted low next words = record { notes = low; next = next; stash = words; count = 0; overflow = false }
 
-module _ (a b : ℕ → ℕ) (held labels : List ℕ) where
-  -- First pass, ascending over the keys: those that are not held. It ends at once where the stash words are full and one more key is wanted there.
-  unfoldable pub noted : List ℕ → Noting → Noting
-  noted [] N = N
-  noted (c ∷ R) N =
-      let l = label-of a labels c in
-      cond (standing a b held c) (noted R N)
-      (cond (eqb (getD (N .notes) l 0) 0) (noted R (note-at l c N))
-      (cond (ltb (N .count) (length (N .stash))) (noted R (stash-key c N)) (overflowed N)))
+-- Step 4, ascending over the ranks. It ends at once where the stash words are full and one more rank is wanted there.
+unfoldable pub noted : ℕ → List ℕ → Noting → Noting
+noted m [] N = N
+noted m (c ∷ R) N =
+    let w = getD (N .next) c 0 in
+    cond (ltb w m) (noted m R N)
+    (cond (ltb (getD (N .notes) (w - m) 0) pair) (noted m R (note-at (w - m) c N))
+    (cond (ltb (N .count) (length (N .stash))) (noted m R (stash-rank m c N)) (overflowed N)))
 
-  -- Second pass, ascending over the keys: those that are held.
-  unfoldable pub noted-held : List ℕ → List ℕ → List ℕ
-  noted-held [] notes = notes
-  noted-held (c ∷ R) notes =
-      let l = label-of a labels c in
-      noted-held R (cond (standing a b held c) (cond (eqb (getD notes l 0) 0) (set notes l c) notes) notes)
+module _ (m c : ℕ) (R : List ℕ) (N : Noting) where
+  noted-on : getD (N .next) c 0 < m → noted m (c ∷ R) N ≡ noted m R N
+  unfolding noted
+  noted-on f = rw (lt-ltb (getD (N .next) c 0) m f)
 
--- What stands at label l after a pass over the keys of S that notes the first key with the property Q where no note stood, when the keys R are
--- still to come: the old note; none; or the smallest such key.
-pub data Noted (Q : ℕ → Type 0) (label : ℕ → ℕ) (S old R notes : List ℕ) (l : ℕ) : Type 0 where
-  kept : (getD old l 0 ≡ 0 → ⊥) → getD notes l 0 ≡ getD old l 0 → Noted Q label S old R notes l
-  none-yet : getD old l 0 ≡ 0 → getD notes l 0 ≡ 0 → ((x : ℕ) → In x S → Q x → label x ≡ l → In x R) → Noted Q label S old R notes l
-  found : (d : ℕ) → getD old l 0 ≡ 0 → getD notes l 0 ≡ d → In d S → Q d → label d ≡ l → ((x : ℕ) → In x S → Q x → label x ≡ l → d ≤ x)
-      → (In d R → ⊥) → Noted Q label S old R notes l
+  module _ (l : ℕ) (e : getD (N .next) c 0 ≡ m + l) where
+    label-is : getD (N .next) c 0 - m ≡ l
+    label-is = omega arith
 
--- at the start, where all keys are still to come
-nothing-seen : (Q : ℕ → Type 0) (label : ℕ → ℕ) (S old : List ℕ) (l : ℕ) → Noted Q label S old S old l
-nothing-seen Q label S old l = elim (eq? (getD old l 0) 0) [ inl z ↦ none-yet z z (λ x i q k. i) | inr n ↦ kept n refl ]
+    noted-first : getD (N .notes) l 0 < pair → noted m (c ∷ R) N ≡ noted m R (note-at l c N)
+    unfolding noted
+    noted-first f = rw (le-ltb (getD (N .next) c 0) m (omega arith), label-is, lt-ltb (getD (N .notes) l 0) pair f)
 
-module _ {Q : ℕ → Type 0} {label : ℕ → ℕ} {S old R notes : List ℕ} {c : ℕ} where
-  -- one key on: c does not have the property, or a note stands already at its label
-  passed : (Q c → getD notes (label c) 0 ≡ 0 → ⊥) → {l : ℕ} → Noted Q label S old (c ∷ R) notes l → Noted Q label S old R notes l
-  passed n (kept o e) = kept o e
-  passed n {l} (none-yet o e h) = none-yet o e (λ x i q k. elim (h x i q k) [
-    | here p ↦ absurd (n (rw p at q) (ap (λ (y : ℕ). getD notes (label y) 0) (sym p) ∙ ap (λ (y : ℕ). getD notes y 0) k ∙ e))
-    | there t ↦ t
-  ])
-  passed n (found d o e i q k low out) = found d o e i q k low (λ t. out (there t))
+    noted-later : pair ≤ getD (N .notes) l 0 → N .count < length (N .stash) → noted m (c ∷ R) N ≡ noted m R (stash-rank m c N)
+    unfolding noted
+    noted-later f r = rw (le-ltb (getD (N .next) c 0) m (omega arith), label-is, le-ltb (getD (N .notes) l 0) pair f, lt-ltb (N .count) (length (N .stash)) r)
 
-  -- or c is noted
-  marked : In c S → Q c → ((x : ℕ) → In x R → c < x) → ((d : ℕ) → In d S → d ≡ 0 → ⊥) → label c < length notes → getD notes (label c) 0 ≡ 0
-      → {l : ℕ} → Noted Q label S old (c ∷ R) notes l → Noted Q label S old R (set notes (label c) c) l
-  marked ic q up nz fit z {l} N = elim (eq? l (label c)) [
-    | inl p ↦
-        let at = ap (λ (y : ℕ). getD (set notes (label c) c) y 0) p ∙ getD-set-same notes (label c) c 0 fit in
-        let e : getD notes l 0 ≡ 0 = ap (λ (y : ℕ). getD notes y 0) p ∙ z in
-        elim N [
-          | kept o k ↦ absurd (o (sym k ∙ e))
-          | none-yet o k h ↦ found c o at ic q (sym p) (λ x i t k. elim (h x i t k) [ here s ↦ omega arith | there s ↦ omega (arith, up x s) ])
-              (λ t. omega (arith, up c t))
-          | found d o k i t y low out ↦ absurd (nz d i (sym k ∙ e))
-        ]
-    | inr n ↦
-        let off : getD (set notes (label c) c) l 0 ≡ getD notes l 0 = getD-set-other notes (label c) l c 0 n in
-        elim N [
-          | kept o k ↦ kept o (off ∙ k)
-          | none-yet o k h ↦ none-yet o (off ∙ k) (λ x i t k. elim (h x i t k) [ here s ↦ absurd (n (sym k ∙ ap label s)) | there s ↦ s ])
-          | found d o k i t y low out ↦ found d o (off ∙ k) i t y low (λ s. out (there s))
-        ]
-  ]
+    noted-full : pair ≤ getD (N .notes) l 0 → length (N .stash) ≤ N .count → noted m (c ∷ R) N ≡ overflowed N
+    unfolding noted
+    noted-full f r = rw (le-ltb (getD (N .next) c 0) m (omega arith), label-is, le-ltb (getD (N .notes) l 0) pair f, le-ltb (N .count) (length (N .stash)) r)
 
-module _ (a b : ℕ → ℕ) (S : List ℕ) where
-  -- a key of Kruskal's forest, and one off it
-  abbrev On : ℕ → Type 0
-  On c = In c (forest a b S)
+-- What stands at label l when the ranks R are still to come.
+pub data Seen (m : ℕ) (S next low R : List ℕ) (l x : ℕ) : Type 0 where
+  none-yet : x ≡ getD low l 0 → ((y : ℕ) → In y S → getD next y 0 ≡ m + l → In y R) → Seen m S next low R l x
+  one-seen : (d : ℕ) → x ≡ getD low l 0 + pair * d → In d S → getD next d 0 ≡ m + l → ((y : ℕ) → In y S → getD next y 0 ≡ m + l → d ≤ y) → (In d R → ⊥)
+      → Seen m S next low R l x
 
-  abbrev Off : ℕ → Type 0
-  Off c = In c (forest a b S) → ⊥
+-- the word of a rank after this step
+pub record Placed (a b : ℕ → ℕ) (S : List ℕ) (m : ℕ) (lab : ℕ → ℕ) (next : List ℕ) (x : ℕ) : Type 0 where
+  pub on : In x (seated a b S) → getD next x 0 ≡ lab (a x)
+  pub off : (In x (seated a b S) → ⊥) → getD next x 0 ≡ m
 
-module _ (a b : ℕ → ℕ) (S labels : List ℕ) where
-  -- the note y at label l: the smallest key of the component that is off the forest, or, where none is, the smallest key
-  pub data Mark (l y : ℕ) : Type 0 where
-    cycle : In y S → Off a b S y → label-of a labels y ≡ l → ((x : ℕ) → In x S → Off a b S x → label-of a labels x ≡ l → y ≤ x) → Mark l y
-    no-cycle : On a b S y → label-of a labels y ≡ l → ((x : ℕ) → In x S → label-of a labels x ≡ l → On a b S x × (y ≤ x)) → Mark l y
+module _ (a b : ℕ → ℕ) (m : ℕ) (S : List ℕ) (lab : ℕ → ℕ) (next low : List ℕ) where
+  pub record Going (R : List ℕ) (N : Noting) : Type 0 where
+    pub notes-size : length (N .notes) ≡ m
+    pub next-size : length (N .next) ≡ length next
+    pub seen : (l : ℕ) → l < m → Seen m S next low R l (getD (N .notes) l 0)
+    pub ahead : (x : ℕ) → In x R → getD (N .next) x 0 ≡ getD next x 0
+    pub placed : (x : ℕ) → In x S → (In x R → ⊥) → Placed a b S m lab (N .next) x
 
-  -- each component with keys has its note
-  pub record Marks (notes : List ℕ) : Type 0 where
-    pub sound : (l : ℕ) → (getD notes l 0 ≡ 0 → ⊥) → Mark l (getD notes l 0)
-    pub whole : (x : ℕ) → In x S → getD notes (label-of a labels x) 0 ≡ 0 → ⊥
-
-  -- what the first pass makes of N, where the keys D are to go to the stash
-  data Outcome (m : ℕ) (old D : List ℕ) (N out : Noting) : Type 0 where
-    full : length (N .stash) < N .count + length D → out .overflow ≡ true → Outcome m old D N out
+  -- what the pass makes of N, where the ranks D are to go to the stash
+  pub data Outcome (D : List ℕ) (N out : Noting) : Type 0 where
+    full : length (N .stash) < N .count + length D → out .overflow ≡ true → Outcome D N out
     done : N .count + length D ≤ length (N .stash) → out .overflow ≡ N .overflow → out .count ≡ N .count + length D
-        → out .stash ≡ sets (N .stash) (N .count) D → length (out .notes) ≡ m → ((l : ℕ) → Noted (Off a b S) (label-of a labels) S old [] (out .notes) l)
-        → Outcome m old D N out
+        → out .stash ≡ sets (N .stash) (N .count) D → Going [] out → Outcome D N out
 
-  -- what both passes over S give, from stash words of any content
-  pub data Stashed (m : ℕ) (held words : List ℕ) (out : Noting) : Type 0 where
-    over : length words < length (stash a b S) → out .overflow ≡ true → Stashed m held words out
+  -- what it gives over S, from stash words of any content
+  pub data Stashed (words : List ℕ) (out : Noting) : Type 0 where
+    over : length words < length (stash a b S) → out .overflow ≡ true → Stashed words out
     fit : length (stash a b S) ≤ length words → out .overflow ≡ false → out .count ≡ length (stash a b S)
-        → out .stash ≡ stash a b S ++ drop (length (stash a b S)) words → length (noted-held a b held labels S (out .notes)) ≡ m
-        → Marks (noted-held a b held labels S (out .notes)) → Stashed m held words out
+        → out .stash ≡ stash a b S ++ drop (length (stash a b S)) words → Going [] out → Stashed words out
 
-module _ {a b : ℕ → ℕ} {S labels : List ℕ} {m : ℕ} where
-  -- a note changes neither the stash nor the count
-  along : {old D : List ℕ} (l c : ℕ) {N out : Noting} → Outcome a b S labels m old D (note-at l c N) out → Outcome a b S labels m old D N out
-  along l c (full k e) = full k e
-  along l c (done x e k t sz h) = done x e k t sz h
+module _ {a b : ℕ → ℕ} (m : ℕ) (fits : (c : ℕ) → (a c < m) × (b c < m)) {S : List ℕ} (asc : Asc S) {lab : ℕ → ℕ} (L : Labels a b S m lab)
+    {next : List ℕ} (W : Words a b S m lab next) (inside : (x : ℕ) → In x S → (0 < x) × (x < pair) × (x < length next))
+    {low : List ℕ} (lowest : Lows m S next low) where
+  abbrev F : List ℕ
+  F = forest a b S
 
-  -- c goes to the stash before D
-  before : {old D : List ℕ} {c : ℕ} {N out : Noting} → Outcome a b S labels m old D (stash-key c N) out → Outcome a b S labels m old (c ∷ D) N out
-  before {D = D} {c = c} {N = N} (full l e) = full (omega (arith, length-set (N .stash) (N .count) c)) e
-  before {D = D} {c = c} {N = N} (done l e k t sz h) = done (omega (arith, length-set (N .stash) (N .count) c)) e (omega arith) t sz h
+  abbrev T : List ℕ
+  T = seated a b S
 
--- the two passes together
-module _ (a b : ℕ → ℕ) (S labels : List ℕ) {zeros notes out : List ℕ} (nonzero : (c : ℕ) → In c S → c ≡ 0 → ⊥) (none-old : (l : ℕ) → getD zeros l 0 ≡ 0)
-    (K : (l : ℕ) → Noted (Off a b S) (label-of a labels) S zeros [] notes l)
-    (J : (l : ℕ) → Noted (On a b S) (label-of a labels) S notes [] out l) where
-  none-off : (l : ℕ) → getD notes l 0 ≡ 0 → (x : ℕ) → In x S → label-of a labels x ≡ l → In x (forest a b S)
-  none-off l z x ix k = elim (in? x (forest a b S)) [
-    | inl f ↦ f
-    | inr off ↦ elim (K l) [
-      | kept p f ↦ absurd (p (none-old l))
-      | none-yet p f h ↦ elim (h x ix off k) [ ]
-      | found d p f i q y low u ↦ absurd (nonzero d i (sym f ∙ z))
-    ]
-  ]
+  abbrev Run : List ℕ → Noting → Type 0
+  Run R N = Going a b m S lab next low R N
 
-  two-passes : Marks a b S labels out
-  two-passes = record {
-    sound = λ l nz. elim (J l) [
-      | kept o e ↦ rw e (elim (K l) [
-        | kept p f ↦ absurd (p (none-old l))
-        | none-yet p f h ↦ absurd (o f)
-        | found d p f i off k low u ↦ rw f (cycle i off k low)
-      ])
-      | none-yet o e h ↦ absurd (nz e)
-      | found d o e i on k low u ↦ rw e (no-cycle on k (λ x ix kx. let f = none-off l o x ix kx in (f, low x ix f kx)))
+  low-lt : (l : ℕ) → l < m → getD low l 0 < pair
+  low-lt l f = elim (lowest .at l f) [ found i e q ↦ inside (getD low l 0) i .1 | none-of e q ↦ omega arith ]
+
+  -- a rank of the forest is passed over
+  going-on : {R : List ℕ} {c : ℕ} {N : Noting} → In c S → In c F → Run (c ∷ R) N → Run R N
+  going-on {R} {c} {N} ic f Q = record {
+    notes-size = Q .notes-size;
+    next-size = Q .next-size;
+    seen = λ l k. elim (Q .seen l k) [
+      | none-yet e h ↦ none-yet e (λ y i q. elim (h y i q) [ here p ↦ absurd (omega (arith, W .on y i (rw p f), label-fit L fits y)) | there t ↦ t ])
+      | one-seen d e i q h n ↦ one-seen d e i q h (λ t. n (there t))
     ];
-    whole = λ x ix z. elim (J (label-of a labels x)) [
-      | kept o e ↦ o (sym e ∙ z)
-      | none-yet o e h ↦ elim (h x ix (none-off (label-of a labels x) o x ix refl) refl) [ ]
-      | found d o e i on k low u ↦ nonzero d i (sym e ∙ z)
+    ahead = λ x i. Q .ahead x (there i);
+    placed = λ x i n. elim (eq? x c) [
+      | inl q ↦ record { on = λ t. rw q (Q .ahead c (here refl) ∙ W .on c ic f); off = λ t. absurd (t (rw q (seated-forest a b S asc c f))) }
+      | inr ne ↦ Q .placed x i (λ k. elim k [ here q ↦ ne q | there t ↦ n t ])
     ];
   }
 
-module _ {a b : ℕ → ℕ} (m : ℕ) (fits : (c : ℕ) → (a c < m) × (b c < m)) {S : List ℕ} (asc : Asc S) (nonzero : (c : ℕ) → In c S → c ≡ 0 → ⊥)
-    {held labels : List ℕ} (W : OrientedForest a b (forest a b S) held) (L : Labels a b S m labels) where
+  module _ {R : List ℕ} {c : ℕ} {N : Noting} (ic : In c S) (off : In c F → ⊥) (up : (x : ℕ) → In x R → c < x) (Q : Run (c ∷ R) N) where
+    -- the first of a label stays,
+    first-stays : getD (N .notes) (lab (a c)) 0 < pair
+        → In c T × (getD (N .notes) (lab (a c)) 0 ≡ getD low (lab (a c)) 0) × ((y : ℕ) → In y S → getD next y 0 ≡ m + lab (a c) → c ≤ y)
+    first-stays f = elim (Q .seen (lab (a c)) (label-fit L fits c)) [
+      | none-yet e h ↦
+          let least : (y : ℕ) → In y S → getD next y 0 ≡ m + lab (a c) → c ≤ y = λ y i q. elim (h y i q) [ here p ↦ omega arith | there t ↦ omega (arith, up y t) ] in
+          (is-seated a b S asc c ic (smallest (λ x k o j. least x k (rw (same-label L fits j) at (W .off x k o)))), e, least)
+      | one-seen d e i q h n ↦ absurd (omega (arith, inside d i .0))
+    ]
+
+    -- and a later one does not
+    later-goes : pair ≤ getD (N .notes) (lab (a c)) 0 → In c T → ⊥
+    later-goes f t = elim (Q .seen (lab (a c)) (label-fit L fits c)) [
+      | none-yet e h ↦ omega (arith, low-lt (lab (a c)) (label-fit L fits c))
+      | one-seen d e i q h n ↦ elim (seated-is a b S asc c t) [
+        | tree o ↦ off o
+        | smallest s ↦
+            let o : In d F → ⊥ = λ o. omega (arith, W .on d i o, label-fit L fits d) in
+            let g : lab (a d) ≡ lab (a c) = omega (arith, W .off d i o) in
+            n (here (omega (arith, s d i o (label-joined L fits d c g), h c ic (W .off c ic off))))
+      ]
+    ]
+
+    going-first : getD (N .notes) (lab (a c)) 0 < pair → Run R (note-at (lab (a c)) c N)
+    going-first f =
+        let r = first-stays f in
+        let l = lab (a c) in
+        let z = getD (N .notes) l 0 + pair * c in
+        record {
+          notes-size = length-set (N .notes) l z ∙ Q .notes-size;
+          next-size = length-set (N .next) c l ∙ Q .next-size;
+          seen = λ k fit. elim (eq? k l) [
+            | inl q ↦
+                let e : getD (set (N .notes) l z) k 0 ≡ z = rw q (getD-set-same (N .notes) l z 0 (rw (Q .notes-size) (label-fit L fits c))) in
+                one-seen c (e ∙ rw (q, r .1)) ic (rw q (W .off c ic off)) (λ y i t. r .2 y i (rw q at t)) (λ t. omega (arith, up c t))
+            | inr ne ↦ rw (getD-set-other (N .notes) l k z 0 ne) (elim (Q .seen k fit) [
+              | none-yet e h ↦ none-yet e (λ y i q. elim (h y i q) [ here p ↦ absurd (ne (omega (arith, W .off c ic off, rw p at q))) | there t ↦ t ])
+              | one-seen d e i q h n ↦ one-seen d e i q h (λ t. n (there t))
+            ])
+          ];
+          ahead = λ x i. getD-set-other (N .next) c x l 0 (λ q. omega (arith, up x i)) ∙ Q .ahead x (there i);
+          placed = λ x i n. elim (eq? x c) [
+            | inl q ↦ record {
+              on = λ t. rw q (getD-set-same (N .next) c l 0 (omega (arith, inside c ic .2, Q .next-size)));
+              off = λ t. absurd (t (rw q (r .0)));
+            }
+            | inr ne ↦
+                let p = Q .placed x i (λ k. elim k [ here q ↦ ne q | there t ↦ n t ]) in
+                let e = getD-set-other (N .next) c x l 0 ne in
+                record { on = λ t. e ∙ p .on t; off = λ t. e ∙ p .off t }
+          ];
+        }
+
+    going-later : pair ≤ getD (N .notes) (lab (a c)) 0 → Run R (stash-rank m c N)
+    going-later f =
+        let goes = later-goes f in
+        record {
+          notes-size = Q .notes-size;
+          next-size = length-set (N .next) c m ∙ Q .next-size;
+          seen = λ k fit. elim (Q .seen k fit) [
+            | none-yet e h ↦ none-yet e (λ y i q. elim (h y i q) [
+              | here p ↦
+                  let g : k ≡ lab (a c) = omega (arith, W .off c ic off, rw p at q) in
+                  absurd (omega (arith, low-lt k fit, rw (← g) at f))
+              | there t ↦ t
+            ])
+            | one-seen d e i q h n ↦ one-seen d e i q h (λ t. n (there t))
+          ];
+          ahead = λ x i. getD-set-other (N .next) c x m 0 (λ q. omega (arith, up x i)) ∙ Q .ahead x (there i);
+          placed = λ x i n. elim (eq? x c) [
+            | inl q ↦ record {
+              on = λ t. absurd (goes (rw q at t));
+              off = λ t. rw q (getD-set-same (N .next) c m 0 (omega (arith, inside c ic .2, Q .next-size)));
+            }
+            | inr ne ↦
+                let p = Q .placed x i (λ k. elim k [ here q ↦ ne q | there t ↦ n t ]) in
+                let e = getD-set-other (N .next) c x m 0 ne in
+                record { on = λ t. e ∙ p .on t; off = λ t. e ∙ p .off t }
+          ];
+        }
+
   -- those of R that go to the stash
   abbrev rest : List ℕ → List ℕ
-  rest R = keep (λ c. not (member c (seated a b S))) R
+  rest R = keep (λ c. not (member c T)) R
 
-  not-held : {c : ℕ} → In c S → Off a b S c → standing a b held c ≡ false
-  not-held {c} i n = standing-off (W .each (a c)) (spans S (edge i)) (nonzero c i) n
+  abbrev Out : List ℕ → Noting → Noting → Type 0
+  Out D N out = Outcome a b m S lab next low D N out
 
-  -- the first key off the forest of its label stays,
-  first-stays : {old R notes : List ℕ} {c : ℕ} → In c S → Off a b S c → ((x : ℕ) → In x R → c < x) → getD notes (label-of a labels c) 0 ≡ 0
-      → Noted (Off a b S) (label-of a labels) S old (c ∷ R) notes (label-of a labels c) → In c (seated a b S)
-  first-stays {c = c} i n up z (kept o e) = absurd (o (sym e ∙ z))
-  first-stays {c = c} i n up z (none-yet o e h) = is-seated a b S asc c i (smallest (λ x k off j.
-      elim (h x k off (same-label L fits j)) [ here s ↦ omega arith | there s ↦ omega (arith, up x s) ]))
-  first-stays {c = c} i n up z (found d o e k off y low out) = absurd (nonzero d k (sym e ∙ z))
+  along : {D : List ℕ} (l c : ℕ) {N out : Noting} → Out D (note-at l c N) out → Out D N out
+  along l c (full k e) = full k e
+  along l c (done x e k t h) = done x e k t h
 
-  -- and a later one does not
-  later-goes : {old R notes : List ℕ} {c : ℕ} → In c S → Off a b S c → getD old (label-of a labels c) 0 ≡ 0 → (getD notes (label-of a labels c) 0 ≡ 0 → ⊥)
-      → Noted (Off a b S) (label-of a labels) S old (c ∷ R) notes (label-of a labels c) → In c (seated a b S) → ⊥
-  later-goes i n none-old nz (kept o e) t = o none-old
-  later-goes i n none-old nz (none-yet o e h) t = nz e
-  later-goes {c = c} i n none-old nz (found d o e k off y low out) t = elim (seated-is a b S asc c t) [
-    | tree f ↦ n f
-    | smallest s ↦ out (here (omega (arith, s d k off (label-joined L fits d c y), low c i n refl)))
-  ]
+  before : {D : List ℕ} {c : ℕ} {N out : Noting} → Out D (stash-rank m c N) out → Out (c ∷ D) N out
+  before {D = D} {c = c} {N = N} (full l e) = full (omega (arith, length-set (N .stash) (N .count) c)) e
+  before {D = D} {c = c} {N = N} (done l e k t h) = done (omega (arith, length-set (N .stash) (N .count) c)) e (omega arith) t h
 
-  noted-from : (old : List ℕ) → ((l : ℕ) → getD old l 0 ≡ 0) → (R : List ℕ) (N : Noting) → Asc R → Sub R S → length (N .notes) ≡ m → N .count ≤ length (N .stash)
-      → ((l : ℕ) → Noted (Off a b S) (label-of a labels) S old R (N .notes) l) → Outcome a b S labels m old (rest R) N (noted a b held labels R N)
+  noted-from : (R : List ℕ) (N : Noting) → Asc R → Sub R S → N .count ≤ length (N .stash) → Run R N → Out (rest R) N (noted m R N)
   unfolding noted
-  noted-from old zeros [] N ordered sub sz room K = done (omega arith) refl (omega arith) refl sz K
-  noted-from old zeros (c ∷ R) N (some up ordered) sub sz room K =
+  noted-from [] N ordered sub room Q = done (omega arith) refl (omega arith) refl Q
+  noted-from (c ∷ R) N (some up ordered) sub room Q =
       let ic = sub c (here refl) in
       let sub′ : Sub R S = λ x i. sub x (there i) in
-      elim (in? c (forest a b S)) [
+      elim (in? c F) [
         | inl f ↦
-            rw (standing-tree (W .each (a c)) f, in-member (seated-forest a b S asc c f))
-            (noted-from old zeros R N ordered sub′ sz room (λ l. passed (λ off z. off f) (K l)))
-        | inr n ↦ elim (eq? (getD (N .notes) (label-of a labels c) 0) 0) [
-          | inl z ↦
-              let fit : label-of a labels c < length (N .notes) = rw sz (label-fit L fits c) in
-              rw (not-held ic n, eq-eqb (getD (N .notes) (label-of a labels c) 0) 0 z, in-member (first-stays ic n up z (K (label-of a labels c))))
-              (along (label-of a labels c) c (noted-from old zeros R (note-at (label-of a labels c) c N) ordered sub′
-              (length-set (N .notes) (label-of a labels c) c ∙ sz) room (λ l. marked ic n up nonzero fit z (K l))))
-          | inr nz ↦
-              let K′ : (l : ℕ) → Noted (Off a b S) (label-of a labels) S old R (N .notes) l = λ l. passed (λ off z. nz z) (K l) in
-              let goes = no-member c (seated a b S) (later-goes ic n (zeros (label-of a labels c)) nz (K (label-of a labels c))) in
-              rw (not-held ic n, ne-eqb (getD (N .notes) (label-of a labels c) 0) 0 nz, goes)
-              (elim (le? (length (N .stash)) (N .count)) [
-                | inl l ↦ rw (le-ltb (N .count) (length (N .stash)) l) (full (omega arith) refl)
-                | inr l ↦ rw (lt-ltb (N .count) (length (N .stash)) l)
-                    (before (noted-from old zeros R (stash-key c N) ordered sub′ sz (omega (arith, length-set (N .stash) (N .count) c)) K′))
+            let fit : getD (N .next) c 0 < m = omega (arith, Q .ahead c (here refl), W .on c ic f, label-fit L fits c) in
+            rw (noted-on m c R N fit, in-member (seated-forest a b S asc c f)) (noted-from R N ordered sub′ room (going-on ic f Q))
+        | inr n ↦
+            let l = lab (a c) in
+            let e : getD (N .next) c 0 ≡ m + l = Q .ahead c (here refl) ∙ W .off c ic n in
+            elim (le? pair (getD (N .notes) l 0)) [
+              | inr g ↦
+                  rw (noted-first m c R N l e g, in-member (first-stays ic n up Q g .0))
+                  (along l c (noted-from R (note-at l c N) ordered sub′ room (going-first ic n up Q g)))
+              | inl g ↦ rw (no-member c T (later-goes ic n up Q g)) (elim (le? (length (N .stash)) (N .count)) [
+                | inl k ↦ rw (noted-full m c R N l e g k) (full (omega arith) refl)
+                | inr k ↦ rw (noted-later m c R N l e g k)
+                    (before (noted-from R (stash-rank m c N) ordered sub′ (omega (arith, length-set (N .stash) (N .count) c)) (going-later ic n up Q g)))
               ])
-        ]
+            ]
       ]
 
-  noted-held-from : (old R notes : List ℕ) → Asc R → Sub R S → length notes ≡ m → ((l : ℕ) → Noted (On a b S) (label-of a labels) S old R notes l)
-      → (length (noted-held a b held labels R notes) ≡ m) × ((l : ℕ) → Noted (On a b S) (label-of a labels) S old [] (noted-held a b held labels R notes) l)
-  unfolding noted-held
-  noted-held-from old [] notes ordered sub sz K = (sz, K)
-  noted-held-from old (c ∷ R) notes (some up ordered) sub sz K =
-      let ic = sub c (here refl) in
-      let sub′ : Sub R S = λ x i. sub x (there i) in
-      elim (in? c (forest a b S)) [
-        | inr n ↦ rw (not-held ic n) (noted-held-from old R notes ordered sub′ sz (λ l. passed (λ f z. n f) (K l)))
-        | inl f ↦ rw (standing-tree (W .each (a c)) f) (elim (eq? (getD notes (label-of a labels c) 0) 0) [
-          | inl z ↦
-              let fit : label-of a labels c < length notes = rw sz (label-fit L fits c) in
-              rw (eq-eqb (getD notes (label-of a labels c) 0) 0 z)
-              (noted-held-from old R (set notes (label-of a labels c) c) ordered sub′ (length-set notes (label-of a labels c) c ∙ sz)
-              (λ l. marked ic f up nonzero fit z (K l)))
-          | inr nz ↦ rw (ne-eqb (getD notes (label-of a labels c) 0) 0 nz) (noted-held-from old R notes ordered sub′ sz (λ l. passed (λ q z. nz z) (K l)))
-        ])
-      ]
-
-  -- Law of step 3: the notes are right, and the stash words are the stash, then what stood there before; but overflow where the stash has more keys
-  -- than there are words.
-  pub stashed : (words : List ℕ) → Stashed a b S labels m held words (noted a b held labels S (nothing-noted m words))
+  -- Law of step 4: the notes and the words of the ranks are right, and the stash words are the stash, then what stood there before; but overflow where the
+  -- stash has more ranks than there are words.
+  pub stashed : (words : List ℕ) → Stashed a b m S lab next low words (noted m S (nothing-noted low next words))
   unfolding stash
   stashed words =
-      elim (noted-from (replicate m 0) (getD-zeros m) S (nothing-noted m words) asc (λ x i. i) (length-replicate m 0) (omega arith)
-      (nothing-seen (Off a b S) (label-of a labels) S (replicate m 0))) [
+      elim (noted-from S (nothing-noted low next words) asc (λ x i. i) (omega arith) (record {
+        notes-size = lowest .size;
+        next-size = refl;
+        seen = λ l k. none-yet refl (λ y i q. i);
+        ahead = λ x i. refl;
+        placed = λ x i n. absurd (n i);
+      })) [
         | full l e ↦ over (omega arith) e
-        | done l e k t sz h ↦
-            let N = noted a b held labels S (nothing-noted m words) in
-            let r = noted-held-from (N .notes) S (N .notes) asc (λ x i. i) sz (nothing-seen (On a b S) (label-of a labels) S (N .notes)) in
+        | done l e k t Q ↦
             let z : 0 + length (stash a b S) ≡ length (stash a b S) = omega arith in
-            fit (omega arith) e (omega arith) (t ∙ rw z at (sets-eq (stash a b S) words 0 (omega arith))) (r .0)
-            (two-passes a b S labels nonzero (getD-zeros m) h (r .1))
+            fit (omega arith) e (omega arith) (t ∙ rw z at (sets-eq (stash a b S) words 0 (omega arith))) Q
       ]
+
+-- the smallest rank of a label, of all its ranks
+pub data Smallest (a b : ℕ → ℕ) (S : List ℕ) (lab : ℕ → ℕ) (l z : ℕ) : Type 0 where
+  empty : z ≡ 0 → ((x : ℕ) → In x S → lab (a x) ≡ l → ⊥) → Smallest a b S lab l z
+  rank : In z (forest a b S) → lab (a z) ≡ l → ((x : ℕ) → In x S → lab (a x) ≡ l → z ≤ x) → Smallest a b S lab l z
+
+pub smallest-of : {a b : ℕ → ℕ} (m : ℕ) → ((c : ℕ) → (a c < m) × (b c < m)) → {S : List ℕ} → ((c : ℕ) → In c S → a c ≡ b c → ⊥)
+    → {lab : ℕ → ℕ} → Labels a b S m lab → {next : List ℕ} → Words a b S m lab next → {low : List ℕ} → Lows m S next low
+    → (l : ℕ) → l < m → Smallest a b S lab l (getD low l 0)
+smallest-of {a} {b} m fits {S} two {lab} L {next} W {low} lowest l f =
+    let near : (x : ℕ) → In x S → lab (a x) ≡ l → (y : ℕ) × In y S × (getD next y 0 ≡ l) × (y ≤ x) = λ x i e.
+    let r = smaller-near S (two x i) i in
+    let k = forest-in a b S (r .0) (r .1) in
+    (r .0, k, W .on (r .0) k (r .1) ∙ sym (same-label L fits (r .2)) ∙ e, r .3) in
+    elim (lowest .at l f) [
+      | none-of e n ↦ empty e (λ x i q. let y = near x i q in n (y .0) (y .1) (y .2))
+      | found i e h ↦ elim (in? (getD low l 0) (forest a b S)) [
+        | inl o ↦ rank o (sym (W .on (getD low l 0) i o) ∙ e) (λ x k q. let y = near x k q in omega (arith, h (y .0) (y .1) (y .2)))
+        | inr o ↦ absurd (omega (arith, W .off (getD low l 0) i o))
+      ]
+    ]
+
+-- a word of the notes taken apart
+pub split-pair : (z d : ℕ) → z < pair → ((z + pair * d) % pair ≡ z) × ((z + pair * d) / pair ≡ d)
+split-pair z d l = (omega arith, omega arith)

@@ -1,7 +1,8 @@
--- The one definition of how the build's parts lie in scratch: the ascending keys (2r + s words), then held, next and sets (2r words each), then the
--- stash (s words), then words that the build never touches. `sets` serves the partition first, then the notes, then the last key seen of each
--- label; `next` has the labels first. Each law is one about a part in the middle of words, at a place.
-use Prim.Native.Nat.{ℕ, _+_, _*_, _≤_, _<_}
+-- The one definition of how the build's parts lie in scratch: the keys by rank (2r + s + 1 words, the first of them 0, for no key); the graph of n ranks, that
+-- is what each of the 2r slots holds and then the edges (n words, with a gap behind them where there could be more); the stash (s words); the sets (2r words);
+-- next, by rank (2r + s + 1 words); then words that the build never touches. `sets` serves the partition first, then the notes; `next` has the labels first.
+-- Each law is one about a part in the middle of words, at a place. Assumes nothing.
+use Prim.Native.Nat.{ℕ, _+_, _-_, _*_, _≤_, _<_}
 use mathlib.Core.Path.{_≡_, refl, sym, _∙_}
 use mathlib.Core.List.{List, _++_, append-assoc}
 use native.Mathlib.Omega.{arith}
@@ -11,47 +12,54 @@ use borrow.Rule.Slice.PartMut.{midOf, putMid, set-mid-at}
 
 pub record Parts : Type 0 where
   pub keys : List ℕ
-  pub held : List ℕ
-  pub next : List ℕ
-  pub sets : List ℕ
+  pub graph : List ℕ
+  pub gap : List ℕ
   pub stash : List ℕ
+  pub sets : List ℕ
+  pub next : List ℕ
   pub rest : List ℕ
 
 abbrev pub glue : Parts → List ℕ
-glue P = P .keys ++ (P .held ++ (P .next ++ (P .sets ++ (P .stash ++ P .rest))))
+glue P = P .keys ++ (P .graph ++ (P .gap ++ (P .stash ++ (P .sets ++ (P .next ++ P .rest)))))
 
 -- where each part but the keys begins, and how many words there are in all
 abbrev pub held-at : ℕ → ℕ → ℕ
-held-at r s = 2 * r + s
+held-at r s = 2 * r + s + 1
 
-abbrev pub next-at : ℕ → ℕ → ℕ
-next-at r s = 4 * r + s
-
-abbrev pub sets-at : ℕ → ℕ → ℕ
-sets-at r s = 6 * r + s
+abbrev pub edges-at : ℕ → ℕ → ℕ
+edges-at r s = 4 * r + s + 1
 
 abbrev pub stashed-at : ℕ → ℕ → ℕ
-stashed-at r s = 8 * r + s
+stashed-at r s = 6 * r + 2 * s + 1
+
+abbrev pub sets-at : ℕ → ℕ → ℕ
+sets-at r s = 6 * r + 3 * s + 1
+
+abbrev pub next-at : ℕ → ℕ → ℕ
+next-at r s = 8 * r + 3 * s + 1
 
 abbrev pub used : ℕ → ℕ → ℕ
-used r s = 8 * r + 2 * s
+used r s = 10 * r + 4 * s + 2
 
-pub record PartsSized (r s : ℕ) (P : Parts) : Type 0 where
-  pub keys-size : length (P .keys) ≡ 2 * r + s
-  pub held-size : length (P .held) ≡ 2 * r
-  pub next-size : length (P .next) ≡ 2 * r
-  pub sets-size : length (P .sets) ≡ 2 * r
+pub record PartsSized (r s n : ℕ) (P : Parts) : Type 0 where
+  pub few : n ≤ 2 * r + s
+  pub keys-size : length (P .keys) ≡ 2 * r + s + 1
+  pub graph-size : length (P .graph) ≡ 2 * r + n
+  pub gap-size : length (P .gap) ≡ 2 * r + s - n
   pub stash-size : length (P .stash) ≡ s
+  pub sets-size : length (P .sets) ≡ 2 * r
+  pub next-size : length (P .next) ≡ 2 * r + s + 1
 
--- the parts of given words
-unfoldable pub parts : ℕ → ℕ → List ℕ → Parts
-parts r s xs =
+-- the parts of given words, with the edges of n ranks
+unfoldable pub parts : ℕ → ℕ → ℕ → List ℕ → Parts
+parts r s n xs =
     record {
-      keys = take (2 * r + s) xs;
-      held = take (2 * r) (drop (held-at r s) xs);
-      next = take (2 * r) (drop (next-at r s) xs);
-      sets = take (2 * r) (drop (sets-at r s) xs);
+      keys = take (2 * r + s + 1) xs;
+      graph = take (2 * r + n) (drop (held-at r s) xs);
+      gap = take (2 * r + s - n) (drop (edges-at r s + n) xs);
       stash = take s (drop (stashed-at r s) xs);
+      sets = take (2 * r) (drop (sets-at r s) xs);
+      next = take (2 * r + s + 1) (drop (next-at r s) xs);
       rest = drop (used r s) xs;
     }
 
@@ -84,94 +92,112 @@ module _ {at : ℕ} {of : List ℕ → List ℕ} (L : PartAt at of) (X : List �
       sym (set-mid-at at (length X) v (of X) x (rw p l)) ∙ (rw p (place-put (length X) refl (set X v x)))
 
 -- the parts with another one of them
-abbrev pub with-held : Parts → List ℕ → Parts
-with-held P ys = record { keys = P .keys; held = ys; next = P .next; sets = P .sets; stash = P .stash; rest = P .rest }
-
-abbrev pub with-next : Parts → List ℕ → Parts
-with-next P ys = record { keys = P .keys; held = P .held; next = ys; sets = P .sets; stash = P .stash; rest = P .rest }
-
-abbrev pub with-sets : Parts → List ℕ → Parts
-with-sets P ys = record { keys = P .keys; held = P .held; next = P .next; sets = ys; stash = P .stash; rest = P .rest }
+abbrev pub with-graph : Parts → List ℕ → Parts
+with-graph P ys = record { keys = P .keys; graph = ys; gap = P .gap; stash = P .stash; sets = P .sets; next = P .next; rest = P .rest }
 
 abbrev pub with-stash : Parts → List ℕ → Parts
-with-stash P ys = record { keys = P .keys; held = P .held; next = P .next; sets = P .sets; stash = ys; rest = P .rest }
+with-stash P ys = record { keys = P .keys; graph = P .graph; gap = P .gap; stash = ys; sets = P .sets; next = P .next; rest = P .rest }
+
+abbrev pub with-sets : Parts → List ℕ → Parts
+with-sets P ys = record { keys = P .keys; graph = P .graph; gap = P .gap; stash = P .stash; sets = ys; next = P .next; rest = P .rest }
+
+abbrev pub with-next : Parts → List ℕ → Parts
+with-next P ys = record { keys = P .keys; graph = P .graph; gap = P .gap; stash = P .stash; sets = P .sets; next = ys; rest = P .rest }
 
 -- the place of each of these
-module _ {r s : ℕ} {P : Parts} (Z : PartsSized r s P) where
-  pub held-place : PartAt (held-at r s) (λ ys. glue (with-held P ys))
-  held-place = record { front = P .keys; back = P .next ++ (P .sets ++ (P .stash ++ P .rest)); long = Z .keys-size; is = λ ys. refl }
+module _ {r s n : ℕ} {P : Parts} (Z : PartsSized r s n P) where
+  pub graph-place : PartAt (held-at r s) (λ ys. glue (with-graph P ys))
+  graph-place = record {
+    front = P .keys;
+    back = P .gap ++ (P .stash ++ (P .sets ++ (P .next ++ P .rest)));
+    long = Z .keys-size;
+    is = λ ys. refl;
+  }
 
-  pub next-place : PartAt (next-at r s) (λ ys. glue (with-next P ys))
-  next-place = record {
-    front = P .keys ++ P .held;
-    back = P .sets ++ (P .stash ++ P .rest);
-    long = simp (length-append, Z .keys-size, Z .held-size) (omega arith);
+  pub stash-place : PartAt (stashed-at r s) (λ ys. glue (with-stash P ys))
+  stash-place = record {
+    front = P .keys ++ (P .graph ++ P .gap);
+    back = P .sets ++ (P .next ++ P .rest);
+    long = simp (length-append, Z .keys-size, Z .graph-size, Z .gap-size) (omega (arith, Z .few));
     is = λ ys. simp append-assoc;
   }
 
   pub sets-place : PartAt (sets-at r s) (λ ys. glue (with-sets P ys))
   sets-place = record {
-    front = P .keys ++ (P .held ++ P .next);
-    back = P .stash ++ P .rest;
-    long = simp (length-append, Z .keys-size, Z .held-size, Z .next-size) (omega arith);
+    front = P .keys ++ (P .graph ++ (P .gap ++ P .stash));
+    back = P .next ++ P .rest;
+    long = simp (length-append, Z .keys-size, Z .graph-size, Z .gap-size, Z .stash-size) (omega (arith, Z .few));
     is = λ ys. simp append-assoc;
   }
 
-  pub stash-place : PartAt (stashed-at r s) (λ ys. glue (with-stash P ys))
-  stash-place = record {
-    front = P .keys ++ (P .held ++ (P .next ++ P .sets));
+  pub next-place : PartAt (next-at r s) (λ ys. glue (with-next P ys))
+  next-place = record {
+    front = P .keys ++ (P .graph ++ (P .gap ++ (P .stash ++ P .sets)));
     back = P .rest;
-    long = simp (length-append, Z .keys-size, Z .held-size, Z .next-size, Z .sets-size) (omega arith);
+    long = simp (length-append, Z .keys-size, Z .graph-size, Z .gap-size, Z .stash-size, Z .sets-size) (omega (arith, Z .few));
     is = λ ys. simp append-assoc;
   }
 
 -- words that are long enough are their parts
-part-length : (n at : ℕ) (xs : List ℕ) → at + n ≤ length xs → length (take n (drop at xs)) ≡ n
-part-length n at xs h = simp (length-take, length-drop) (omega arith)
+part-length : (k at : ℕ) (xs : List ℕ) → at + k ≤ length xs → length (take k (drop at xs)) ≡ k
+part-length k at xs h = simp (length-take, length-drop) (omega arith)
 
-module _ (r s : ℕ) (xs : List ℕ) (long : used r s ≤ length xs) where
-  pub parts-sized : PartsSized r s (parts r s xs)
+module _ (r s n : ℕ) (xs : List ℕ) (few : n ≤ 2 * r + s) (long : used r s ≤ length xs) where
+  pub parts-sized : PartsSized r s n (parts r s n xs)
   unfolding parts
   parts-sized = record {
-    keys-size = part-length (2 * r + s) 0 xs (omega arith);
-    held-size = part-length (2 * r) (held-at r s) xs (omega arith);
-    next-size = part-length (2 * r) (next-at r s) xs (omega arith);
-    sets-size = part-length (2 * r) (sets-at r s) xs (omega arith);
+    few = few;
+    keys-size = part-length (2 * r + s + 1) 0 xs (omega arith);
+    graph-size = part-length (2 * r + n) (held-at r s) xs (omega arith);
+    gap-size = part-length (2 * r + s - n) (edges-at r s + n) xs (omega arith);
     stash-size = part-length s (stashed-at r s) xs (omega arith);
+    sets-size = part-length (2 * r) (sets-at r s) xs (omega arith);
+    next-size = part-length (2 * r + s + 1) (next-at r s) xs (omega arith);
   }
 
   -- the next stretch of words, and what comes after it
-  stretch : (n at end : ℕ) → at + n ≡ end → take n (drop at xs) ++ drop end xs ≡ drop at xs
-  stretch n at end e = rw (← e, ← drop-drop n at xs) (take-append-drop n (drop at xs))
+  stretch : (k at end : ℕ) → at + k ≡ end → take k (drop at xs) ++ drop end xs ≡ drop at xs
+  stretch k at end e = rw (← e, ← drop-drop k at xs) (take-append-drop k (drop at xs))
 
-  pub glue-parts : glue (parts r s xs) ≡ xs
+  pub glue-parts : glue (parts r s n xs) ≡ xs
   unfolding parts
   glue-parts =
       rw (
-        stretch s (stashed-at r s) (used r s) (omega arith),
-        stretch (2 * r) (sets-at r s) (stashed-at r s) (omega arith),
-        stretch (2 * r) (next-at r s) (sets-at r s) (omega arith),
-        stretch (2 * r) (held-at r s) (next-at r s) (omega arith),
+        stretch (2 * r + s + 1) (next-at r s) (used r s) (omega arith),
+        stretch (2 * r) (sets-at r s) (next-at r s) (omega arith),
+        stretch s (stashed-at r s) (sets-at r s) (omega arith),
+        stretch (2 * r + s - n) (edges-at r s + n) (stashed-at r s) (omega arith),
+        stretch (2 * r + n) (held-at r s) (edges-at r s + n) (omega arith),
       )
-      (take-append-drop (2 * r + s) xs)
+      (take-append-drop (2 * r + s + 1) xs)
 
 -- and parts of these sizes are the parts of their words
-module _ {r s : ℕ} {P : Parts} (Z : PartsSized r s P) where
+module _ {r s n : ℕ} {P : Parts} (Z : PartsSized r s n P) where
   rest-place : drop (used r s) (glue P) ≡ P .rest
   rest-place =
-      let front = P .keys ++ (P .held ++ (P .next ++ (P .sets ++ P .stash))) in
+      let front = P .keys ++ (P .graph ++ (P .gap ++ (P .stash ++ (P .sets ++ P .next)))) in
       let e : glue P ≡ front ++ P .rest = simp append-assoc in
-      let long : length front ≡ used r s = simp (length-append, Z .keys-size, Z .held-size, Z .next-size, Z .sets-size, Z .stash-size) (omega arith) in
+      let long : length front ≡ used r s =
+      simp (length-append, Z .keys-size, Z .graph-size, Z .gap-size, Z .stash-size, Z .sets-size, Z .next-size) (omega (arith, Z .few)) in
       rw e (drop-at front (P .rest) (used r s) long)
 
-  pub parts-glue : parts r s (glue P) ≡ P
+  gap-place : PartAt (edges-at r s + n) (λ ys. P .keys ++ (P .graph ++ (ys ++ (P .stash ++ (P .sets ++ (P .next ++ P .rest))))))
+  gap-place = record {
+    front = P .keys ++ P .graph;
+    back = P .stash ++ (P .sets ++ (P .next ++ P .rest));
+    long = simp (length-append, Z .keys-size, Z .graph-size) (omega arith);
+    is = λ ys. simp append-assoc;
+  }
+
+  pub parts-glue : parts r s n (glue P) ≡ P
   unfolding parts
   parts-glue =
       rw (
-        take-at (P .keys) _ (2 * r + s) (Z .keys-size),
-        place-part (held-place Z) (P .held) (2 * r) (Z .held-size),
-        place-part (next-place Z) (P .next) (2 * r) (Z .next-size),
-        place-part (sets-place Z) (P .sets) (2 * r) (Z .sets-size),
+        take-at (P .keys) _ (2 * r + s + 1) (Z .keys-size),
+        place-part (graph-place Z) (P .graph) (2 * r + n) (Z .graph-size),
+        place-part gap-place (P .gap) (2 * r + s - n) (Z .gap-size),
         place-part (stash-place Z) (P .stash) s (Z .stash-size),
+        place-part (sets-place Z) (P .sets) (2 * r) (Z .sets-size),
+        place-part (next-place Z) (P .next) (2 * r + s + 1) (Z .next-size),
         rest-place,
       )

@@ -2,8 +2,8 @@
 // `cuckoo` defines, and how they lie in scratch. The code is in `linking` (steps 1 and 2), `noting` (step 3) and
 // `seating` (steps 4 and 5, and the whole).
 
-// How many keys the stash has, or that there is no room for one more.
+// How many ranks the stash has, or that there is no room for one more.
 pub enum StashCount {
-    Keys(u32),
+    Ranks(u32),
     Overflow,
 }

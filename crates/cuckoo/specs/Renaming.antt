@@ -236,6 +236,15 @@ getD-up (some h k) (suc i) (suc j) l m = getD-up k i j (omega arith) (omega arit
 abbrev pub ranks : ℕ → List ℕ
 ranks n = from 1 n
 
+-- one more
+from-more : (i k : ℕ) → from i (suc k) ≡ from i k ++ (i + k) ∷ []
+unfolding from
+from-more i zero = let e : i + 0 ≡ i = omega arith in rw e
+from-more i (suc k) = let e : i + suc k ≡ suc i + k = omega arith in rw (e, ← from-more (suc i) k)
+
+pub ranks-more : (k : ℕ) → ranks (suc k) ≡ ranks k ++ suc k ∷ []
+ranks-more k = let e : 1 + k ≡ suc k = omega arith in rw (from-more 1 k, e)
+
 abbrev pub ranked : List ℕ → ℕ → ℕ
 ranked K i = getD (0 ∷ K) i 0
 

@@ -1,66 +1,79 @@
-// Steps 1 and 2 of the build: the ascending keys are linked into Kruskal's forest, in the held words and the sets, and
-// each slot gets its label. Every function takes the whole of scratch and lends one part of it.
+// Steps 1 and 2 of the build: the ranks are linked into Kruskal's forest, ascending, in the graph and the sets, and each
+// rank gets its label. Every function takes the whole of scratch and lends one part of it.
 ghost use mathlib.Core.Path.{_≡_};
 ghost use mathlib.Core.Bool.{cond};
 ghost use Prim.Native.Nat.{_+_, _*_, _≤_, _<_};
 ghost use lib.Dec.{ltb};
-ghost use Rattle.tabulation.specs.Hash.{tables};
-ghost use Rattle.forest.specs.HeldForest.{rerooted};
+ghost use lib.ListN.{length, set};
+ghost use Rattle.forest.specs.Edges.{Edges, edge-at};
+ghost use Rattle.forest.specs.Graph.{Graph, edges-in, rerooted};
 ghost use Rattle.partition.specs.Words.{Representative, Mergeable, rep-of, size-of, united};
-ghost use Rattle.build.specs.Scratch.{parts, glue, with-held, with-sets};
-ghost use Rattle.build.specs.Access.{Enough, Room};
-ghost use Rattle.build.specs.Link.{unlinked};
-ghost use Rattle.build.specs.LinkCode.{Found, linking-in, relinked, first-keys, link-words, keys-words, linked-words};
-ghost use Rattle.build.specs.LinkCode.{label-words, Linkable, Solid};
+ghost use Rattle.build.specs.Scratch.{parts, with-graph, with-sets, with-next};
+ghost use Rattle.build.specs.Access.{Enough};
+ghost use Rattle.build.specs.LinkCode.{Found, Linkable, rank-linked, ranks-linked, unlinked-parts, linked-parts};
+ghost use Rattle.build.specs.LinkCode.{labelled-parts};
+use parts::edges_start;
 use parts::held_start;
 use parts::next_start;
 use parts::sets_start;
-use parts::stashed_start;
 use words::wide;
 
+// An edge has the slot in table 0, and this times the slot in table 1.
+const SLOTS: u32 = 2_048;
+
 // The representative of a slot's set.
-fn set_of(scratch: &[u32], r: u32, s: u32, slot: u32) -> u32
-    requires { ⌜ Enough r s (now scratch) × (slot < 2 * r) ⌝ }
-    ensures { λ w. ⌜ w ≡ rep-of (parts r s (now (scratch .entry)) .sets) slot ⌝ }
+fn set_of(scratch: &[u32], r: u32, s: u32, n: usize, slot: u32) -> u32
+    requires { ⌜ Enough r s n (now scratch) × (slot < 2 * r) ⌝ }
+    ensures { λ w. ⌜ w ≡ rep-of (parts r s n (now (scratch .entry)) .sets) slot ⌝ }
 {
     let start = sets_start(r, s);
-    let end = stashed_start(r, s);
+    let end = next_start(r, s);
     partition::representative(&scratch[start..end], slot)
 }
 
 // The number of slots in the set of a representative.
-fn set_size(scratch: &[u32], r: u32, s: u32, rep: u32) -> u32
-    requires { ⌜ Enough r s (now scratch) × Representative (parts r s (now scratch) .sets) rep ⌝ }
-    ensures { λ n. ⌜ n ≡ size-of (parts r s (now (scratch .entry)) .sets) rep ⌝ }
+fn set_size(scratch: &[u32], r: u32, s: u32, n: usize, rep: u32) -> u32
+    requires { ⌜ Enough r s n (now scratch) × Representative (parts r s n (now scratch) .sets) rep ⌝ }
+    ensures { λ k. ⌜ k ≡ size-of (parts r s n (now (scratch .entry)) .sets) rep ⌝ }
 {
     let start = sets_start(r, s);
-    let end = stashed_start(r, s);
+    let end = next_start(r, s);
     partition::size(&scratch[start..end], rep)
 }
 
 // Two sets become one.
-fn unite_sets(scratch: &mut [u32], r: u32, s: u32, first: u32, second: u32)
-    requires { ⌜ Enough r s (now scratch) × Mergeable (parts r s (now scratch) .sets) first second ⌝ }
-    ensures { λ _. ⌜ now (scratch .exit) ≡ glue (with-sets (parts r s (now (scratch .entry)))
-        (united (parts r s (now (scratch .entry)) .sets) first second)) ⌝ }
+fn unite_sets(scratch: &mut [u32], r: u32, s: u32, n: usize, first: u32, second: u32)
+    requires { ⌜ Enough r s n (now scratch) × Mergeable (parts r s n (now scratch) .sets) first second ⌝ }
+    ensures { λ _. ⌜ parts r s n (now (scratch .exit)) ≡ with-sets (parts r s n (now (scratch .entry)))
+        (united (parts r s n (now (scratch .entry)) .sets) first second) ⌝ }
 {
     let start = sets_start(r, s);
-    let end = stashed_start(r, s);
+    let end = next_start(r, s);
     partition::unite(&mut scratch[start..end], first, second);
 }
 
-// The tree of a slot is re-rooted there, with the key `carry`.
-fn reroot_held(scratch: &mut [u32], tabulation: &[u16], r: u32, s: u32, slot: u32, carry: u32)
-    requires { ⌜ Room (now tabulation) r s (now scratch) × (slot < 2 * r) ⌝ }
-    ensures { λ _. ⌜ now (scratch .exit) ≡ glue (with-held (parts r s (now (scratch .entry)))
-        (rerooted (tables (now (tabulation .entry)) r) (parts r s (now (scratch .entry)) .held) carry slot)) ⌝ }
+// The tree of a slot is re-rooted there, with the rank `carry`.
+fn reroot_graph(scratch: &mut [u32], r: u32, s: u32, n: usize, slot: u32, carry: u32)
+    requires { ⌜ Enough r s n (now scratch) × Graph r (parts r s n (now scratch) .graph) × (slot < 2 * r)
+        × (carry < length (edges-in r (parts r s n (now scratch) .graph))) ⌝ }
+    ensures { λ _. ⌜ parts r s n (now (scratch .exit)) ≡ with-graph (parts r s n (now (scratch .entry)))
+        (rerooted r (parts r s n (now (scratch .entry)) .graph) carry slot) ⌝ }
 {
     let start = held_start(r, s);
-    let end = next_start(r, s);
-    forest::reroot(&mut scratch[start..end], tabulation, r, slot, carry);
+    let end = edges_start(r, s) + n;
+    forest::reroot(&mut scratch[start..end], r, slot, carry);
 }
 
-// What is found of a key: its two slots, `first` and `second`, and the representatives of their sets, `one` and `two`.
+// The edge of a rank.
+fn edge(scratch: &[u32], r: u32, s: u32, n: usize, rank: u32) -> u32
+    requires { ⌜ Enough r s n (now scratch) × (0 < rank) × (rank ≤ n) ⌝ }
+    ensures { λ e. ⌜ e ≡ edge-at r (edges-in r (parts r s n (now (scratch .entry)) .graph)) rank ⌝ }
+{
+    let at = edges_start(r, s) + wide(rank) - 1;
+    scratch[at]
+}
+
+// What is found of a rank: its two slots, `first` and `second`, and the representatives of their sets, `one` and `two`.
 struct Ends {
     first: u32,
     second: u32,
@@ -68,15 +81,17 @@ struct Ends {
     two: u32,
 }
 
-fn ends_of(scratch: &[u32], tabulation: &[u16], r: u32, s: u32, key: u32) -> Ends
-    requires { ⌜ Room (now tabulation) r s (now scratch) ⌝ }
-    ensures { λ e. ⌜ Found (tables (now (tabulation .entry)) r) (parts r s (now (scratch .entry)) .sets) key
-        (e .first) (e .second) (e .one) (e .two) ⌝ }
+fn ends_of(scratch: &[u32], r: u32, s: u32, n: usize, rank: u32) -> Ends
+    requires { ⌜ Enough r s n (now scratch) × (0 < rank) × (rank ≤ n)
+        × Edges r (edges-in r (parts r s n (now scratch) .graph)) ⌝ }
+    ensures { λ e. ⌜ Found r (edges-in r (parts r s n (now (scratch .entry)) .graph))
+        (parts r s n (now (scratch .entry)) .sets) rank (e .first) (e .second) (e .one) (e .two) ⌝ }
 {
-    let first = tabulation::first_slot(tabulation, r, key);
-    let second = tabulation::second_slot(tabulation, r, key);
-    let one = set_of(scratch, r, s, first);
-    let two = set_of(scratch, r, s, second);
+    let word = edge(scratch, r, s, n, rank);
+    let first = word % SLOTS;
+    let second = word / SLOTS % SLOTS;
+    let one = set_of(scratch, r, s, n, first);
+    let two = set_of(scratch, r, s, n, second);
     Ends {
         first: first,
         second: second,
@@ -85,86 +100,95 @@ fn ends_of(scratch: &[u32], tabulation: &[u16], r: u32, s: u32, key: u32) -> End
     }
 }
 
-// The end of a key in the smaller set.
-fn smaller_end(scratch: &[u32], r: u32, s: u32, ends: Ends) -> u32
-    requires { ⌜ Enough r s (now scratch) × Representative (parts r s (now scratch) .sets) (ends .one)
-        × Representative (parts r s (now scratch) .sets) (ends .two) ⌝ }
-    ensures { λ w. ⌜ w ≡ cond (ltb (size-of (parts r s (now (scratch .entry)) .sets) (ends .one))
-        (size-of (parts r s (now (scratch .entry)) .sets) (ends .two)))
+// The end of a rank in the smaller set.
+fn smaller_end(scratch: &[u32], r: u32, s: u32, n: usize, ends: Ends) -> u32
+    requires { ⌜ Enough r s n (now scratch) × Representative (parts r s n (now scratch) .sets) (ends .one)
+        × Representative (parts r s n (now scratch) .sets) (ends .two) ⌝ }
+    ensures { λ w. ⌜ w ≡ cond (ltb (size-of (parts r s n (now (scratch .entry)) .sets) (ends .one))
+        (size-of (parts r s n (now (scratch .entry)) .sets) (ends .two)))
         (ends .first) (ends .second) ⌝ }
 {
-    if set_size(scratch, r, s, ends.one) < set_size(scratch, r, s, ends.two) {
+    if set_size(scratch, r, s, n, ends.one) < set_size(scratch, r, s, n, ends.two) {
         return ends.first;
     }
     ends.second
 }
 
-// One key: passed over where its ends are in one set already; otherwise it links two trees, and two sets become one.
-fn link_key(scratch: &mut [u32], tabulation: &[u16], r: u32, s: u32, key: u32)
-    requires { ⌜ Room (now tabulation) r s (now scratch)
-        × Linkable (tables (now tabulation) r) (linking-in r s (now scratch)) ⌝ }
-    ensures { λ _. ⌜ now (scratch .exit) ≡ link-words (tables (now (tabulation .entry)) r) s key (now (scratch .entry))
-        ⌝ }
+// The word of a rank: 2r marks one that closes a cycle, 0 one of the forest.
+fn mark(scratch: &mut [u32], r: u32, s: u32, n: usize, rank: u32, word: u32)
+    requires { ⌜ Enough r s n (now scratch) × (rank ≤ n) ⌝ }
+    ensures { λ _. ⌜ parts r s n (now (scratch .exit)) ≡ with-next (parts r s n (now (scratch .entry)))
+        (set (parts r s n (now (scratch .entry)) .next) rank word) ⌝ }
 {
-    let ends = ends_of(&*scratch, tabulation, r, s, key);
+    let at = next_start(r, s) + wide(rank);
+    scratch[at] = word;
+}
+
+// One rank: where its ends are in one set already it closes a cycle, and is marked; otherwise it links two trees, and
+// two sets become one.
+fn link_rank(scratch: &mut [u32], r: u32, s: u32, n: usize, rank: u32)
+    requires { ⌜ Enough r s n (now scratch) × (0 < rank) × (rank ≤ n) × Linkable r (parts r s n (now scratch)) ⌝ }
+    ensures { λ _. ⌜ parts r s n (now (scratch .exit)) ≡ rank-linked r rank (parts r s n (now (scratch .entry))) ⌝ }
+{
+    let ends = ends_of(&*scratch, r, s, n, rank);
     if ends.one == ends.two {
+        mark(&mut *scratch, r, s, n, rank, 2 * r);
         return;
     }
-    let end = smaller_end(&*scratch, r, s, ends);
-    reroot_held(&mut *scratch, tabulation, r, s, end, key);
-    unite_sets(&mut *scratch, r, s, ends.one, ends.two);
+    let end = smaller_end(&*scratch, r, s, n, ends);
+    mark(&mut *scratch, r, s, n, rank, 0);
+    reroot_graph(&mut *scratch, r, s, n, end, rank);
+    unite_sets(&mut *scratch, r, s, n, ends.one, ends.two);
 }
 
 // Every slot bare, and alone in its set.
-fn unlink(scratch: &mut [u32], r: u32, s: u32)
-    requires { ⌜ Enough r s (now scratch) ⌝ }
-    ensures { λ _. ⌜ now (scratch .exit) ≡ relinked r s (now (scratch .entry)) (unlinked (2 * r)) ⌝ }
+fn unlink(scratch: &mut [u32], r: u32, s: u32, n: usize)
+    requires { ⌜ Enough r s n (now scratch) ⌝ }
+    ensures { λ _. ⌜ parts r s n (now (scratch .exit)) ≡ unlinked-parts r (parts r s n (now (scratch .entry))) ⌝ }
 {
     let start = held_start(r, s);
-    let end = next_start(r, s);
+    let end = edges_start(r, s);
     words::fill(&mut scratch[start..end], 0);
     let first = sets_start(r, s);
-    let last = stashed_start(r, s);
+    let last = next_start(r, s);
     partition::singletons(&mut scratch[first..last]);
 }
 
-// The first n keys, ascending.
-fn link_each(scratch: &mut [u32], tabulation: &[u16], r: u32, s: u32, n: usize)
-    requires { ⌜ Room (now tabulation) r s (now scratch) × (n ≤ 2 * r + s)
-        × Linkable (tables (now tabulation) r) (linking-in r s (now scratch))
-        × Solid (first-keys r s n (now scratch)) ⌝ }
-    ensures { λ _. ⌜ now (scratch .exit) ≡ keys-words (tables (now (tabulation .entry)) r) s n (now (scratch .entry)) ⌝ }
+// The ranks 1 to n.
+fn link_each(scratch: &mut [u32], r: u32, s: u32, n: usize)
+    requires { ⌜ Enough r s n (now scratch) × Linkable r (parts r s n (now scratch)) ⌝ }
+    ensures { λ _. ⌜ parts r s n (now (scratch .exit)) ≡ ranks-linked r n (parts r s n (now (scratch .entry))) ⌝ }
 {
+    let last = n as u32;
     let mut i = 0;
-    while i < n {
-        let key = scratch[i];
-        link_key(&mut *scratch, tabulation, r, s, key);
+    while i < last {
         i += 1;
+        link_rank(&mut *scratch, r, s, n, i);
     }
 }
 
-// Step 1, whatever stood in the held words and the sets.
-pub fn link_keys(scratch: &mut [u32], tabulation: &[u16], r: u32, s: u32, n: usize)
-    requires { ⌜ Room (now tabulation) r s (now scratch) × (n ≤ 2 * r + s) × Solid (first-keys r s n (now scratch)) ⌝ }
-    ensures { λ _. ⌜ now (scratch .exit) ≡ linked-words (tables (now (tabulation .entry)) r) s n (now (scratch .entry))
-        ⌝ }
+// Step 1, whatever stood in the held words, the sets and the words of the ranks.
+pub fn link_ranks(scratch: &mut [u32], r: u32, s: u32, n: usize)
+    requires { ⌜ Enough r s n (now scratch) × Edges r (edges-in r (parts r s n (now scratch) .graph)) ⌝ }
+    ensures { λ _. ⌜ parts r s n (now (scratch .exit)) ≡ linked-parts r n (parts r s n (now (scratch .entry))) ⌝ }
 {
-    unlink(&mut *scratch, r, s);
-    link_each(&mut *scratch, tabulation, r, s, n);
+    unlink(&mut *scratch, r, s, n);
+    link_each(&mut *scratch, r, s, n);
 }
 
-// Step 2: the label of each slot, its representative, goes into the slot's next word.
-pub fn label_slots(scratch: &mut [u32], r: u32, s: u32)
-    requires { ⌜ Enough r s (now scratch) ⌝ }
-    ensures { λ _. ⌜ now (scratch .exit) ≡ label-words r s (now (scratch .entry)) ⌝ }
+// Step 2: the label of each rank, the representative of its slot in table 0, is added to its word.
+pub fn label_ranks(scratch: &mut [u32], r: u32, s: u32, n: usize)
+    requires { ⌜ Enough r s n (now scratch) × Edges r (edges-in r (parts r s n (now scratch) .graph)) ⌝ }
+    ensures { λ _. ⌜ parts r s n (now (scratch .exit)) ≡ labelled-parts r n (parts r s n (now (scratch .entry))) ⌝ }
 {
-    let start = next_start(r, s);
-    let slots = 2 * r;
-    let mut v = 0;
-    while v < slots {
-        let label = set_of(&*scratch, r, s, v);
-        let at = start + wide(v);
-        scratch[at] = label;
-        v += 1;
+    let next = next_start(r, s);
+    let last = n as u32;
+    let mut i = 0;
+    while i < last {
+        i += 1;
+        let slot = edge(&*scratch, r, s, n, i) % SLOTS;
+        let label = set_of(&*scratch, r, s, n, slot);
+        let at = next + wide(i);
+        scratch[at] = scratch[at] + label;
     }
 }

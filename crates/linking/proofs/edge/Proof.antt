@@ -1,0 +1,29 @@
+-- `linking::edge` meets its contract.
+use native.Mathlib.Omega.{arith}
+use borrow.Author.Needs.{needs}
+use Rattle.linking.proofs.edge.Statement.{statement}
+use Rattle.linking.proofs.edge.Tie as tie
+
+edges-start-requires : tie.Need-edges-start-requires
+edges-start-requires c κs = search needs
+
+wide-requires : tie.Need-wide-requires
+wide-requires c κs = search needs
+
+add-at : tie.Need-add-at
+add-at c = search needs
+
+sub-at : tie.Need-sub-at
+sub-at c = search needs
+
+mul-result : tie.Need-mul-result
+mul-result c = search needs
+
+shared-slice-read-result : tie.Need-shared-slice-read-result
+shared-slice-read-result c = search needs
+
+returns : tie.Need-returns
+returns c = search needs
+
+pub edge-spec : {M : Type 1} → statement M
+edge-spec = tie.close (tie.spec edges-start-requires wide-requires add-at sub-at mul-result shared-slice-read-result returns)
