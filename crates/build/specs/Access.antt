@@ -1,12 +1,13 @@
 -- What a pass asks of scratch, and the parts of scratch as code reads, writes and lends them. Each law says that the parts are as they were but for one,
 -- so that the passes are followed part by part. Assumes nothing.
-use Prim.Native.Nat.{ℕ, _+_, _*_, _-_, _≤_, _<_}
+use Prim.Native.Nat.{ℕ, suc, _+_, _*_, _-_, _≤_, _<_}
 use mathlib.Core.Path.{_≡_, refl, sym, _∙_, ap}
 use mathlib.Core.List.{List, _++_, append-assoc}
 use native.Mathlib.Omega.{arith}
 use lib.ListN.{length, getD, set, take, drop, length-set, length-append, length-take, length-drop, take-append-drop}
 use borrow.Rule.Slice.PartMut.{midOf, putMid}
-use Rattle.forest.specs.Graph.{held-in, with-held}
+use Rattle.forest.specs.Edges.{edge-at}
+use Rattle.forest.specs.Graph.{held-in, edges-in, with-held, edges-length, edge-word}
 use Rattle.build.specs.Scratch.{Parts, glue, parts, held-at, edges-at, stashed-at, sets-at, next-at, used, PartsSized, PartAt, place-word, place-part, place-put, place-set}
 use Rattle.build.specs.Scratch.{with-graph, with-stash, with-sets, with-next, graph-place, stash-place, sets-place, next-place}
 use Rattle.build.specs.Scratch.{parts-sized, glue-parts, parts-glue}
@@ -120,3 +121,13 @@ module _ {r s n at end k : ℕ} {xs X : List ℕ} {new : List ℕ → Parts} (Q 
         → parts r s n (putMid a (e - a) xs ys) ≡ new (f X)
     part-renewed f {ys} is l =
         rw (count, start, ← Q .whole, place-put (Q .place) X k (Q .size) ys) (parts-glue (Q .sized ys (l ∙ part-long))) ∙ ap new (is ∙ ap f part-lent)
+
+-- the edge of a rank, read at i
+module _ {r s n : ℕ} {xs : List ℕ} (E : Enough r s n xs) where
+  pub edges-count : length (edges-in r (parts r s n xs .graph)) ≡ suc n
+  edges-count = omega (arith, edges-length r (parts r s n xs .graph), parts-fit E .graph-size)
+
+  pub edge-at-word : {i rank : ℕ} → i ≡ edges-at r s + rank - 1 → 0 < rank → rank ≤ n → getD xs i 0 ≡ edge-at r (edges-in r (parts r s n xs .graph)) rank
+  edge-at-word {i} {rank} is some few =
+      let at : i ≡ held-at r s + (2 * r + rank - 1) = omega arith in
+      part-word (graph-part E) at (omega arith) ∙ edge-word r (parts r s n xs .graph) rank some (omega (arith, edges-count))

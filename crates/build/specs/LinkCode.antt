@@ -8,7 +8,7 @@ use mathlib.Core.Bool.{cond}
 use native.Mathlib.Omega.{arith}
 use lib.Dec.{eqb, ltb}
 use lib.ListN.{length, getD, replicate, drop, length-replicate, length-append, set}
-use lib.Seq.{take-at, drop-at}
+use lib.Seq.{take-at, drop-at, getD-set-other}
 use borrow.Author.Tests.{eq-eqb, ne-eqb}
 use Rattle.basics.specs.Tests.{test}
 use Rattle.cuckoo.specs.Renaming.{from, ranks, ranks-more, from-in}
@@ -21,7 +21,8 @@ use Rattle.build.specs.EachSlot.{each-slot, each-slot-none, each-slot-st
 use Rattle.build.specs.Link.{Linking, smaller-end, link-key, link-keys, unlinked, Sound, sound-start, sound-key}
 use Rattle.build.specs.Labels.{add-label, labelled}
 use Rattle.build.specs.Built.{linking}
-use Rattle.build.specs.Scratch.{Parts, with-graph, with-sets, with-next}
+use Rattle.build.specs.Access.{Enough}
+use Rattle.build.specs.Scratch.{Parts, parts, with-graph, with-sets, with-next}
 
 module _ (r : ℕ) where
   -- the held words, the sets and the words of the ranks, as they stand in the parts; and the parts with others
@@ -109,16 +110,26 @@ module _ {r : ℕ} {P : Parts} (Q : Linkable r P) {rank first second one two : �
   within-sets e =
       rw (eq-eqb (rep-of (P .sets) (end-0 r E rank)) (rep-of (P .sets) (end-1 r E rank)) (sym (first-set K) ∙ e ∙ second-set K), with-own (Q .graph))
 
-  pub between-sets : (one ≡ two → ⊥) → (end : ℕ) → end ≡ cond (ltb (size-of (P .sets) one) (size-of (P .sets) two)) first second
-      → with-sets (with-graph (with-next P (set (P .next) rank 0)) (rerooted r (P .graph) rank end)) (united (P .sets) one two) ≡ rank-linked r rank P
-  unfolding link-key
-  between-sets n end e =
-      rw (
-        ne-eqb (rep-of (P .sets) (end-0 r E rank)) (rep-of (P .sets) (end-1 r E rank)) (λ q. n (first-set K ∙ q ∙ sym (second-set K))),
-        found-end K end e,
-        first-set K,
-        second-set K,
-      )
+  module _ {P₁ : Parts} (marked : P₁ ≡ with-next P (set (P .next) rank 0)) where
+    pub marked-graph : P₁ .graph ≡ P .graph
+    marked-graph = ap (λ (Z : Parts). Z .graph) marked
+
+    module _ {P₂ : Parts} (end : ℕ) (turned : P₂ ≡ with-graph P₁ (rerooted r (P₁ .graph) rank end)) where
+      pub turned-sets : P₂ .sets ≡ P .sets
+      turned-sets = ap (λ (Z : Parts). Z .sets) turned ∙ ap (λ (Z : Parts). Z .sets) marked
+
+      pub between-sets : (one ≡ two → ⊥) → end ≡ cond (ltb (size-of (P .sets) one) (size-of (P .sets) two)) first second
+          → {P₃ : Parts} → P₃ ≡ with-sets P₂ (united (P₂ .sets) one two) → P₃ ≡ rank-linked r rank P
+      unfolding link-key
+      between-sets n e joined =
+          joined ∙ (rw (
+            ne-eqb (rep-of (P .sets) (end-0 r E rank)) (rep-of (P .sets) (end-1 r E rank)) (λ q. n (first-set K ∙ q ∙ sym (second-set K))),
+            turned,
+            marked,
+            found-end K end e,
+            first-set K,
+            second-set K,
+          ))
 
 -- rank by rank
 module _ {r : ℕ} {E : List ℕ} (G : Edges r E) where
@@ -225,6 +236,20 @@ module _ {r : ℕ} (P : Parts) (edges : Edges r (edges-in r (P .graph))) (long :
   pub start-all : (n : ℕ) → ranks-linked r n (unlinked-parts r P) ≡ linked-parts r n P
   unfolding linking
   start-all n = rw (start-edges, start-linking) (start-again (linked-ranks r (edges-in r (P .graph)) (ranks n) (unlinked (2 * r) (P .next))))
+
+-- the held words filled, then the sets, each part as long as it was
+pub unlinked-done : {r s n : ℕ} {xs : List ℕ} {Q R : Parts} → Enough r s n xs → let P = parts r s n xs in Q ≡ with-graph P (with-held r (P .graph) (replicate (length (held-in r (P .graph))) 0))
+    → R ≡ with-sets Q (singletons-of (length (Q .sets))) → length (held-in r (P .graph)) ≡ 2 * r → length (Q .sets) ≡ 2 * r → R ≡ unlinked-parts r P
+unfolding unlinked
+unlinked-done E e f h k = f ∙ (rw (k, e, h))
+
+-- the words of the ranks after i are marks, 0 or 2r, or at least not larger
+pub record Marks (r n i : ℕ) (next : List ℕ) : Type 0 where
+  pub low : (x : ℕ) → i < x → x ≤ n → getD next x 0 ≤ 2 * r
+
+-- one more is labelled
+pub marks-more : {r n i : ℕ} {next : List ℕ} (x : ℕ) → Marks r n i next → Marks r n (suc i) (set next (suc i) x)
+marks-more {i = i} {next = next} x M = record { low = λ y l k. rw (getD-set-other next (suc i) y x 0 (λ q. omega arith)) (M .low y (omega arith) k) }
 
 -- step 2: the labels of the ranks after i are still to come
 module _ (r n : ℕ) where

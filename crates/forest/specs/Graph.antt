@@ -85,6 +85,24 @@ fit-reroot other (suc k) h carry v F l = elim (eq? (getD h v 0) 0) [
   | inr n ↦ rw (reroot-step other k h carry v n) (fit-reroot other k (set h v carry) (getD h v 0) (other v (getD h v 0)) (fit-set v carry F l) (F .at v))
 ]
 
+module _ (r : ℕ) (g : List ℕ) where
+  pub edges-length : length (edges-in r g) ≡ suc (length g - 2 * r)
+  unfolding edges-in
+  edges-length = ap suc (length-drop (2 * r) g)
+
+  -- the edge of a rank, read
+  pub edge-word : (rank : ℕ) → 0 < rank → rank < length (edges-in r g) → getD g (2 * r + rank - 1) 0 ≡ edge-at r (edges-in r g) rank
+  unfolding edges-in
+  edge-word zero l k = absurd (omega arith)
+  edge-word (suc i) l k =
+      let e : 2 * r + suc i - 1 ≡ 2 * r + i = omega arith in
+      rw e (sym (getD-drop (2 * r) g i 0) ∙ sym (edge-read r (edges-in r g) (suc i) k))
+
+  -- rank 0 has the first slot
+  pub first-none : first-slot r g 0 ≡ 0
+  unfolding edges-in end-0 edge-at
+  first-none = omega arith
+
 -- other held words, as many: the edges stay, and it is a graph if each of them is a rank or 0
 module _ {r : ℕ} {g : List ℕ} (G : Graph r g) where
   pub held-long : length (held-in r g) ≡ 2 * r
@@ -114,23 +132,6 @@ module _ {r : ℕ} {g : List ℕ} (G : Graph r g) where
   -- a held word, read and written
   pub held-word : (v : ℕ) → v < 2 * r → getD g v 0 ≡ getD (held-in r g) v 0
   held-word v l = sym (getD-take (2 * r) g v 0 l)
-
-  -- the edge of a rank, read
-  pub edge-word : (rank : ℕ) → 0 < rank → rank < length (edges-in r g) → getD g (2 * r + rank - 1) 0 ≡ edge-at r (edges-in r g) rank
-  unfolding edges-in
-  edge-word zero l k = absurd (omega arith)
-  edge-word (suc i) l k =
-      let e : 2 * r + suc i - 1 ≡ 2 * r + i = omega arith in
-      rw e (sym (getD-drop (2 * r) g i 0) ∙ sym (edge-read r (edges-in r g) (suc i) k))
-
-  pub edges-length : length (edges-in r g) ≡ suc (length g - 2 * r)
-  unfolding edges-in
-  edges-length = ap suc (length-drop (2 * r) g)
-
-  -- rank 0 has the first slot
-  pub first-none : first-slot r g 0 ≡ 0
-  unfolding edges-in end-0 edge-at
-  first-none = omega arith
 
 -- words that a loop has come to: the edges are those of before, and each held word is a rank or 0
 pub record Kept (r : ℕ) (before after : List ℕ) : Type 0 where

@@ -11,7 +11,7 @@ ghost use Rattle.partition.specs.Words.{Representative, Mergeable, rep-of, size
 ghost use Rattle.build.specs.Scratch.{parts, with-graph, with-sets, with-next};
 ghost use Rattle.build.specs.Access.{Enough};
 ghost use Rattle.build.specs.LinkCode.{Found, Linkable, rank-linked, ranks-linked, unlinked-parts, linked-parts};
-ghost use Rattle.build.specs.LinkCode.{labelled-parts};
+ghost use Rattle.build.specs.LinkCode.{Marks, labelled-parts};
 use parts::edges_start;
 use parts::held_start;
 use parts::next_start;
@@ -24,7 +24,7 @@ const SLOTS: u32 = 2_048;
 // The representative of a slot's set.
 fn set_of(scratch: &[u32], r: u32, s: u32, n: usize, slot: u32) -> u32
     requires { ⌜ Enough r s n (now scratch) × (slot < 2 * r) ⌝ }
-    ensures { λ w. ⌜ w ≡ rep-of (parts r s n (now (scratch .entry)) .sets) slot ⌝ }
+    ensures { λ w. ⌜ (w ≡ rep-of (parts r s n (now (scratch .entry)) .sets) slot) × (w < 2 * r) ⌝ }
 {
     let start = sets_start(r, s);
     let end = next_start(r, s);
@@ -178,7 +178,8 @@ pub fn link_ranks(scratch: &mut [u32], r: u32, s: u32, n: usize)
 
 // Step 2: the label of each rank, the representative of its slot in table 0, is added to its word.
 pub fn label_ranks(scratch: &mut [u32], r: u32, s: u32, n: usize)
-    requires { ⌜ Enough r s n (now scratch) × Edges r (edges-in r (parts r s n (now scratch) .graph)) ⌝ }
+    requires { ⌜ Enough r s n (now scratch) × Edges r (edges-in r (parts r s n (now scratch) .graph))
+        × Marks r n 0 (parts r s n (now scratch) .next) ⌝ }
     ensures { λ _. ⌜ parts r s n (now (scratch .exit)) ≡ labelled-parts r n (parts r s n (now (scratch .entry))) ⌝ }
 {
     let next = next_start(r, s);

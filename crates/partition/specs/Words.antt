@@ -4,12 +4,14 @@
 use Prim.Native.Nat.{ℕ, zero, suc, _+_, _-_, _≤_, _<_}
 use mathlib.Core.Path.{_≡_, refl}
 use mathlib.Core.Bool.{cond}
+use mathlib.Core.Logic.{inl, inr}
 use mathlib.Core.List.{List}
 use native.Mathlib.Nat.{not-suc-le-zero}
 use native.Mathlib.Numerals.{sub-one}
 use borrow.Author.Tests.{lt-ltb, le-ltb}
 use lib.Dec.{ltb}
 use lib.ListN.{length, getD, set, replicate}
+use Rattle.basics.specs.Tests.{le?}
 
 -- the most slots of both tables together, at most 1,024 each
 abbrev pub max-points : ℕ
@@ -79,3 +81,16 @@ module _ (words : List ℕ) where
   unfolding walk
   walk-step zero v h l = absurd (not-suc-le-zero l)
   walk-step (suc k) v h l = simp (lt-ltb (getD words v 0) (length words) h, sub-one)
+
+  -- from a slot it leads to a slot, whatever the words are
+  walk-fits : (k v : ℕ) → v < length words → walk words k v < length words
+  unfolding walk
+  walk-fits zero v l = l
+  walk-fits (suc k) v l = elim (le? (length words) (getD words v 0)) [
+    | inl h ↦ rw (le-ltb (getD words v 0) (length words) h) l
+    | inr h ↦ rw (lt-ltb (getD words v 0) (length words) h) (walk-fits k (getD words v 0) h)
+  ]
+
+  pub rep-fits : (v : ℕ) → v < length words → rep-of words v < length words
+  unfolding rep-of
+  rep-fits v l = walk-fits max-steps v l

@@ -24,14 +24,14 @@ mul-result : tie.Need-mul-result
 mul-result c = search needs
 
 shared-slice-read-result : tie.Need-shared-slice-read-result
-shared-slice-read-result c = let a = c .before .before .before .before .args in omega (arith, edges-length (c .before .before .before .before .pre .0))
+shared-slice-read-result c = let s = c .before .before .before .before in omega (arith, s .pre .0 .long, edges-length (s .args .r) (s .args .graph .now))
 
 returns : tie.Need-returns
 returns c =
     let s = c .before .before .before .before in
     let w1 = c .before .before .wide .ensures in
     let w2 = c .before .wide2 .ensures in
-    rw (w1, w2) (edge-word (s .pre .0) (s .args .rank) (s .pre .1) (s .pre .2))
+    rw (w1, w2) (edge-word (s .args .r) (s .args .graph .now) (s .args .rank) (s .pre .1) (s .pre .2))
 
 pub edge-spec : {M : Type 1} → statement M
 edge-spec = tie.close (tie.spec mul-wide wide-requires wide-requires-2 add-at sub-at mul-result shared-slice-read-result returns)

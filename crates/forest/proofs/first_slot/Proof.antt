@@ -10,7 +10,7 @@ use Rattle.forest.proofs.first_slot.Tie as tie
 returns : tie.Need-returns
 returns c =
     let s = c .before .before in
-    let e = first-none (s .pre .0) in
+    let e = first-none (s .args .r) (s .args .graph .now) in
     (rw (c .if1 .taken) (sym e), omega (arith, s .pre .0 .edges .some))
 
 edge-requires : tie.Need-edge-requires

@@ -1,5 +1,6 @@
--- `linking::edge` meets its contract.
+-- `linking::edge` meets its contract: the edges stand in the graph, behind the held words.
 use native.Mathlib.Omega.{arith}
+use Rattle.build.specs.Access.{edge-at-word}
 use borrow.Author.Needs.{needs}
 use Rattle.linking.proofs.edge.Statement.{statement}
 use Rattle.linking.proofs.edge.Tie as tie
@@ -23,7 +24,11 @@ shared-slice-read-result : tie.Need-shared-slice-read-result
 shared-slice-read-result c = search needs
 
 returns : tie.Need-returns
-returns c = search needs
+returns c =
+    let s = c .before .before .before .before in
+    let at = c .before .before .edges-start .ensures in
+    let w = c .before .wide .ensures in
+    edge-at-word (s .pre .0) (rw (at, w)) (s .pre .1) (s .pre .2)
 
 pub edge-spec : {M : Type 1} → statement M
 edge-spec = tie.close (tie.spec edges-start-requires wide-requires add-at sub-at mul-result shared-slice-read-result returns)

@@ -1,5 +1,6 @@
--- `linking::mark` meets its contract.
+-- `linking::mark` meets its contract: one of the words of the ranks is written.
 use native.Mathlib.Omega.{arith}
+use Rattle.build.specs.Access.{next-part, part-set}
 use borrow.Author.Needs.{needs}
 use Rattle.linking.proofs.mark.Statement.{statement}
 use Rattle.linking.proofs.mark.Tie as tie
@@ -23,7 +24,9 @@ same-length : tie.Need-same-length
 same-length c = search needs
 
 returns : tie.Need-returns
-returns c = search needs
+returns c =
+    let s = c .before .before .before in
+    part-set (next-part (s .pre .0)) (rw (c .before .next-start .ensures, c .wide .ensures)) (omega (arith, s .pre .0 .few)) (s .args .word)
 
 pub mark-spec : {M : Type 1} → statement M
 mark-spec = tie.close (tie.spec next-start-requires wide-requires add-at mul-scratch slice-write-scratch same-length returns)

@@ -1,5 +1,6 @@
--- `linking::set_size` meets its contract.
+-- `linking::set_size` meets its contract: the sets are lent whole.
 use native.Mathlib.Omega.{arith}
+use Rattle.build.specs.Access.{sets-part, part-lent}
 use borrow.Author.Needs.{needs}
 use Rattle.linking.proofs.set_size.Statement.{statement}
 use Rattle.linking.proofs.set_size.Tie as tie
@@ -23,10 +24,16 @@ part-size-end : tie.Need-part-size-end
 part-size-end c = search needs
 
 size-requires : tie.Need-size-requires
-size-requires c κs = search needs
+size-requires c κs =
+    let d = c .before in
+    let p = d .before .before .before in
+    (search needs, rw (part-lent (sets-part (p .pre .0)) (d .before .sets-start .ensures) (d .next-start .ensures)) (p .pre .1))
 
 returns : tie.Need-returns
-returns c = search needs
+returns c =
+    let d = c .before .before in
+    let p = d .before .before .before in
+    cc (c .size .ensures, part-lent (sets-part (p .pre .0)) (d .before .sets-start .ensures) (d .next-start .ensures))
 
 pub set-size-spec : {M : Type 1} → statement M
 set-size-spec = tie.close (tie.spec sets-start-requires next-start-requires mul-size sub-size part-size-start part-size-end size-requires returns)

@@ -1,5 +1,7 @@
--- `linking::unite_sets` meets its contract.
+-- `linking::unite_sets` meets its contract: the sets are lent whole, and come back united.
 use native.Mathlib.Omega.{arith}
+use Rattle.partition.specs.Words.{united}
+use Rattle.build.specs.Access.{sets-part, part-lent, part-renewed}
 use borrow.Author.Needs.{needs}
 use Rattle.linking.proofs.unite_sets.Statement.{statement}
 use Rattle.linking.proofs.unite_sets.Tie as tie
@@ -23,13 +25,20 @@ part-unite-end : tie.Need-part-unite-end
 part-unite-end c = search needs
 
 unite-requires : tie.Need-unite-requires
-unite-requires c κs = search needs
+unite-requires c κs =
+    let d = c .before in
+    let p = d .before .before .before in
+    (search needs, rw (part-lent (sets-part (p .pre .0)) (d .before .sets-start .ensures) (d .next-start .ensures)) (p .pre .1))
 
 same-length : tie.Need-same-length
 same-length c = search needs
 
 returns : tie.Need-returns
-returns c = search needs
+returns c =
+    let d = c .before .before .before .before in
+    let p = d .before .before .before in
+    part-renewed (sets-part (p .pre .0)) (d .before .sets-start .ensures) (d .next-start .ensures)
+    (λ sets. united sets (p .args .first) (p .args .second)) (c .before .before .unite .ensures) (c .before .before .unite .kept .0)
 
 pub unite-sets-spec : {M : Type 1} → statement M
 unite-sets-spec = tie.close (tie.spec sets-start-requires next-start-requires mul-unite sub-unite part-unite-start part-unite-end unite-requires same-length returns)
