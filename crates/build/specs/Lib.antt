@@ -10,4 +10,5 @@ pub mod Built
 pub mod Scratch
 pub mod Access
 pub mod LinkCode
+pub mod NotesCode
 pub mod Build

@@ -136,7 +136,7 @@ noted m (c ∷ R) N =
     (cond (ltb (N .count) (length (N .stash))) (noted m R (stash-rank m c N)) (overflowed N)))
 
 module _ (m c : ℕ) (R : List ℕ) (N : Noting) where
-  noted-on : getD (N .next) c 0 < m → noted m (c ∷ R) N ≡ noted m R N
+  pub noted-on : getD (N .next) c 0 < m → noted m (c ∷ R) N ≡ noted m R N
   unfolding noted
   noted-on f = rw (lt-ltb (getD (N .next) c 0) m f)
 
@@ -144,15 +144,15 @@ module _ (m c : ℕ) (R : List ℕ) (N : Noting) where
     label-is : getD (N .next) c 0 - m ≡ l
     label-is = omega arith
 
-    noted-first : getD (N .notes) l 0 < pair → noted m (c ∷ R) N ≡ noted m R (note-at l c N)
+    pub noted-first : getD (N .notes) l 0 < pair → noted m (c ∷ R) N ≡ noted m R (note-at l c N)
     unfolding noted
     noted-first f = rw (le-ltb (getD (N .next) c 0) m (omega arith), label-is, lt-ltb (getD (N .notes) l 0) pair f)
 
-    noted-later : pair ≤ getD (N .notes) l 0 → N .count < length (N .stash) → noted m (c ∷ R) N ≡ noted m R (stash-rank m c N)
+    pub noted-later : pair ≤ getD (N .notes) l 0 → N .count < length (N .stash) → noted m (c ∷ R) N ≡ noted m R (stash-rank m c N)
     unfolding noted
     noted-later f r = rw (le-ltb (getD (N .next) c 0) m (omega arith), label-is, le-ltb (getD (N .notes) l 0) pair f, lt-ltb (N .count) (length (N .stash)) r)
 
-    noted-full : pair ≤ getD (N .notes) l 0 → length (N .stash) ≤ N .count → noted m (c ∷ R) N ≡ overflowed N
+    pub noted-full : pair ≤ getD (N .notes) l 0 → length (N .stash) ≤ N .count → noted m (c ∷ R) N ≡ overflowed N
     unfolding noted
     noted-full f r = rw (le-ltb (getD (N .next) c 0) m (omega arith), label-is, le-ltb (getD (N .notes) l 0) pair f, le-ltb (N .count) (length (N .stash)) r)
 

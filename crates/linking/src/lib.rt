@@ -2,21 +2,22 @@
 // rank gets its label. Every function takes the whole of scratch and lends one part of it.
 ghost use mathlib.Core.Path.{_≡_};
 ghost use mathlib.Core.Bool.{cond};
-ghost use Prim.Native.Nat.{_+_, _*_, _≤_, _<_};
+ghost use Prim.Native.Nat.{_*_, _≤_, _<_};
 ghost use lib.Dec.{ltb};
-ghost use lib.ListN.{length, set};
-ghost use Rattle.forest.specs.Edges.{Edges, edge-at};
+ghost use lib.ListN.{length};
+ghost use Rattle.forest.specs.Edges.{Edges};
 ghost use Rattle.forest.specs.Graph.{Graph, edges-in, rerooted};
 ghost use Rattle.partition.specs.Words.{Representative, Mergeable, rep-of, size-of, united};
-ghost use Rattle.build.specs.Scratch.{parts, with-graph, with-sets, with-next};
+ghost use Rattle.build.specs.Scratch.{parts, with-graph, with-sets};
 ghost use Rattle.build.specs.Access.{Enough};
 ghost use Rattle.build.specs.LinkCode.{Found, Linkable, rank-linked, ranks-linked, unlinked-parts, linked-parts};
 ghost use Rattle.build.specs.LinkCode.{Marks, labelled-parts};
 use parts::edges_start;
 use parts::held_start;
 use parts::next_start;
+use parts::put_word;
 use parts::sets_start;
-use words::wide;
+use parts::word;
 
 // An edge has the slot in table 0, and this times the slot in table 1.
 const SLOTS: u32 = 2_048;
@@ -64,15 +65,6 @@ fn reroot_graph(scratch: &mut [u32], r: u32, s: u32, n: usize, slot: u32, carry:
     forest::reroot(&mut scratch[start..end], r, slot, carry);
 }
 
-// The edge of a rank.
-fn edge(scratch: &[u32], r: u32, s: u32, n: usize, rank: u32) -> u32
-    requires { ⌜ Enough r s n (now scratch) × (0 < rank) × (rank ≤ n) ⌝ }
-    ensures { λ e. ⌜ e ≡ edge-at r (edges-in r (parts r s n (now (scratch .entry)) .graph)) rank ⌝ }
-{
-    let at = edges_start(r, s) + wide(rank) - 1;
-    scratch[at]
-}
-
 // What is found of a rank: its two slots, `first` and `second`, and the representatives of their sets, `one` and `two`.
 struct Ends {
     first: u32,
@@ -87,9 +79,9 @@ fn ends_of(scratch: &[u32], r: u32, s: u32, n: usize, rank: u32) -> Ends
     ensures { λ e. ⌜ Found r (edges-in r (parts r s n (now (scratch .entry)) .graph))
         (parts r s n (now (scratch .entry)) .sets) rank (e .first) (e .second) (e .one) (e .two) ⌝ }
 {
-    let word = edge(scratch, r, s, n, rank);
-    let first = word % SLOTS;
-    let second = word / SLOTS % SLOTS;
+    let edge = parts::edge(scratch, r, s, n, rank);
+    let first = edge % SLOTS;
+    let second = edge / SLOTS % SLOTS;
     let one = set_of(scratch, r, s, n, first);
     let two = set_of(scratch, r, s, n, second);
     Ends {
@@ -114,29 +106,19 @@ fn smaller_end(scratch: &[u32], r: u32, s: u32, n: usize, ends: Ends) -> u32
     ends.second
 }
 
-// The word of a rank: 2r marks one that closes a cycle, 0 one of the forest.
-fn mark(scratch: &mut [u32], r: u32, s: u32, n: usize, rank: u32, word: u32)
-    requires { ⌜ Enough r s n (now scratch) × (rank ≤ n) ⌝ }
-    ensures { λ _. ⌜ parts r s n (now (scratch .exit)) ≡ with-next (parts r s n (now (scratch .entry)))
-        (set (parts r s n (now (scratch .entry)) .next) rank word) ⌝ }
-{
-    let at = next_start(r, s) + wide(rank);
-    scratch[at] = word;
-}
-
-// One rank: where its ends are in one set already it closes a cycle, and is marked; otherwise it links two trees, and
-// two sets become one.
+// One rank: where its ends are in one set already it closes a cycle, and is marked by 2r; otherwise it is marked by 0,
+// links two trees, and two sets become one.
 fn link_rank(scratch: &mut [u32], r: u32, s: u32, n: usize, rank: u32)
     requires { ⌜ Enough r s n (now scratch) × (0 < rank) × (rank ≤ n) × Linkable r (parts r s n (now scratch)) ⌝ }
     ensures { λ _. ⌜ parts r s n (now (scratch .exit)) ≡ rank-linked r rank (parts r s n (now (scratch .entry))) ⌝ }
 {
     let ends = ends_of(&*scratch, r, s, n, rank);
     if ends.one == ends.two {
-        mark(&mut *scratch, r, s, n, rank, 2 * r);
+        put_word(&mut *scratch, r, s, n, rank, 2 * r);
         return;
     }
     let end = smaller_end(&*scratch, r, s, n, ends);
-    mark(&mut *scratch, r, s, n, rank, 0);
+    put_word(&mut *scratch, r, s, n, rank, 0);
     reroot_graph(&mut *scratch, r, s, n, end, rank);
     unite_sets(&mut *scratch, r, s, n, ends.one, ends.two);
 }
@@ -182,14 +164,13 @@ pub fn label_ranks(scratch: &mut [u32], r: u32, s: u32, n: usize)
         × Marks r n 0 (parts r s n (now scratch) .next) ⌝ }
     ensures { λ _. ⌜ parts r s n (now (scratch .exit)) ≡ labelled-parts r n (parts r s n (now (scratch .entry))) ⌝ }
 {
-    let next = next_start(r, s);
     let last = n as u32;
     let mut i = 0;
     while i < last {
         i += 1;
-        let slot = edge(&*scratch, r, s, n, i) % SLOTS;
+        let slot = parts::edge(&*scratch, r, s, n, i) % SLOTS;
         let label = set_of(&*scratch, r, s, n, slot);
-        let at = next + wide(i);
-        scratch[at] = scratch[at] + label;
+        let mark = word(&*scratch, r, s, n, i);
+        put_word(&mut *scratch, r, s, n, i, mark + label);
     }
 }

@@ -13,20 +13,20 @@ start k = k .before .before .before .before
 abbrev found : tie.After-smaller-end → tie.Else1
 found e = e .before .before
 
-abbrev ended : tie.After-mark2 → tie.After-smaller-end
+abbrev ended : tie.After-put-word2 → tie.After-smaller-end
 ended m = m .before .before
 
-abbrev marked : tie.After-reroot-graph → tie.After-mark2
+abbrev marked : tie.After-reroot-graph → tie.After-put-word2
 marked t = t .before .before .before .before
 
 ends-of-requires : tie.Need-ends-of-requires
 ends-of-requires c κs = let s = c .before .before in (search needs, search needs, search needs, s .pre .3 .graph .edges)
 
-mul-mark : tie.Need-mul-mark
-mul-mark c = search needs
+mul-put-word : tie.Need-mul-put-word
+mul-put-word c = search needs
 
-mark-requires : tie.Need-mark-requires
-mark-requires c κs = search needs
+put-word-requires : tie.Need-put-word-requires
+put-word-requires c κs = search needs
 
 same-length : tie.Need-same-length
 same-length c = search needs
@@ -35,7 +35,7 @@ returns : tie.Need-returns
 returns c =
     let m = c .before .before in
     let k = m .before .before .before in
-    m .mark .ensures ∙ within-sets (start k .pre .3) (k .before .ends-of .ensures) (m .before .before .if1 .taken)
+    m .put-word .ensures ∙ within-sets (start k .pre .3) (k .before .ends-of .ensures) (m .before .before .if1 .taken)
 
 smaller-end-requires : tie.Need-smaller-end-requires
 smaller-end-requires c κs =
@@ -43,8 +43,8 @@ smaller-end-requires c κs =
     let Q = start k .pre .3 in
     (search needs, one-marked Q (k .before .ends-of .ensures), two-marked Q (k .before .ends-of .ensures))
 
-mark-requires-2 : tie.Need-mark-requires-2
-mark-requires-2 c κs = search needs
+put-word-requires-2 : tie.Need-put-word-requires-2
+put-word-requires-2 c κs = search needs
 
 reroot-graph-requires : tie.Need-reroot-graph-requires
 reroot-graph-requires c κs =
@@ -53,7 +53,7 @@ reroot-graph-requires c κs =
     let k = e .before in
     let s = start k in
     let K = k .before .ends-of .ensures in
-    let g = marked-graph (s .pre .3) K (m .mark2 .ensures) in
+    let g = marked-graph (s .pre .3) K (m .put-word2 .ensures) in
     (search needs, rw g (s .pre .3 .graph), end-fits K _ (ended m .smaller-end .ensures) (s .pre .3 .graph .edges),
     rw g (omega (arith, edges-count (s .pre .0), s .pre .2)))
 
@@ -65,7 +65,7 @@ unite-sets-requires c κs =
     let k = e .before in
     let K = k .before .ends-of .ensures in
     let Q = start k .pre .3 in
-    (enough-kept (start k .pre .0) (t .reroot-graph .kept .0 ∙ m .mark2 .kept .0), rw (turned-sets Q K (m .mark2 .ensures) _ (t .reroot-graph .ensures)) (ends-merge Q K (e .if1 .left)))
+    (enough-kept (start k .pre .0) (t .reroot-graph .kept .0 ∙ m .put-word2 .kept .0), rw (turned-sets Q K (m .put-word2 .ensures) _ (t .reroot-graph .ensures)) (ends-merge Q K (e .if1 .left)))
 
 same-length-2 : tie.Need-same-length-2
 same-length-2 c = search needs
@@ -77,8 +77,8 @@ returns-2 c =
     let m = marked t in
     let e = found (ended m) in
     let k = e .before in
-    between-sets (start k .pre .3) (k .before .ends-of .ensures) (m .mark2 .ensures) _ (t .reroot-graph .ensures) (e .if1 .left)
+    between-sets (start k .pre .3) (k .before .ends-of .ensures) (m .put-word2 .ensures) _ (t .reroot-graph .ensures) (e .if1 .left)
     (ended m .smaller-end .ensures) (u .unite-sets .ensures)
 
 pub link-rank-spec : {M : Type 1} → statement M
-link-rank-spec = tie.close (tie.spec ends-of-requires mul-mark mark-requires same-length returns smaller-end-requires mark-requires-2 reroot-graph-requires unite-sets-requires same-length-2 returns-2)
+link-rank-spec = tie.close (tie.spec ends-of-requires mul-put-word put-word-requires same-length returns smaller-end-requires put-word-requires-2 reroot-graph-requires unite-sets-requires same-length-2 returns-2)

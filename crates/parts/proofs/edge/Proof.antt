@@ -1,9 +1,9 @@
--- `linking::edge` meets its contract: the edges stand in the graph, behind the held words.
+-- `parts::edge` meets its contract: the edges stand in the graph, behind the held words.
 use native.Mathlib.Omega.{arith}
 use Rattle.build.specs.Access.{edge-at-word}
 use borrow.Author.Needs.{needs}
-use Rattle.linking.proofs.edge.Statement.{statement}
-use Rattle.linking.proofs.edge.Tie as tie
+use Rattle.parts.proofs.edge.Statement.{statement}
+use Rattle.parts.proofs.edge.Tie as tie
 
 edges-start-requires : tie.Need-edges-start-requires
 edges-start-requires c κs = search needs
@@ -26,9 +26,7 @@ shared-slice-read-result c = search needs
 returns : tie.Need-returns
 returns c =
     let s = c .before .before .before .before in
-    let at = c .before .before .edges-start .ensures in
-    let w = c .before .wide .ensures in
-    edge-at-word (s .pre .0) (rw (at, w)) (s .pre .1) (s .pre .2)
+    edge-at-word (s .pre .0) (rw (c .before .before .edges-start .ensures, c .before .wide .ensures)) (s .pre .1) (s .pre .2)
 
 pub edge-spec : {M : Type 1} → statement M
 edge-spec = tie.close (tie.spec edges-start-requires wide-requires add-at sub-at mul-result shared-slice-read-result returns)

@@ -1,9 +1,9 @@
--- `linking::mark` meets its contract: one of the words of the ranks is written.
+-- `parts::put_word` meets its contract: a word of a part, written.
 use native.Mathlib.Omega.{arith}
 use Rattle.build.specs.Access.{next-part, part-set}
 use borrow.Author.Needs.{needs}
-use Rattle.linking.proofs.mark.Statement.{statement}
-use Rattle.linking.proofs.mark.Tie as tie
+use Rattle.parts.proofs.put_word.Statement.{statement}
+use Rattle.parts.proofs.put_word.Tie as tie
 
 next-start-requires : tie.Need-next-start-requires
 next-start-requires c κs = search needs
@@ -26,7 +26,7 @@ same-length c = search needs
 returns : tie.Need-returns
 returns c =
     let s = c .before .before .before in
-    part-set (next-part (s .pre .0)) (rw (c .before .next-start .ensures, c .wide .ensures)) (omega (arith, s .pre .0 .few)) (s .args .word)
+    part-set (next-part (s .pre .0)) (omega (arith, c .before .next-start .ensures, c .wide .ensures)) (omega (arith, s .pre .0 .few)) (s .args .word)
 
-pub mark-spec : {M : Type 1} → statement M
-mark-spec = tie.close (tie.spec next-start-requires wide-requires add-at mul-scratch slice-write-scratch same-length returns)
+pub put-word-spec : {M : Type 1} → statement M
+put-word-spec = tie.close (tie.spec next-start-requires wide-requires add-at mul-scratch slice-write-scratch same-length returns)
