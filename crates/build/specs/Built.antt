@@ -1,21 +1,23 @@
 -- The whole build on ranks: the passes one after the other, and the theorem that they give what the definitions of `cuckoo` say of the ranks 1..n. Assumes nothing.
-use Prim.Native.Nat.{ℕ, zero, suc, _-_, _*_, _%_, _<_, _≤_}
+use Prim.Native.Nat.{ℕ, zero, suc, _+_, _-_, _*_, _%_, _/_, _<_, _≤_}
 use mathlib.Core.Path.{_≡_, refl, sym, _∙_, ap}
-use mathlib.Core.Bool.{cond}
-use mathlib.Core.List.{List, [], _++_, map, List·Memᴰ as In}
+use mathlib.Core.Bool.{Bool, true, false, cond}
+use mathlib.Core.Logic.{inl, inr}
+use mathlib.Core.List.{List, [], _++_, List·Memᴰ as In}
 use native.Mathlib.Omega.{arith}
-use lib.ListN.{length, length-map, getD, drop, replicate, length-replicate}
+use lib.ListN.{length, getD, drop, replicate, length-replicate}
+use Rattle.basics.specs.Tests.{zero-one}
 use Rattle.cuckoo.specs.Graph.{seated, stash, next, slot-key, slot-next}
-use Rattle.basics.specs.Sets.{Asc}
+use Rattle.basics.specs.Sets.{Asc, in?}
 use Rattle.cuckoo.specs.Forest.{forest}
 use Rattle.cuckoo.specs.Seating.{Ends}
-use Rattle.cuckoo.specs.Renaming.{from-in, from-asc, ranks, ranked, Renames, ranked-slot-key, ranked-slot-next, ranked-stash}
+use Rattle.cuckoo.specs.Renaming.{from-in, in-from, from-asc, ranks}
 use Rattle.partition.specs.Words.{rep-of, max-points}
 use Rattle.forest.specs.Edges.{Edges, end-0, end-1, other-end, ends-fit, ends-apart, ends-turn}
-use Rattle.build.specs.EachSlot.{listed, listed-slot, is-listed}
+use Rattle.build.specs.EachSlot.{listed, is-listed}
 use Rattle.build.specs.Link.{Linking, unlinked, link-keys, link-length, Linked, Marked, link-all, forest-few}
-use Rattle.build.specs.Labels.{Labels, Words, labelled, labelled-length, labels-all, words-all}
-use Rattle.build.specs.Notes.{pair, lows, Lows, lows-all, Noting, Going, nothing-noted, noted, Stashed, over, fit, stashed, Smallest}
+use Rattle.build.specs.Labels.{Labels, Words, labelled, labelled-length, labels-all, words-all, label-fit}
+use Rattle.build.specs.Notes.{pair, split-pair, lows, Lows, lows-all, found, none-of, Noting, Going, none-yet, one-seen, nothing-noted, noted, Stashed, over, fit, stashed, Smallest}
 use Rattle.build.specs.Finish.{finish-ranks, Occupied, note-smallest, finish-all}
 use Rattle.build.specs.Next.{Chaining, nexts, next-all, next-held}
 
@@ -23,6 +25,27 @@ use Rattle.build.specs.Next.{Chaining, nexts, next-all, next-held}
 pub data Built : Type 0 where
   overflow : Built
   made : (held next stash : List ℕ) (count : ℕ) → Built
+
+-- its parts
+abbrev pub held-of : Built → List ℕ
+held-of overflow = []
+held-of (made held next stash count) = held
+
+abbrev pub next-of : Built → List ℕ
+next-of overflow = []
+next-of (made held next stash count) = next
+
+abbrev pub stash-of : Built → List ℕ
+stash-of overflow = []
+stash-of (made held next stash count) = stash
+
+abbrev pub count-of : Built → ℕ
+count-of overflow = 0
+count-of (made held next stash count) = count
+
+abbrev pub is-made : Built → Bool
+is-made overflow = false
+is-made (made held next stash count) = true
 
 -- m slots, the ranks 1..n; `words`: what stands in the next words before
 module _ (a b : ℕ → ℕ) (other : ℕ → ℕ → ℕ) (m n : ℕ) (words : List ℕ) where
@@ -80,6 +103,9 @@ module _ {a b : ℕ → ℕ} {other : ℕ → ℕ → ℕ} (turn : (c v w : ℕ)
   unfolding linking
   linking-is = link-all turn m fits few asc (λ c i e. omega (arith, within c i)) words
 
+  pub linking-size : length (linking a b other m n words .held) ≡ m
+  linking-size = linking-is .0 .size
+
   labels-is : Labels a b S m (rep-of (linking a b other m n words .sets))
   labels-is = labels-all (linking-is .0)
 
@@ -99,6 +125,21 @@ module _ {a b : ℕ → ℕ} {other : ℕ → ℕ → ℕ} (turn : (c v w : ℕ)
   low-is : Lows m S (labels a b other m n words) (low a b other m n words)
   unfolding low
   low-is = lows-all m (labels a b other m n words) asc
+
+  -- the words of the ranks are marks after step 1, and labels, or labels and m more, after step 2
+  module _ (x : ℕ) (some : 0 < x) (most : x ≤ n) where
+    rank-in : In x S
+    rank-in = in-from 1 n (omega arith) (omega arith)
+
+    pub marks-low : getD (linking a b other m n words .next) x 0 ≤ m
+    marks-low =
+        let k = linking-is .1 x rank-in (omega arith) in
+        elim (in? x (forest a b S)) [ inl i ↦ omega (arith, k .on i) | inr o ↦ omega (arith, k .off o) ]
+
+    pub labels-low : getD (labels a b other m n words) x 0 < m + m
+    labels-low =
+        let l = label-fit labels-is fits x in
+        elim (in? x (forest a b S)) [ inl i ↦ omega (arith, words-is .on x rank-in i) | inr o ↦ omega (arith, words-is .off x rank-in o) ]
 
   module _ (s : ℕ) where
     abbrev lab : ℕ → ℕ
@@ -136,6 +177,18 @@ module _ {a b : ℕ → ℕ} {other : ℕ → ℕ → ℕ} (turn : (c v w : ℕ)
       unfolding chain
       chain-held v f = next-held m fits asc labels-is before (G .notes-size) in-next (λ x i. G .placed x i (λ k. elim k [ ])) notes-are
           held-is (omega (arith, G .next-size, labels-long)) v f
+
+    -- a rank that is noted as closing a cycle is one of them
+    pub closing-few : N .overflow ≡ false → (l : ℕ) → l < m → getD (N .notes) l 0 / pair ≤ n
+    closing-few e l f = elim noting-is [
+      | over k o ↦ absurd (zero-one (ap (λ (t : Bool). cond t 1 0) (sym e ∙ o)))
+      | fit k o c w G ↦
+          let small-low : getD (low a b other m n words) l 0 < pair = elim (low-is .at l f) [ found i q h ↦ omega (arith, within _ i) | none-of q h ↦ omega arith ] in
+          elim (G .seen l f) [
+            | none-yet q h ↦ omega arith
+            | one-seen d q i t h o′ ↦ omega (arith, within d i, split-pair (getD (low a b other m n words) l 0) d small-low)
+          ]
+    ]
 
     -- Theorem: the build gives what the definitions say of the ranks, whatever stood in the next words.
     pub built-is : Right a b S m s (built a b other m n words s)

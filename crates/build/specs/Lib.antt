@@ -11,4 +11,7 @@ pub mod Scratch
 pub mod Access
 pub mod LinkCode
 pub mod NotesCode
+pub mod FinishCode
+pub mod NextCode
 pub mod Build
+pub mod Whole

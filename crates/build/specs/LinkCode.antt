@@ -13,7 +13,7 @@ use borrow.Author.Tests.{eq-eqb, ne-eqb}
 use Rattle.basics.specs.Tests.{test}
 use Rattle.cuckoo.specs.Renaming.{from, ranks, ranks-more, from-in}
 use Rattle.forest.specs.Edges.{Edges, edge-at, first-of, second-of, end-0, end-1, other-end, ends-fit, ends-turn}
-use Rattle.forest.specs.Graph.{Graph, Fit, held-in, edges-in, with-held, rerooted, fit-set, fit-reroot, held-with, drop-with, edges-with, graph-with, with-own}
+use Rattle.forest.specs.Graph.{Graph, Fit, held-in, edges-in, with-held, rerooted, fit-set, fit-reroot, held-with, drop-with, edges-with, edges-length, graph-with, with-own}
 use Rattle.forest.specs.Link.{getD-zeros}
 use Rattle.partition.specs.Words.{Representative, Mergeable, rep-of, size-of, united, singletons-of}
 use Rattle.partition.specs.Partition.{rep-marked, mergeable}
@@ -155,18 +155,18 @@ module _ {r : ℕ} {E : List ℕ} (G : Edges r E) where
   ranks-then (c ∷ R) rank L = ranks-then R rank (linked-rank r E c L)
 
 -- the parts with another linking, of the right size
-module _ {r : ℕ} (P : Parts) (G : Graph r (P .graph)) (L : Linking) (size : length (L .held) ≡ 2 * r) where
+module _ (r : ℕ) (P : Parts) (L : Linking) (size : length (L .held) ≡ 2 * r) where
   linking-with : linking-in r (with-linking r P L) ≡ L
-  linking-with = rw (held-with G (L .held) size)
+  linking-with = rw (held-with r (P .graph) (L .held) size)
 
   pub edges-linking : edges-in r (with-linking r P L .graph) ≡ edges-in r (P .graph)
-  edges-linking = edges-with G (L .held) size
+  edges-linking = edges-with r (P .graph) (L .held) size
 
   with-again : (M : Linking) → with-linking r (with-linking r P L) M ≡ with-linking r P M
-  with-again M = rw (drop-with G (L .held) size)
+  with-again M = rw (drop-with r (P .graph) (L .held) size)
 
-  linkable-with : Good r (edges-in r (P .graph)) L → Linkable r (with-linking r P L)
-  linkable-with Q = record { graph = graph-with G (L .held) size (Q .fit); good = rw (edges-linking, linking-with) Q }
+  linkable-with : Graph r (P .graph) → Good r (edges-in r (P .graph)) L → Linkable r (with-linking r P L)
+  linkable-with G Q = record { graph = graph-with G (L .held) size (Q .fit); good = rw (edges-linking, linking-with) Q }
 
 module _ {r : ℕ} {P : Parts} (Q : Linkable r P) where
   abbrev E′ : List ℕ
@@ -184,15 +184,15 @@ module _ {r : ℕ} {P : Parts} (Q : Linkable r P) where
 
     -- what has to hold before the next rank, and what it leads to
     pub after-linkable : Linkable r (ranks-linked r i P)
-    after-linkable = linkable-with P (Q .graph) L size-by good-by
+    after-linkable = linkable-with r P L size-by (Q .graph) good-by
 
     pub after-edges : edges-in r (ranks-linked r i P .graph) ≡ E′
-    after-edges = edges-linking P (Q .graph) L size-by
+    after-edges = edges-linking r P L size-by
 
     pub after-more : rank-linked r (suc i) (ranks-linked r i P) ≡ ranks-linked r (suc i) P
     after-more =
-        rw (after-edges, linking-with P (Q .graph) L size-by, ranks-more i, ranks-then (Q .graph .edges) (ranks i) (suc i) (linking-in r P))
-        (with-again P (Q .graph) L size-by (linked-rank r E′ (suc i) L))
+        rw (after-edges, linking-with r P L size-by, ranks-more i, ranks-then (Q .graph .edges) (ranks i) (suc i) (linking-in r P))
+        (with-again r P L size-by (linked-rank r E′ (suc i) L))
 
   pub after-none : P ≡ ranks-linked r 0 P
   unfolding link-keys from
@@ -206,36 +206,27 @@ module _ {r : ℕ} (P : Parts) (edges : Edges r (edges-in r (P .graph))) (long :
 
   -- as good a graph as any, to start from
   bare : Graph r (unlinked-parts r P .graph)
-  unfolding edges-in unlinked
-  bare =
-      let d : drop (2 * r) (unlinked-parts r P .graph) ≡ drop (2 * r) (P .graph) = drop-at (replicate (2 * r) 0) _ (2 * r) (length-replicate (2 * r) 0) in
-      record {
-        edges = rw d edges;
-        long = simp (length-append, length-replicate) (omega arith);
-        fit = record { at = λ v. rw (take-at (replicate (2 * r) 0) (drop (2 * r) (P .graph)) (2 * r) (length-replicate (2 * r) 0), getD-zeros (2 * r) v) (omega arith) };
-      }
-
-  start-edges : edges-in r (unlinked-parts r P .graph) ≡ edges-in r (P .graph)
-  unfolding edges-in unlinked
-  start-edges = rw (drop-at (replicate (2 * r) 0) (drop (2 * r) (P .graph)) (2 * r) (length-replicate (2 * r) 0))
-
-  start-linking : linking-in r (unlinked-parts r P) ≡ unlinked (2 * r) (P .next)
   unfolding unlinked
-  start-linking = rw (take-at (replicate (2 * r) 0) (drop (2 * r) (P .graph)) (2 * r) (length-replicate (2 * r) 0))
+  bare = record {
+    edges = rw (edges-linking r P (unlinked (2 * r) (P .next)) start-size) edges;
+    long = simp (length-append, length-replicate) (omega arith);
+    fit = record { at = λ v. rw (held-with r (P .graph) (replicate (2 * r) 0) start-size, getD-zeros (2 * r) v) (omega (arith, edges-length r (unlinked-parts r P .graph))) };
+  }
 
   pub start-linkable : Linkable r (unlinked-parts r P)
   start-linkable = record {
     graph = bare;
-    good = record { sound = rw start-linking (sound-start (P .next) (omega (arith, edges .most))); fit = bare .fit };
+    good = record { sound = rw (linking-with r P (unlinked (2 * r) (P .next)) start-size) (sound-start (P .next) (omega (arith, edges .most))); fit = bare .fit };
   }
-
-  start-again : (M : Linking) → with-linking r (unlinked-parts r P) M ≡ with-linking r P M
-  unfolding unlinked
-  start-again M = rw (drop-at (replicate (2 * r) 0) (drop (2 * r) (P .graph)) (2 * r) (length-replicate (2 * r) 0))
 
   pub start-all : (n : ℕ) → ranks-linked r n (unlinked-parts r P) ≡ linked-parts r n P
   unfolding linking
-  start-all n = rw (start-edges, start-linking) (start-again (linked-ranks r (edges-in r (P .graph)) (ranks n) (unlinked (2 * r) (P .next))))
+  start-all n =
+      let U = unlinked (2 * r) (P .next) in
+      rw (edges-linking r P U start-size, linking-with r P U start-size) (with-again r P U start-size (linked-ranks r (edges-in r (P .graph)) (ranks n) U))
+
+  pub start-edges : edges-in r (unlinked-parts r P .graph) ≡ edges-in r (P .graph)
+  start-edges = edges-linking r P (unlinked (2 * r) (P .next)) start-size
 
 -- the held words filled, then the sets, each part as long as it was
 pub unlinked-done : {r s n : ℕ} {xs : List ℕ} {Q R : Parts} → Enough r s n xs → let P = parts r s n xs in Q ≡ with-graph P (with-held r (P .graph) (replicate (length (held-in r (P .graph))) 0))

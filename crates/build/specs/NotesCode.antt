@@ -46,16 +46,16 @@ ranks-noted r n i count P = noted (2 * r) (from (suc i) (n - i)) (noting-in P co
 
 -- the words of n ranks are labels, or labels and 2r more
 pub record Labelled (r n : ℕ) (next : List ℕ) : Type 0 where
-  pub low : (x : ℕ) → x ≤ n → getD next x 0 < 4 * r
+  pub low : (x : ℕ) → 0 < x → x ≤ n → getD next x 0 < 4 * r
 
 pub labelled-set : {r n : ℕ} {next : List ℕ} (v x : ℕ) → x < 4 * r → Labelled r n next → Labelled r n (set next v x)
 labelled-set {r} {n} {next} v x l L = record {
-  low = λ y k. elim (eq? y v) [
+  low = λ y o k. elim (eq? y v) [
     | inl q ↦ elim (le? (length next) v) [
-      | inl o ↦ rw (set-out next v x o) (L .low y k)
-      | inr o ↦ rw (q, getD-set-same next v x 0 o) l
+      | inl z ↦ rw (set-out next v x z) (L .low y o k)
+      | inr z ↦ rw (q, getD-set-same next v x 0 z) l
     ]
-    | inr ne ↦ rw (getD-set-other next v y x 0 ne) (L .low y k)
+    | inr ne ↦ rw (getD-set-other next v y x 0 ne) (L .low y o k)
   ];
 }
 
@@ -169,9 +169,9 @@ module _ (r rank count : ℕ) (P : Parts) where
     rank-full l k = noted-full (2 * r) rank [] (noting-in P count) label e l k
 
 -- Afterwards the words are labels, or labels and 2r more, as before.
-pub rank-labelled : {r n : ℕ} (rank count : ℕ) (P : Parts) → rank ≤ n → Labelled r n (P .next) → Labelled r n (rank-noted r rank count P .next)
+pub rank-labelled : {r n : ℕ} (rank count : ℕ) (P : Parts) → 0 < rank → rank ≤ n → Labelled r n (P .next) → Labelled r n (rank-noted r rank count P .next)
 unfolding noted
-rank-labelled {r} {n} rank count P k L =
+rank-labelled {r} {n} rank count P o k L =
     let w = getD (P .next) rank 0 in
     elim (le? (2 * r) w) [
       | inr l ↦ rw (lt-ltb w (2 * r) l) L
@@ -180,8 +180,8 @@ rank-labelled {r} {n} rank count P k L =
   where
     go : (q t : Bool) → Labelled r n (cond q (note-at (getD (P .next) rank 0 - 2 * r) rank (noting-in P count))
         (cond t (stash-rank (2 * r) rank (noting-in P count)) (overflowed (noting-in P count))) .next)
-    go true t = labelled-set rank (getD (P .next) rank 0 - 2 * r) (omega (arith, L .low rank k)) L
-    go false true = labelled-set rank (2 * r) (omega (arith, L .low rank k)) L
+    go true t = labelled-set rank (getD (P .next) rank 0 - 2 * r) (omega (arith, L .low rank o k)) L
+    go false true = labelled-set rank (2 * r) (omega (arith, L .low rank o k)) L
     go false false = L
 
 -- no note and no stash: the sets filled, then the stash, each as long as it was
@@ -190,13 +190,13 @@ pub cleared-done : {r s n : ℕ} {xs : List ℕ} {Q R : Parts} → Enough r s n 
 cleared-done E e f h k = f ∙ (rw (k, e, h))
 
 -- what an answer tells
-ranks-told : (N : Noting) {k : ℕ} → Ranks k ≡ answer N → (N .overflow ≡ false) × (N .count ≡ k)
+pub ranks-told : (N : Noting) {k : ℕ} → Ranks k ≡ answer N → (N .overflow ≡ false) × (N .count ≡ k)
 ranks-told N {k} e = elim (test (N .overflow)) [
   | inl t ↦ absurd (let z : _≡_ {A = ℕ} 0 8 = ap number (rw t at e) in omega arith)
   | inr t ↦ (t, let v = ap values (rw t at e) in cc)
 ]
 
-overflow-told : (N : Noting) → Overflow ≡ answer N → N .overflow ≡ true
+pub overflow-told : (N : Noting) → Overflow ≡ answer N → N .overflow ≡ true
 overflow-told N e = elim (test (N .overflow)) [
   | inl t ↦ t
   | inr t ↦ absurd (let z : _≡_ {A = ℕ} 8 0 = ap number (rw t at e) in omega arith)
@@ -241,7 +241,7 @@ module _ {r n : ℕ} {P₀ : Parts} where
             rest = is ∙ ap (λ (Z : Parts). with-noting Z N) (C .rest) ∙ ap (with-noting P₀) same;
             to-come = C .to-come ∙ one-more ∙ noted-turn (2 * r) (suc i) (from (suc (suc i)) (n - suc i)) (noting-in P count) (t .0)
                 ∙ ap (noted (2 * r) (from (suc (suc i)) (n - suc i))) same;
-            labelled = rw is (rank-labelled (suc i) count P l (C .labelled));
+            labelled = rw is (rank-labelled (suc i) count P (omega arith) l (C .labelled));
           }
 
       pub closing-over : Overflow ≡ answer (rank-noted r (suc i) count P) → Told Q Overflow

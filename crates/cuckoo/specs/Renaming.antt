@@ -211,6 +211,11 @@ from-in i zero k = elim k [ ]
 from-in i (suc n) (here q) = (omega arith, omega arith)
 from-in i (suc n) (there k) = let r = from-in (suc i) n k in (omega arith, omega arith)
 
+pub in-from : (i n : ℕ) {j : ℕ} → i ≤ j → j < i + n → In j (from i n)
+unfolding from
+in-from i zero l m = absurd (omega arith)
+in-from i (suc n) {j} l m = elim (eq? j i) [ inl q ↦ here q | inr ne ↦ there (in-from (suc i) n (omega arith) (omega arith)) ]
+
 pub from-asc : (i n : ℕ) → Asc (from i n)
 unfolding from
 from-asc i zero = none

@@ -103,11 +103,7 @@ module _ (r : ℕ) (g : List ℕ) where
   unfolding edges-in end-0 edge-at
   first-none = omega arith
 
--- other held words, as many: the edges stay, and it is a graph if each of them is a rank or 0
-module _ {r : ℕ} {g : List ℕ} (G : Graph r g) where
-  pub held-long : length (held-in r g) ≡ 2 * r
-  held-long = simp length-take (omega (arith, G .long))
-
+  -- other held words, as many: the edges stay
   module _ (h : List ℕ) (size : length h ≡ 2 * r) where
     pub held-with : held-in r (with-held r g h) ≡ h
     held-with = take-at h (drop (2 * r) g) (2 * r) size
@@ -119,12 +115,17 @@ module _ {r : ℕ} {g : List ℕ} (G : Graph r g) where
     unfolding edges-in
     edges-with = ap (λ (E : List ℕ). 2048 * r ∷ E) drop-with
 
-    pub graph-with : Fit (length (edges-in r g)) h → Graph r (with-held r g h)
-    graph-with F = record {
-      edges = rw edges-with (G .edges);
-      long = omega (arith, length-append h (drop (2 * r) g));
-      fit = rw (edges-with, held-with) F;
-    }
+-- and it is a graph if each of them is a rank or 0
+module _ {r : ℕ} {g : List ℕ} (G : Graph r g) where
+  pub held-long : length (held-in r g) ≡ 2 * r
+  held-long = simp length-take (omega (arith, G .long))
+
+  pub graph-with : (h : List ℕ) → length h ≡ 2 * r → Fit (length (edges-in r g)) h → Graph r (with-held r g h)
+  graph-with h size F = record {
+    edges = rw (edges-with r g h size) (G .edges);
+    long = omega (arith, length-append h (drop (2 * r) g));
+    fit = rw (edges-with r g h size, held-with r g h size) F;
+  }
 
   pub with-own : with-held r g (held-in r g) ≡ g
   with-own = take-append-drop (2 * r) g
@@ -175,10 +176,10 @@ module _ {r : ℕ} {before : List ℕ} (G : Graph r before) where
       turned e = (
         record {
           size = ap length e ∙ length-front after next (2 * r) (next-size ∙ sym (held-long kept-graph)) ∙ K .size;
-          same = ap (drop (2 * r)) e ∙ drop-with kept-graph next next-size ∙ K .same;
-          fit = rw (e, held-with kept-graph next next-size) (fit-reroot (other-slot r after) (suc (2 * r)) (held-in r after) carry slot (K .fit) rank);
+          same = ap (drop (2 * r)) e ∙ drop-with r after next next-size ∙ K .same;
+          fit = rw (e, held-with r after next next-size) (fit-reroot (other-slot r after) (suc (2 * r)) (held-in r after) carry slot (K .fit) rank);
         },
-        ap (held-in r) e ∙ held-with kept-graph next next-size
+        ap (held-in r) e ∙ held-with r after next next-size
         ∙ ap (λ (E : List ℕ). reroot (other-end r E) (suc (2 * r)) (held-in r after) carry slot) kept-edges,
       )
 
@@ -198,8 +199,8 @@ module _ {r : ℕ} {before : List ℕ} (G : Graph r before) where
   pub with-kept : (h : List ℕ) → length h ≡ 2 * r → Fit (length (edges-in r before)) h → Kept r before (with-held r before h)
   with-kept h size F = record {
     size = length-front before h (2 * r) (size ∙ sym (held-long G));
-    same = drop-with G h size;
-    fit = rw (held-with G h size) F;
+    same = drop-with r before h size;
+    fit = rw (held-with r before h size) F;
   }
 
 -- The calls of `exchange` and of `finish_cycle`, one after the other.

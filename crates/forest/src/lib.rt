@@ -11,7 +11,7 @@ ghost use Rattle.forest.specs.Graph.{finished-tree, exchanged, finished-
 use words::wide;
 
 // An edge has the slot in table 0, and this times the slot in table 1.
-const SLOTS: u32 = 2_048;
+pub const SLOTS: u32 = 2_048;
 
 // The edge of a rank.
 fn edge(graph: &[u32], r: u32, rank: u32) -> u32

@@ -12,15 +12,13 @@ ghost use Rattle.build.specs.Scratch.{parts, with-graph, with-sets};
 ghost use Rattle.build.specs.Access.{Enough};
 ghost use Rattle.build.specs.LinkCode.{Found, Linkable, rank-linked, ranks-linked, unlinked-parts, linked-parts};
 ghost use Rattle.build.specs.LinkCode.{Marks, labelled-parts};
+use forest::SLOTS;
 use parts::edges_start;
 use parts::held_start;
 use parts::next_start;
 use parts::put_word;
 use parts::sets_start;
 use parts::word;
-
-// An edge has the slot in table 0, and this times the slot in table 1.
-const SLOTS: u32 = 2_048;
 
 // The representative of a slot's set.
 fn set_of(scratch: &[u32], r: u32, s: u32, n: usize, slot: u32) -> u32

@@ -7,6 +7,7 @@ ghost use Rattle.build.specs.Access.{Enough};
 ghost use Rattle.build.specs.NotesCode.{cleared-parts, smallest-parts, with-noting, answer, rank-noted, ranks-noted};
 ghost use Rattle.build.specs.NotesCode.{Labelled};
 use build::StashCount;
+use parts::PAIR;
 use parts::next_start;
 use parts::note;
 use parts::put_note;
@@ -16,9 +17,6 @@ use parts::sets_start;
 use parts::stashed_start;
 use parts::word;
 use words::fill;
-
-// A note has the smallest rank of the forest, and this times the one that closes the cycle: ranks are smaller.
-const PAIR: u32 = 4_096;
 
 // No note, and no rank in the stash.
 pub fn clear_notes(scratch: &mut [u32], r: u32, s: u32, n: usize)
@@ -52,7 +50,8 @@ pub fn note_smallest(scratch: &mut [u32], r: u32, s: u32, n: usize)
 // One rank, where the stash has `count` so far: one of the forest is passed over; the first of its label that closes a
 // cycle is noted, and its word is the label; another goes to the stash, and its word is 2r.
 fn note_rank(scratch: &mut [u32], r: u32, s: u32, n: usize, rank: u32, count: u32) -> StashCount
-    requires { ⌜ Enough r s n (now scratch) × (rank ≤ n) × Labelled r n (parts r s n (now scratch) .next) ⌝ }
+    requires { ⌜ Enough r s n (now scratch) × (0 < rank) × (rank ≤ n)
+        × Labelled r n (parts r s n (now scratch) .next) ⌝ }
     ensures noted { λ _. ⌜ parts r s n (now (scratch .exit)) ≡ with-noting (parts r s n (now (scratch .entry)))
         (rank-noted r rank count (parts r s n (now (scratch .entry)))) ⌝ }
     ensures counted { λ k. ⌜ k ≡ answer (rank-noted r rank count (parts r s n (now (scratch .entry)))) ⌝ }

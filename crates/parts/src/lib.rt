@@ -10,6 +10,9 @@ ghost use Rattle.build.specs.Scratch.{parts, with-stash, with-sets, with-next};
 ghost use Rattle.build.specs.Access.{Enough};
 use words::wide;
 
+// A note has the smallest rank of the forest, and this times the one that closes the cycle: ranks are smaller.
+pub const PAIR: u32 = 4_096;
+
 pub fn held_start(r: u32, s: u32) -> usize
     requires { ⌜ (r ≤ 1024) × (s ≤ 64) ⌝ }
     ensures { λ n. ⌜ n ≡ held-at r s ⌝ }

@@ -1,48 +1,70 @@
-// Step 4: each component, told by its label, is brought to its seats from the key that is noted there.
+// Step 5: each component is brought to its seats once, at its smallest rank: a tree by that rank, a cycle by the rank that
+// closes it, which is noted there too.
 ghost use mathlib.Core.Path.{_≡_};
-ghost use Prim.Native.Nat.{_*_, _<_};
-ghost use Rattle.tabulation.specs.Hash.{tables};
-ghost use Rattle.build.specs.Scratch.{parts, glue};
-ghost use Rattle.build.specs.Access.{Room};
-ghost use Rattle.build.specs.Passes.{finished-parts};
-ghost use Rattle.build.specs.FinishCode.{label-finished};
-use noting::key::is_held;
+ghost use Prim.Native.Nat.{_≤_, _<_};
+ghost use lib.ListN.{length};
+ghost use Rattle.forest.specs.Graph.{Graph, edges-in, finished-tree, finished-cycle};
+ghost use Rattle.build.specs.Scratch.{parts, with-graph};
+ghost use Rattle.build.specs.Access.{Enough};
+ghost use Rattle.build.specs.FinishCode.{Finishable, rank-finished, ranks-finished};
+use parts::PAIR;
+use parts::edges_start;
 use parts::held_start;
-use parts::next_start;
-use parts::sets_start;
-use words::wide;
+use parts::note;
+use parts::word;
 
-// The component of label l: a tree if its note is held, and otherwise the note closes its cycle. No note: it has no
-// keys.
-fn finish_label(scratch: &mut [u32], tabulation: &[u16], r: u32, s: u32, l: usize)
-    requires { ⌜ Room (now tabulation) r s (now scratch) × (l < 2 * r) ⌝ }
-    ensures { λ _. ⌜ parts r s (now (scratch .exit))
-        ≡ label-finished (tables (now (tabulation .entry)) r) (parts r s (now (scratch .entry))) l ⌝ }
+// The graph is lent to `forest`.
+fn finish_tree(scratch: &mut [u32], r: u32, s: u32, n: usize, rank: u32)
+    requires { ⌜ Enough r s n (now scratch) × Graph r (parts r s n (now scratch) .graph)
+        × (rank < length (edges-in r (parts r s n (now scratch) .graph))) ⌝ }
+    ensures { λ _. ⌜ parts r s n (now (scratch .exit)) ≡ with-graph (parts r s n (now (scratch .entry)))
+        (finished-tree r (parts r s n (now (scratch .entry)) .graph) rank) ⌝ }
 {
-    let at = sets_start(r, s) + l;
-    let key = scratch[at];
-    if key == 0 {
+    let start = held_start(r, s);
+    let end = edges_start(r, s) + n;
+    forest::finish_tree(&mut scratch[start..end], r, rank);
+}
+
+fn finish_cycle(scratch: &mut [u32], r: u32, s: u32, n: usize, rank: u32)
+    requires { ⌜ Enough r s n (now scratch) × Graph r (parts r s n (now scratch) .graph) × (0 < rank)
+        × (rank < length (edges-in r (parts r s n (now scratch) .graph))) ⌝ }
+    ensures { λ _. ⌜ parts r s n (now (scratch .exit)) ≡ with-graph (parts r s n (now (scratch .entry)))
+        (finished-cycle r (parts r s n (now (scratch .entry)) .graph) rank) ⌝ }
+{
+    let start = held_start(r, s);
+    let end = edges_start(r, s) + n;
+    forest::finish_cycle(&mut scratch[start..end], r, rank);
+}
+
+// One rank: nothing is to be done for one of the stash, and for one that is not the smallest of its label.
+fn finish_rank(scratch: &mut [u32], r: u32, s: u32, n: usize, rank: u32)
+    requires { ⌜ Enough r s n (now scratch) × (rank ≤ n) × Finishable r n (parts r s n (now scratch)) ⌝ }
+    ensures { λ _. ⌜ parts r s n (now (scratch .exit)) ≡ rank-finished r rank (parts r s n (now (scratch .entry))) ⌝ }
+{
+    let label = word(&*scratch, r, s, n, rank);
+    if 2 * r <= label {
         return;
     }
-    let start = held_start(r, s);
-    let end = next_start(r, s);
-    if is_held(&*scratch, tabulation, r, s, key) {
-        forest::finish_tree(&mut scratch[start..end], tabulation, r, key);
+    let noted = note(&*scratch, r, s, n, label);
+    if noted % PAIR != rank {
+        return;
+    }
+    if noted < PAIR {
+        finish_tree(&mut *scratch, r, s, n, rank);
     } else {
-        forest::finish_cycle(&mut scratch[start..end], tabulation, r, key);
+        finish_cycle(&mut *scratch, r, s, n, noted / PAIR);
     }
 }
 
-// Ascending over the labels.
-pub fn finish_labels(scratch: &mut [u32], tabulation: &[u16], r: u32, s: u32)
-    requires { ⌜ Room (now tabulation) r s (now scratch) ⌝ }
-    ensures { λ _. ⌜ now (scratch .exit) ≡ glue (finished-parts (tables (now (tabulation .entry)) r)
-        (parts r s (now (scratch .entry)))) ⌝ }
+// The ranks 1 to n.
+pub fn finish_ranks(scratch: &mut [u32], r: u32, s: u32, n: usize)
+    requires { ⌜ Enough r s n (now scratch) × Finishable r n (parts r s n (now scratch)) ⌝ }
+    ensures { λ _. ⌜ parts r s n (now (scratch .exit)) ≡ ranks-finished r n (parts r s n (now (scratch .entry))) ⌝ }
 {
-    let m = wide(2 * r);
-    let mut l = 0;
-    while l < m {
-        finish_label(&mut *scratch, tabulation, r, s, l);
-        l += 1;
+    let last = n as u32;
+    let mut i = 0;
+    while i < last {
+        i += 1;
+        finish_rank(&mut *scratch, r, s, n, i);
     }
 }

@@ -49,7 +49,7 @@ add-i c = search needs
 
 note-rank-requires : tie.Need-note-rank-requires Inv-loop μ-loop
 note-rank-requires c κs =
-    let q = c .before .before in (enough q, omega arith, q .loop .inv .2 .labelled)
+    let q = c .before .before in (enough q, search needs, omega arith, q .loop .inv .2 .labelled)
 
 enum-known-noted : tie.Need-enum-known-noted Inv-loop μ-loop
 enum-known-noted c = c .match .keys1

@@ -38,7 +38,7 @@ split e = omega (arith, e .before .word .ensures, e .if1 .left)
 label-low : (e : tie.Else1) → let a = start (e .before) .args in e .before .word .result - 2 * a .r < 2 * a .r
 label-low e =
     let s = start (e .before) in
-    omega (arith, e .before .word .ensures, s .pre .2 .low (s .args .rank) (s .pre .1), e .if1 .left)
+    omega (arith, e .before .word .ensures, s .pre .3 .low (s .args .rank) (s .pre .1) (s .pre .2), e .if1 .left)
 
 mul-m : tie.Need-mul-m
 mul-m c = search needs
@@ -66,7 +66,7 @@ add-put-note : tie.Need-add-put-note
 add-put-note c =
     let k = c .before .before in
     let s = start (closing k .before) in
-    record { fits = omega (arith, c .before .if2 .taken, s .pre .1, s .pre .0 .few, s .pre .0 .slots-bound, s .pre .0 .places-bound) }
+    record { fits = omega (arith, c .before .if2 .taken, s .pre .2, s .pre .0 .few, s .pre .0 .slots-bound, s .pre .0 .places-bound) }
 
 put-note-requires : tie.Need-put-note-requires
 put-note-requires c κs = let e = closing (c .before .before) in (start (e .before) .pre .0, label-low e)
@@ -75,7 +75,7 @@ put-word-requires : tie.Need-put-word-requires
 put-word-requires c κs =
     let p = c .before .before .before in
     let s = start (closing (p .before .before .before) .before) in
-    (enough-kept (s .pre .0) (p .put-note .kept .0), s .pre .1)
+    (enough-kept (s .pre .0) (p .put-note .kept .0), s .pre .2)
 
 same-length-2 : tie.Need-same-length-2
 same-length-2 c = search needs
@@ -110,7 +110,7 @@ put-word-requires-2 : tie.Need-put-word-requires-2
 put-word-requires-2 c κs =
     let p = c .before .before .before in
     let s = start (closing (p .before .before .before .before) .before) in
-    (enough-kept (s .pre .0) (p .put-stashed .kept .0), s .pre .1)
+    (enough-kept (s .pre .0) (p .put-stashed .kept .0), s .pre .2)
 
 add-t28 : tie.Need-add-t28
 add-t28 c = search needs
