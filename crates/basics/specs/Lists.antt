@@ -73,6 +73,11 @@ pub keep-none : (p : ℕ → Bool) (L : List ℕ) → ((d : ℕ) → In d L → 
 keep-none p [] h = refl
 keep-none p (d ∷ L) h = rw (h d (here refl), keep-none p L (λ e i. h e (there i)))
 
+-- of two lists one after the other
+pub keep-append : (p : ℕ → Bool) (R S : List ℕ) → keep p (R ++ S) ≡ keep p R ++ keep p S
+keep-append p [] S = refl
+keep-append p (c ∷ R) S = elim (test (p c)) [ inl e ↦ rw (e, keep-append p R S) | inr e ↦ rw (e, keep-append p R S) ]
+
 -- what passes a test and what does not are all together
 pub length-split : (p : ℕ → Bool) (S : List ℕ) → length (keep p S) + length (keep (λ c. not (p c)) S) ≡ length S
 length-split p [] = refl

@@ -2,15 +2,20 @@
 -- never more keys than slots and places, so that scratch has room. Assumes nothing.
 use Prim.Native.Nat.{ℕ, zero, suc, _+_, _*_, _-_, _≤_, _<_}
 use mathlib.Core.Path.{_≡_, refl, sym, _∙_, ap}
-use mathlib.Core.Bool.{Bool, true, false, not, cond}
+use mathlib.Core.Bool.{not, cond}
+use mathlib.Core.Logic.{inl, inr}
 use mathlib.Core.List.{List, [], _∷_, _++_, append-assoc, append-nil}
+use native.Mathlib.Nat.{le-refl, add-zero}
 use native.Mathlib.Numerals.{add-one}
 use native.Mathlib.Omega.{arith}
 use borrow.Author.Tests.{eq-eqb, ne-eqb}
 use lib.Dec.{eqb}
-use lib.ListN.{length, getD, set, take, drop, length-append}
-use lib.Seq.{getD-drop, drop-drop, take-suc-set, take-append-le}
+use lib.ListN.{length, getD, set, take, drop, length-append, length-take}
+use lib.Seq.{getD-drop, drop-drop, take-suc-set, take-set-le, take-take, take-append-le}
+use borrow.Rule.Slice.PartMut.{midOf, putMid}
+use Rattle.basics.specs.Tests.{eq?, zero-one}
 use Rattle.basics.specs.Sets.{keep, length-keep}
+use Rattle.basics.specs.Lists.{keep-append}
 use Rattle.ordered.specs.Keys.{sorted, distinct}
 use Rattle.ordered.specs.Sorting.{sorted-length}
 use Rattle.ordered.specs.Distinct.{distinct-length}
@@ -22,15 +27,6 @@ use Rattle.codec.specs.Columns.{picked, picked-length}
 -- those that are not 0
 abbrev pub nonzero : List ℕ → List ℕ
 nonzero xs = keep (λ w. not (eqb w 0)) xs
-
-nonzero-append : (xs ys : List ℕ) → nonzero (xs ++ ys) ≡ nonzero xs ++ nonzero ys
-nonzero-append [] ys = refl
-nonzero-append (x ∷ xs) ys = go (eqb x 0) (nonzero-append xs ys)
-  where
-    go : (t : Bool) → nonzero (xs ++ ys) ≡ nonzero xs ++ nonzero ys
-        → cond (not t) (x ∷ nonzero (xs ++ ys)) (nonzero (xs ++ ys)) ≡ cond (not t) (x ∷ nonzero xs) (nonzero xs) ++ nonzero ys
-    go true e = e
-    go false e = ap (λ (l : List ℕ). x ∷ l) e
 
 -- the picked words of a dictionary
 
@@ -63,17 +59,17 @@ module _ (ws : List ℕ) (step at left : ℕ) (l : 0 < left) where
   unfolding picked
   picked-next = let e : left ≡ suc (left - 1) = omega arith in ap (picked ws at step) e
 
-  module _ (scratch : List ℕ) (end : ℕ) where
-    pub gathering-key :
-        end < length scratch → (getD ws at 0 ≡ 0 → ⊥)
-        → gathering ws step scratch end at left ≡ gathering ws step (set scratch end (getD ws at 0)) (end + 1) (at + step) (left - 1)
-    unfolding gathering
-    gathering-key h n = rw picked-next (simp (ne-eqb (getD ws at 0) 0 n, add-one, take-suc-set, append-assoc))
-
-    pub gathering-blank :
-        getD ws at 0 ≡ 0 → gathering ws step scratch end at left ≡ gathering ws step scratch end (at + step) (left - 1)
-    unfolding gathering
-    gathering-blank e = rw (picked-next, eq-eqb (getD ws at 0) 0 e)
+  -- the word is written in any case, and stays if it is not 0
+  pub gathering-step :
+      (scratch : List ℕ) (end : ℕ) → end < length scratch
+      → gathering ws step scratch end at left
+      ≡ gathering ws step (set scratch end (getD ws at 0)) (end + cond (eqb (getD ws at 0) 0) 0 1) (at + step) (left - 1)
+  unfolding gathering
+  gathering-step scratch end h =
+      rw picked-next (elim (eq? (getD ws at 0) 0) [
+        | inl e ↦ rw (eq-eqb (getD ws at 0) 0 e, add-zero, take-set-le end scratch end (getD ws at 0) (le-refl end))
+        | inr n ↦ rw (ne-eqb (getD ws at 0) 0 n, add-one end, take-suc-set) (sym (append-assoc (take end scratch) (getD ws at 0 ∷ []) _))
+      ])
 
 pub gathering-end :
     (ws : List ℕ) (step : ℕ) (scratch : List ℕ) (end at left : ℕ) → left ≡ 0 → gathering ws step scratch end at left ≡ take end scratch
@@ -94,13 +90,23 @@ module _ (ws : List ℕ) (h : Shaped ws) where
   gathered-keys =
       let e : 2 * r ≡ r + r = omega arith in
       rw (e, picked-slots ws header-length (r + r), picked-places ws (stash-at r) s)
-      (sym (nonzero-append (slot-keys (r + r) (drop header-length ws)) (keys-of (stash-entries ws))))
+      (sym (keep-append (λ w. not (eqb w 0)) (slot-keys (r + r) (drop header-length ws)) (keys-of (stash-entries ws))))
 
   pub gathered-count :
       length (nonzero (picked ws header-length slot-width (2 * r))) + length (nonzero (picked ws (stash-at r) place-width s))
       ≡ length (nonzero (key-words ws))
   gathered-count =
       sym (length-append (nonzero (picked ws header-length slot-width (2 * r))) (nonzero (picked ws (stash-at r) place-width s))) ∙ ap length gathered-keys
+
+  -- gathered in two goes, behind a word 0
+  pub gathered-front :
+      (scratch zs : List ℕ) (end : ℕ) → 0 < length scratch
+      → take end zs ≡ (take 1 (set scratch 0 0) ++ nonzero (picked ws header-length slot-width (2 * r))) ++ nonzero (picked ws (stash-at r) place-width s)
+      → end ≡ 1 + length (nonzero (picked ws header-length slot-width (2 * r))) + length (nonzero (picked ws (stash-at r) place-width s))
+      → (take (end - 1 + 1) zs ≡ 0 ∷ nonzero (key-words ws)) × (end - 1 ≡ length (nonzero (key-words ws)))
+  gathered-front scratch zs end l f e =
+      let g : end - 1 + 1 ≡ end = omega arith in
+      (rw g (f ∙ rw (take-suc-set scratch 0 0 l) (ap (λ (xs : List ℕ). 0 ∷ xs) gathered-keys)), omega (arith, gathered-count))
 
   -- a dictionary has no more keys than slots and places, counted with doubles or without
   pub gathered-few : length (nonzero (key-words ws)) ≤ 2 * r + s
@@ -112,12 +118,28 @@ module _ (ws : List ℕ) (h : Shaped ws) where
       let xs = nonzero (key-words ws) in
       let l = distinct-length (sorted xs) in omega (arith, sorted-length xs, gathered-few)
 
--- what `make_set` makes of the gathered words: a set of keys lies in front of the words that are left over
-pub collected :
-    (ws xs ys zs : List ℕ) (n : ℕ) → xs ≡ nonzero (key-words ws) → length ys ≡ length xs → n ≡ length (distinct (sorted xs))
-    → take n ys ≡ distinct (sorted xs) → (take n (ys ++ zs) ≡ keys-in ws) × (n ≡ length (keys-in ws))
-unfolding keys-in
-collected ws xs ys zs n e l k f =
-    let d = distinct-length (sorted xs) in
-    let g : distinct (sorted xs) ≡ distinct (sorted (nonzero (key-words ws))) = ap (λ (l : List ℕ). distinct (sorted l)) e in
-    (take-append-le n ys zs (omega (arith, sorted-length xs)) ∙ f ∙ g, k ∙ ap length g)
+-- of a front that begins with 0, the 0 and the words behind it
+front-split : (n : ℕ) (xs zs : List ℕ) → take (n + 1) xs ≡ 0 ∷ zs → (take 1 xs ≡ 0 ∷ []) × (take n (drop 1 xs) ≡ zs)
+front-split n [] zs e = let f = rw (add-one n) at e in absurd (zero-one (cc))
+front-split n (x ∷ xs) zs e = let f = rw (add-one n) at e in (cc, cc)
+
+-- what `make_set` makes of the gathered words: all but the word 0 is lent to it
+module _ (ws scratch : List ℕ) (n : ℕ) (room : n < length scratch) (gathered : take (n + 1) scratch ≡ 0 ∷ nonzero (key-words ws)) where
+  abbrev lent : List ℕ
+  lent = midOf 1 (length scratch - 1) scratch
+
+  lent-keys : take n lent ≡ nonzero (key-words ws)
+  lent-keys = take-take n (length scratch - 1) (drop 1 scratch) (omega arith) ∙ front-split n scratch (nonzero (key-words ws)) gathered .1
+
+  pub collected :
+      (ys : List ℕ) (k : ℕ) → length ys ≡ length lent → k ≡ length (distinct (sorted (take n lent))) → take k ys ≡ distinct (sorted (take n lent))
+      → (take (k + 1) (putMid 1 (length scratch - 1) scratch ys) ≡ 0 ∷ keys-in ws) × (k ≡ length (keys-in ws))
+  unfolding keys-in
+  collected ys k l c f =
+      let d = distinct-length (sorted (take n lent)) in
+      let g : distinct (sorted (take n lent)) ≡ distinct (sorted (nonzero (key-words ws))) = ap (λ (l : List ℕ). distinct (sorted l)) lent-keys in
+      let few : k ≤ length ys = omega (arith, sorted-length (take n lent), length-take n lent) in (
+        rw (front-split n scratch (nonzero (key-words ws)) gathered .0, add-one k, take-append-le k ys (drop (length scratch - 1) (drop 1 scratch)) few)
+            (ap (λ (l : List ℕ). 0 ∷ l) (f ∙ g)),
+        c ∙ ap length g,
+      )

@@ -1,14 +1,11 @@
 -- Columns of words: some words from `from` on, each `step` after the one before. What comparing with a column, and writing one, come to. Assumes nothing.
-use Prim.Native.Nat.{ℕ, zero, suc, _+_, _*_, _-_, _≤_, _<_}
+use Prim.Native.Nat.{ℕ, zero, suc, _+_, _*_, _-_, _<_}
 use mathlib.Core.Path.{_≡_, refl, _∙_, ap}
-use mathlib.Core.Bool.{true, _&&_}
 use mathlib.Core.List.{List, [], _∷_}
 use native.Mathlib.Nat.{mul-zero, mul-suc}
 use native.Mathlib.Omega.{arith}
-use lib.Dec.{eqb}
-use lib.ListN.{length, getD, set, drop, length-set, drop-of-length-le}
-use lib.Seq.{drop-cons, getD-set-same, getD-set-other}
-use Rattle.basics.specs.Lists.{same}
+use lib.ListN.{length, getD, set, length-set}
+use lib.Seq.{getD-set-same, getD-set-other, set-comm}
 
 -- `count` words from `from` on, each `step` after the one before
 unfoldable pub picked : List ℕ → ℕ → ℕ → ℕ → List ℕ
@@ -19,12 +16,6 @@ picked ws from step (suc count) = getD ws from 0 ∷ picked ws (from + step) ste
 unfoldable pub put : List ℕ → ℕ → ℕ → List ℕ → List ℕ
 put ws from step [] = ws
 put ws from step (x ∷ xs) = put (set ws from x) (from + step) step xs
-
--- a column lies inside the words; no column is wide
-pub record Column (ws : List ℕ) (from step count : ℕ) : Type 0 where
-  pub some-step : 0 < step
-  pub narrow : step ≤ 4
-  pub inside : from + step * count < length ws + step
 
 -- the words that are left, and those after the next one
 pub left-next : (step left : ℕ) → 0 < left → step * left ≡ step + step * (left - 1)
@@ -43,27 +34,6 @@ picked-at ws from step (suc n) zero l = let e : from + step * 0 ≡ from = omega
 picked-at ws from step (suc n) (suc i) l =
     let e : from + step * suc i ≡ from + step + step * i = omega (arith, mul-suc step i) in
     rw e (picked-at ws (from + step) step n i (omega arith))
-
--- the loop that compares: what is left to compare
-module _ (ws : List ℕ) (step at : ℕ) (xs : List ℕ) (i : ℕ) (l : i < length xs) where
-  pub same-next : same (picked ws at step (length xs - i)) (drop i xs)
-      ≡ (eqb (getD ws at 0) (getD xs i 0) && same (picked ws (at + step) step (length xs - suc i)) (drop (suc i) xs))
-  unfolding same picked
-  same-next = let e : length xs - i ≡ suc (length xs - suc i) = omega arith in rw (e, drop-cons xs i 0 l)
-
-  -- and the loop that writes
-  pub put-next : put ws at step (drop i xs) ≡ put (set ws at (getD xs i 0)) (at + step) step (drop (suc i) xs)
-  unfolding put
-  put-next = rw (drop-cons xs i 0 l)
-
-module _ (ws : List ℕ) (step at : ℕ) (xs : List ℕ) (i : ℕ) (l : length xs ≤ i) where
-  pub same-none : same (picked ws at step (length xs - i)) (drop i xs) ≡ true
-  unfolding same picked
-  same-none = let e : length xs - i ≡ 0 = omega arith in rw (e, drop-of-length-le xs l)
-
-  pub put-none : put ws at step (drop i xs) ≡ ws
-  unfolding put
-  put-none = rw (drop-of-length-le xs l)
 
 -- what is written: the words of the column,
 pub put-length : (ws : List ℕ) (from step : ℕ) (xs : List ℕ) → length (put ws from step xs) ≡ length ws
@@ -90,3 +60,9 @@ put-at ws from step (x ∷ xs) zero p l m =
 put-at ws from step (x ∷ xs) (suc i) p l m =
     let e : from + step * suc i ≡ from + step + step * i = omega (arith, mul-suc step i) in
     rw e (put-at (set ws from x) (from + step) step xs i p (omega arith) (omega (arith, length-set ws from x, mul-suc step i)))
+
+-- a word before the column may be written before it or after it
+pub put-set : (ws : List ℕ) (from step : ℕ) (xs : List ℕ) (k x : ℕ) → k < from → put (set ws k x) from step xs ≡ set (put ws from step xs) k x
+unfolding put
+put-set ws from step [] k x l = refl
+put-set ws from step (y ∷ ys) k x l = rw (set-comm ws k from x y (λ q. omega arith)) (put-set (set ws from y) (from + step) step ys k x (omega arith))

@@ -1,9 +1,9 @@
 -- An image in its columns: keys, next numbers and tiers of the slots, keys and tiers of the stash places. Words that have them, and the heading, at every position
 -- are fixed; comparing decides whether they have, and writing puts them there. Assumes nothing.
-use Prim.Native.Nat.{ℕ, suc, _+_, _*_, _≤_, _<_}
+use Prim.Native.Nat.{ℕ, suc, _+_, _*_, _<_}
 use mathlib.Core.Path.{_≡_, sym, _∙_, ap}
 use mathlib.Core.Bool.{Bool, true, _&&_}
-use mathlib.Core.List.{List, [], _++_}
+use mathlib.Core.List.{List, _++_}
 use native.Mathlib.Omega.{arith}
 use borrow.Author.Tests.{eqb-true, eq-eqb}
 use lib.Dec.{eqb}
@@ -16,47 +16,17 @@ use Rattle.tabulation.specs.Slots.{slot-0, slot-1}
 use Rattle.layout.specs.Entries.{Entry, keys-of, tier-of}
 use Rattle.layout.specs.Layout.{Params, family, header-words, header-length, slot-width, place-width, key-at, tier-at, stash-at, place-at, words-length, slots-of, places-of}
 use Rattle.layout.specs.Layout.{key-count, stash-count, stash-of, fits, image}
-use Rattle.layout.specs.Shape.{Shaped, Sized}
+use Rattle.layout.specs.Shape.{Shaped}
 use Rattle.layout.specs.Image.{Laid, place-keys, image-laid, laid-image}
 use Rattle.layout.specs.declared.Header.{Header}
 use Rattle.codec.specs.Columns.{picked, put, picked-length, picked-at, put-length, put-at, put-off}
 
--- columns of the slots of some words
-pub record SlotColumns (ws held next tiers : List ℕ) : Type 0 where
-  pub held-fits : header-length + slot-width * length held ≤ length ws
-  pub next-size : length next ≡ length held
-  pub tiers-size : length tiers ≡ length held
-
--- columns of the stash places
-pub record PlaceColumns (ws : List ℕ) (start : ℕ) (stash tiers : List ℕ) : Type 0 where
-  pub stash-fits : start + place-width * length stash ≤ length ws
-  pub tiers-size : length tiers ≡ length stash
-
--- words that have the shape of a dictionary, and columns of the lengths that go with it
-pub record Comparable (ws held next tiers stash stash-tiers : List ℕ) : Type 0 where
-  pub shape : Shaped ws
-  pub held-size : length held ≡ 2 * slots-of ws
-  pub next-size : length next ≡ 2 * slots-of ws
-  pub tiers-size : length tiers ≡ 2 * slots-of ws
-  pub stash-size : length stash ≡ places-of ws
-  pub stash-tiers-size : length stash-tiers ≡ places-of ws
-
--- words of the length of a dictionary with r and s, whatever they are, and columns of the lengths that go with it
-pub record Writable (r s : ℕ) (ws held next tiers stash stash-tiers : List ℕ) : Type 0 where
-  pub sizes : Sized r s
-  pub size : length ws ≡ words-length r s
-  pub held-size : length held ≡ 2 * r
-  pub next-size : length next ≡ 2 * r
-  pub tiers-size : length tiers ≡ 2 * r
-  pub stash-size : length stash ≡ s
-  pub stash-tiers-size : length stash-tiers ≡ s
-
--- comparing, column by column
-abbrev pub slots-alike : (ws held next tiers : List ℕ) → Bool
-slots-alike ws held next tiers =
-    same (picked ws header-length slot-width (length held)) held
-    && (same (picked ws (header-length + 1) slot-width (length next)) next
-    && same (picked ws (header-length + 2) slot-width (length tiers)) tiers)
+-- comparing, column by column: slots that begin at `start`, and stash places that do
+abbrev pub slots-alike : (ws : List ℕ) (start : ℕ) (held next tiers : List ℕ) → Bool
+slots-alike ws start held next tiers =
+    same (picked ws start slot-width (length held)) held
+    && (same (picked ws (start + 1) slot-width (length next)) next
+    && same (picked ws (start + 2) slot-width (length tiers)) tiers)
 
 abbrev pub places-alike : (ws : List ℕ) (start : ℕ) (stash tiers : List ℕ) → Bool
 places-alike ws start stash tiers =
@@ -66,14 +36,20 @@ abbrev pub alike : (ws : List ℕ) (keys stashed : ℕ) (held next tiers stash s
 alike ws keys stashed held next tiers stash stash-tiers =
     eqb (key-count ws) keys
     && (eqb (stash-count ws) stashed
-    && (slots-alike ws held next tiers && places-alike ws (stash-at (slots-of ws)) stash stash-tiers))
+    && (slots-alike ws header-length held next tiers && places-alike ws (stash-at (slots-of ws)) stash stash-tiers))
 
--- writing: the heading, then column by column
+-- writing, column by column
+abbrev pub slots-put : (ws : List ℕ) (start : ℕ) (held next tiers : List ℕ) → List ℕ
+slots-put ws start held next tiers =
+    put (put (put ws start slot-width held) (start + 1) slot-width next) (start + 2) slot-width tiers
+
+abbrev pub places-put : (ws : List ℕ) (start : ℕ) (stash tiers : List ℕ) → List ℕ
+places-put ws start stash tiers = put (put ws start place-width stash) (start + 1) place-width tiers
+
+-- the heading first
 abbrev pub written : (ws : List ℕ) (h : Header) (held next tiers stash stash-tiers : List ℕ) → List ℕ
 written ws h held next tiers stash stash-tiers =
-    let headed = header-words h ++ drop header-length ws in
-    let slots = put (put (put headed header-length slot-width held) (header-length + 1) slot-width next) (header-length + 2) slot-width tiers in
-    put (put slots (stash-at (h .slots)) place-width stash) (stash-at (h .slots) + 1) place-width stash-tiers
+    places-put (slots-put (header-words h ++ drop header-length ws) header-length held next tiers) (stash-at (h .slots)) stash stash-tiers
 
 -- The columns of the image of a set.
 pub record ImageColumns (P : Params) (L : List Entry) (held next tiers stash beside : List ℕ) : Type 0 where
@@ -113,7 +89,7 @@ module _ {P : Params} {L : List Entry} {held next tiers stash beside : List ℕ}
     alike-laid t =
         let a = and-true (eqb (key-count ws) (length S)) _ t in
         let b = and-true (eqb (stash-count ws) (length (stash-of P S))) _ (a .1) in
-        let c = and-true (slots-alike ws held next tiers) (places-alike ws (stash-at (slots-of ws)) stash beside) (b .1) in
+        let c = and-true (slots-alike ws header-length held next tiers) (places-alike ws (stash-at (slots-of ws)) stash beside) (b .1) in
         let d = and-true (same (picked ws header-length slot-width (length held)) held) _ (c .0) in
         let f = and-true (same (picked ws (header-length + 1) slot-width (length next)) next) _ (d .1) in
         let g = and-true (same (picked ws (stash-at (slots-of ws)) place-width (length stash)) stash) _ (c .1) in

@@ -1,8 +1,8 @@
-// The keys that stand in given words, ascending, at the front of scratch: the words that are not 0 are gathered,
-// sorted, and doubles are dropped. The words need only the shape of a dictionary: whether they are canonical is found
-// out later, from these keys.
+// The keys that stand in given words, ascending, in scratch: the words that are not 0 are gathered, sorted, and doubles
+// are dropped. A key comes to the word of its rank, counted from 1: word 0 is 0, since "no key" has rank 0. The words
+// need only the shape of a dictionary: whether they are canonical is found out later, from these keys.
 ghost use mathlib.Core.Path.{_≡_};
-ghost use mathlib.Core.List.{_++_};
+ghost use mathlib.Core.List.{_∷_, _++_};
 ghost use Prim.Native.Nat.{_+_, _*_, _≤_, _<_};
 ghost use lib.ListN.{length, take};
 ghost use Rattle.ordered.specs.Keys.{sorted, distinct};
@@ -16,10 +16,12 @@ use access::SLOT_WIDTH;
 use access::stash_start;
 use ordered::drop_doubles;
 use sorting::sort;
+use words::differs;
 use words::wide;
 
 // Of `count` words from `from` on, each `step` after the one before, those that are not 0 come behind the first `n`
-// words of scratch. The answer is how many words these are then.
+// words of scratch. The answer is how many words these are then. Each word is written, and overwritten by the next if
+// it is 0: nothing branches on the words.
 fn gather(
     words: &[u32],
     from: usize,
@@ -38,60 +40,62 @@ fn gather(
     let mut left = count;
     while 0 < left {
         let word = words[at];
-        if word != 0 {
-            scratch[end] = word;
-            end += 1;
-        }
+        scratch[end] = word;
+        end += differs(word, 0);
         at += step;
         left -= 1;
     }
     end
 }
 
-// The key words of the slots, then those of the stash, without the zeros, come to the front of scratch. The answer is
-// how many they are.
+// Word 0 of scratch is 0, and behind it come the key words of the slots, then those of the stash, without the zeros.
+// The answer is how many they are.
 fn gather_keys(words: &[u32], scratch: &mut [u32]) -> usize
-    requires { ⌜ Shaped (now words) × (2 * slots-of (now words) + places-of (now words) ≤ length (now scratch)) ⌝ }
-    ensures front { λ n. ⌜ take n (now (scratch .exit)) ≡ nonzero (key-words (now (words .entry))) ⌝ }
+    requires { ⌜ Shaped (now words) × (2 * slots-of (now words) + places-of (now words) + 1 ≤ length (now scratch)) ⌝ }
+    ensures front { λ n. ⌜ take (n + 1) (now (scratch .exit)) ≡ 0 ∷ nonzero (key-words (now (words .entry))) ⌝ }
     ensures counted { λ n. ⌜ n ≡ length (nonzero (key-words (now (words .entry)))) ⌝ }
 {
     let header = access::read_header(words);
     let r = header.slots;
     let s = header.places;
+    scratch[0] = 0;
     let n = gather(
         words,
         HEADER_LENGTH,
         SLOT_WIDTH,
         2 * wide(r),
         &mut *scratch,
-        0,
+        1,
     );
-    gather(
+    let end = gather(
         words,
         stash_start(r),
         PLACE_WIDTH,
         wide(s),
         &mut *scratch,
         n,
-    )
+    );
+    end - 1
 }
 
-// The set of some keys: ascending at their front, each once. The answer is how many they are.
-fn make_set(keys: &mut [u32]) -> usize
-    ensures front { λ n. ⌜ take n (now (keys .exit)) ≡ distinct (sorted (now (keys .entry))) ⌝ }
-    ensures counted { λ n. ⌜ n ≡ length (distinct (sorted (now (keys .entry)))) ⌝ }
+// The set of the first n keys: ascending at their front, each once. The answer is how many they are. The words behind
+// the n are free to be used.
+fn make_set(keys: &mut [u32], n: usize) -> usize
+    requires { ⌜ n ≤ length (now keys) ⌝ }
+    ensures front { λ k. ⌜ take k (now (keys .exit)) ≡ distinct (sorted (take n (now (keys .entry)))) ⌝ }
+    ensures counted { λ k. ⌜ k ≡ length (distinct (sorted (take n (now (keys .entry))))) ⌝ }
 {
-    sort(&mut *keys);
-    drop_doubles(&mut *keys)
+    sort(&mut *keys, n);
+    drop_doubles(&mut keys[..n])
 }
 
-// The keys that stand in the words come to the front of scratch, ascending, each once. The answer is how many they are.
-// What was in scratch has no effect.
+// The keys that stand in the words come to scratch behind a word 0, ascending, each once. The answer is how many they
+// are. What was in scratch has no effect.
 pub fn collect_keys(words: &[u32], scratch: &mut [u32]) -> usize
-    requires { ⌜ Shaped (now words) × (2 * slots-of (now words) + places-of (now words) ≤ length (now scratch)) ⌝ }
-    ensures front { λ n. ⌜ take n (now (scratch .exit)) ≡ keys-in (now (words .entry)) ⌝ }
+    requires { ⌜ Shaped (now words) × (2 * slots-of (now words) + places-of (now words) + 1 ≤ length (now scratch)) ⌝ }
+    ensures front { λ n. ⌜ take (n + 1) (now (scratch .exit)) ≡ 0 ∷ keys-in (now (words .entry)) ⌝ }
     ensures counted { λ n. ⌜ n ≡ length (keys-in (now (words .entry))) ⌝ }
 {
     let n = gather_keys(words, &mut *scratch);
-    make_set(&mut scratch[..n])
+    make_set(&mut scratch[1..], n)
 }

@@ -1,125 +1,239 @@
-// An image in its columns: what the slots hold, their next numbers, their tiers; the keys and the tiers of the stash
-// places. Whether given words are it, and the writing of it into words. The columns are lent as they are: nothing here
-// knows where they lie.
+// An image told by ranks, as the build leaves it: whether given words are it, and the writing of it into words. Keys
+// and tiers are put in for the ranks here, slot by slot, then place by place. Rank 0, which is no key, is read like any
+// other: no slot is asked whether it is empty.
 ghost use mathlib.Core.Path.{_≡_};
-ghost use lib.ListN.{length};
-ghost use Rattle.basics.specs.Lists.{same};
-ghost use Rattle.codec.specs.Columns.{picked, put, Column};
-ghost use Rattle.codec.specs.Image.{SlotColumns, PlaceColumns, Comparable, Writable, slots-alike, places-alike};
-ghost use Rattle.codec.specs.Image.{alike, written};
+ghost use Prim.Native.Nat.{_+_, _*_, _≤_, _<_};
+ghost use lib.ListN.{length, getD};
+ghost use Rattle.layout.specs.Layout.{header-length, places-of, slots-of, words-length};
+ghost use Rattle.layout.specs.Shape.{Shaped, Sized};
+ghost use Rattle.codec.specs.Rows.{slot-alike, slot-put, place-alike, place-put};
+ghost use Rattle.codec.specs.Ranks.{tier-by, Ranked, Known, Chained, SlotRanks, PlaceRanks};
+ghost use Rattle.codec.specs.Ranks.{ranked-slots-alike, ranked-slots-put, ranked-places-alike};
+ghost use Rattle.codec.specs.Ranks.{ranked-places-put, ranks-alike, ranks-written};
 use access::HEADER_LENGTH;
 use access::PLACE_WIDTH;
 use access::SLOT_WIDTH;
 use layout::Header;
 use words::wide;
 
-// Whether the words of a column are these.
-fn same_column(words: &[u32], from: usize, step: usize, column: &[u32]) -> bool
-    requires { ⌜ Column (now words) from step (length (now column)) ⌝ }
-    ensures { λ b. ⌜ b ≡ same (picked (now (words .entry)) from step (length (now (column .entry))))
-        (now (column .entry)) ⌝ }
+// The tier stands above the two slots in an edge.
+const TIER_UNIT: u32 = 4_194_304;
+
+// The tier of a rank. Before the first edge stands the last held rank, which is small: so 0 has tier 0.
+fn tier_of(r: usize, graph: &[u32], rank: usize) -> u32
+    requires { ⌜ (0 < r) × (2 * r + rank ≤ length (now graph)) ⌝ }
+    ensures { λ t. ⌜ t ≡ tier-by r (now (graph .entry)) rank ⌝ }
 {
-    let mut at = from;
-    let mut i = 0;
-    while i < column.len() {
-        if words[at] != column[i] {
+    graph[2 * r + rank - 1] / TIER_UNIT
+}
+
+// Whether the slot that begins at `at` has the key, the next and the tier of a rank.
+fn same_slot(
+    words: &[u32],
+    at: usize,
+    r: usize,
+    keys: &[u32],
+    graph: &[u32],
+    next: &[u32],
+    rank: usize,
+) -> bool
+    requires { ⌜ (at + 2 < length (now words)) × Known r (now keys) (now graph) rank
+        × Chained (now keys) (now next) rank ⌝ }
+    ensures { λ b. ⌜ b ≡ slot-alike (now (words .entry)) at (getD (now (keys .entry)) rank 0)
+        (getD (now (keys .entry)) (getD (now (next .entry)) rank 0) 0) (tier-by r (now (graph .entry)) rank) ⌝ }
+{
+    if words[at] != keys[rank] {
+        return false;
+    }
+    let after = wide(next[rank]);
+    if words[at + 1] != keys[after] {
+        return false;
+    }
+    words[at + 2] == tier_of(r, graph, rank)
+}
+
+// Whether the slots have the keys, the next numbers and the tiers of these ranks.
+fn same_slots(
+    words: &[u32],
+    r: usize,
+    keys: &[u32],
+    graph: &[u32],
+    next: &[u32],
+    held: &[u32],
+) -> bool
+    requires { ⌜ SlotRanks (now words) r (now keys) (now graph) (now next) (now held) ⌝ }
+    ensures { λ b. ⌜ b ≡ ranked-slots-alike (now (words .entry)) header-length r (now (keys .entry))
+        (now (graph .entry)) (now (next .entry)) (now (held .entry)) ⌝ }
+{
+    let mut at = HEADER_LENGTH;
+    let mut v = 0;
+    while v < held.len() {
+        if !same_slot(words, at, r, keys, graph, next, wide(held[v])) {
             return false;
         }
-        at += step;
+        at += SLOT_WIDTH;
+        v += 1;
+    }
+    true
+}
+
+// Whether the stash place that begins at `at` has the key and the tier of a rank.
+fn same_place(words: &[u32], at: usize, r: usize, keys: &[u32], graph: &[u32], rank: usize) -> bool
+    requires { ⌜ (at + 1 < length (now words)) × Known r (now keys) (now graph) rank ⌝ }
+    ensures { λ b. ⌜ b ≡ place-alike (now (words .entry)) at (getD (now (keys .entry)) rank 0)
+        (tier-by r (now (graph .entry)) rank) ⌝ }
+{
+    if words[at] != keys[rank] {
+        return false;
+    }
+    words[at + 1] == tier_of(r, graph, rank)
+}
+
+// Whether the places of the stash, which begins at `start`, have the keys and the tiers of these ranks.
+fn same_places(
+    words: &[u32],
+    start: usize,
+    r: usize,
+    keys: &[u32],
+    graph: &[u32],
+    stash: &[u32],
+) -> bool
+    requires { ⌜ PlaceRanks (now words) start r (now keys) (now graph) (now stash) ⌝ }
+    ensures { λ b. ⌜ b ≡ ranked-places-alike (now (words .entry)) start r (now (keys .entry))
+        (now (graph .entry)) (now (stash .entry)) ⌝ }
+{
+    let mut at = start;
+    let mut i = 0;
+    while i < stash.len() {
+        if !same_place(words, at, r, keys, graph, wide(stash[i])) {
+            return false;
+        }
+        at += PLACE_WIDTH;
         i += 1;
     }
     true
 }
 
-// Writes a column.
-fn write_column(words: &mut [u32], from: usize, step: usize, column: &[u32])
-    requires { ⌜ Column (now words) from step (length (now column)) ⌝ }
-    ensures { λ _. ⌜ now (words .exit) ≡ put (now (words .entry)) from step (now (column .entry)) ⌝ }
+// Writes the key, the next and the tier of a rank over the slot that begins at `at`.
+fn write_slot(
+    words: &mut [u32],
+    at: usize,
+    r: usize,
+    keys: &[u32],
+    graph: &[u32],
+    next: &[u32],
+    rank: usize,
+)
+    requires { ⌜ (at + 2 < length (now words)) × Known r (now keys) (now graph) rank
+        × Chained (now keys) (now next) rank ⌝ }
+    ensures { λ _. ⌜ now (words .exit) ≡ slot-put (now (words .entry)) at (getD (now (keys .entry)) rank 0)
+        (getD (now (keys .entry)) (getD (now (next .entry)) rank 0) 0) (tier-by r (now (graph .entry)) rank) ⌝ }
 {
-    let mut at = from;
+    let after = wide(next[rank]);
+    words[at] = keys[rank];
+    words[at + 1] = keys[after];
+    words[at + 2] = tier_of(r, graph, rank);
+}
+
+// Writes the slots of these ranks.
+fn write_slots(words: &mut [u32], r: usize, keys: &[u32], graph: &[u32], next: &[u32], held: &[u32])
+    requires { ⌜ SlotRanks (now words) r (now keys) (now graph) (now next) (now held) ⌝ }
+    ensures { λ _. ⌜ now (words .exit) ≡ ranked-slots-put (now (words .entry)) header-length r (now (keys .entry))
+        (now (graph .entry)) (now (next .entry)) (now (held .entry)) ⌝ }
+{
+    let mut at = HEADER_LENGTH;
+    let mut v = 0;
+    while v < held.len() {
+        write_slot(&mut *words, at, r, keys, graph, next, wide(held[v]));
+        at += SLOT_WIDTH;
+        v += 1;
+    }
+}
+
+// Writes the key and the tier of a rank over the stash place that begins at `at`.
+fn write_place(words: &mut [u32], at: usize, r: usize, keys: &[u32], graph: &[u32], rank: usize)
+    requires { ⌜ (at + 1 < length (now words)) × Known r (now keys) (now graph) rank ⌝ }
+    ensures { λ _. ⌜ now (words .exit) ≡ place-put (now (words .entry)) at (getD (now (keys .entry)) rank 0)
+        (tier-by r (now (graph .entry)) rank) ⌝ }
+{
+    words[at] = keys[rank];
+    words[at + 1] = tier_of(r, graph, rank);
+}
+
+// Writes the stash places of these ranks, from `start` on.
+fn write_places(
+    words: &mut [u32],
+    start: usize,
+    r: usize,
+    keys: &[u32],
+    graph: &[u32],
+    stash: &[u32],
+)
+    requires { ⌜ PlaceRanks (now words) start r (now keys) (now graph) (now stash) ⌝ }
+    ensures { λ _. ⌜ now (words .exit) ≡ ranked-places-put (now (words .entry)) start r (now (keys .entry))
+        (now (graph .entry)) (now (stash .entry)) ⌝ }
+{
+    let mut at = start;
     let mut i = 0;
-    while i < column.len() {
-        words[at] = column[i];
-        at += step;
+    while i < stash.len() {
+        write_place(&mut *words, at, r, keys, graph, wide(stash[i]));
+        at += PLACE_WIDTH;
         i += 1;
     }
 }
 
-// Whether the slots have these keys, next numbers and tiers.
-fn same_slots(words: &[u32], held: &[u32], next: &[u32], tiers: &[u32]) -> bool
-    requires { ⌜ SlotColumns (now words) (now held) (now next) (now tiers) ⌝ }
-    ensures { λ b. ⌜ b ≡ slots-alike (now (words .entry)) (now (held .entry)) (now (next .entry))
-        (now (tiers .entry)) ⌝ }
-{
-    if !same_column(words, HEADER_LENGTH, SLOT_WIDTH, held) {
-        return false;
-    }
-    if !same_column(words, HEADER_LENGTH + 1, SLOT_WIDTH, next) {
-        return false;
-    }
-    same_column(words, HEADER_LENGTH + 2, SLOT_WIDTH, tiers)
-}
-
-// Whether the places of the stash, which begins at `start`, have these keys and tiers.
-fn same_places(words: &[u32], start: usize, stash: &[u32], tiers: &[u32]) -> bool
-    requires { ⌜ PlaceColumns (now words) start (now stash) (now tiers) ⌝ }
-    ensures { λ b. ⌜ b ≡ places-alike (now (words .entry)) start (now (stash .entry)) (now (tiers .entry)) ⌝ }
-{
-    if !same_column(words, start, PLACE_WIDTH, stash) {
-        return false;
-    }
-    same_column(words, start + 1, PLACE_WIDTH, tiers)
-}
-
-// Whether the words, which have the shape of a dictionary, are the image with these counts and columns. What words 0
-// and 1 say is r and s already.
+// Whether the words, which have the shape of a dictionary, are the image with these counts and ranks. What words 0 and
+// 1 say is r and s already.
 pub fn matches(
     words: &[u32],
-    keys: usize,
+    count: usize,
     stashed: u32,
-    held: &[u32],
+    keys: &[u32],
+    graph: &[u32],
     next: &[u32],
-    tiers: &[u32],
     stash: &[u32],
-    beside: &[u32],
 ) -> bool
-    requires { ⌜ Comparable (now words) (now held) (now next) (now tiers) (now stash) (now beside) ⌝ }
-    ensures { λ b. ⌜ b ≡ alike (now (words .entry)) keys stashed (now (held .entry)) (now (next .entry))
-        (now (tiers .entry)) (now (stash .entry)) (now (beside .entry)) ⌝ }
+    requires { ⌜ (Shaped (now words) × (length (now stash) ≡ places-of (now words)))
+        × Ranked (slots-of (now words)) count (now keys) (now graph) (now next) (now stash) ⌝ }
+    ensures { λ b. ⌜ b ≡ ranks-alike (now (words .entry)) count stashed (now (keys .entry)) (now (graph .entry))
+        (now (next .entry)) (now (stash .entry)) ⌝ }
 {
     let header = access::read_header(words);
-    if wide(header.keys) != keys {
+    if wide(header.keys) != count {
         return false;
     }
     if header.stashed != stashed {
         return false;
     }
-    if !same_slots(words, held, next, tiers) {
+    let start = access::stash_start(header.slots);
+    let r = wide(header.slots);
+    let end = 2 * r;
+    if !same_slots(words, r, keys, graph, next, &graph[..end]) {
         return false;
     }
-    same_places(words, access::stash_start(header.slots), stash, beside)
+    same_places(words, start, r, keys, graph, stash)
 }
 
-// Writes the image with these sizes, counts and columns over all of the words, whatever they were.
+// Writes the image with these sizes, counts and ranks over all of the words, whatever they were.
 pub fn write_image(
     words: &mut [u32],
     header: Header,
-    held: &[u32],
+    keys: &[u32],
+    graph: &[u32],
     next: &[u32],
-    tiers: &[u32],
     stash: &[u32],
-    beside: &[u32],
 )
-    requires { ⌜ Writable (header .slots) (header .places) (now words) (now held) (now next) (now tiers) (now stash)
-        (now beside) ⌝ }
-    ensures { λ _. ⌜ now (words .exit) ≡ written (now (words .entry)) header (now (held .entry)) (now (next .entry))
-        (now (tiers .entry)) (now (stash .entry)) (now (beside .entry)) ⌝ }
+    requires { ⌜ (Sized (header .slots) (header .places)
+        × ((length (now words) ≡ words-length (header .slots) (header .places))
+        × (length (now stash) ≡ header .places)))
+        × Ranked (header .slots) (header .keys) (now keys) (now graph) (now next) (now stash) ⌝ }
+    ensures { λ _. ⌜ now (words .exit) ≡ ranks-written (now (words .entry)) header (now (keys .entry))
+        (now (graph .entry)) (now (next .entry)) (now (stash .entry)) ⌝ }
 {
     let start = access::stash_start(header.slots);
+    let r = wide(header.slots);
+    let end = 2 * r;
     access::write_header(&mut *words, header);
-    write_column(&mut *words, HEADER_LENGTH, SLOT_WIDTH, held);
-    write_column(&mut *words, HEADER_LENGTH + 1, SLOT_WIDTH, next);
-    write_column(&mut *words, HEADER_LENGTH + 2, SLOT_WIDTH, tiers);
-    write_column(&mut *words, start, PLACE_WIDTH, stash);
-    write_column(&mut *words, start + 1, PLACE_WIDTH, beside);
+    write_slots(&mut *words, r, keys, graph, next, &graph[..end]);
+    write_places(&mut *words, start, r, keys, graph, stash);
 }

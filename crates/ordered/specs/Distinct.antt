@@ -1,14 +1,16 @@
 -- `distinct` has the same members, and of a sorted list it is a set of keys: strictly ascending. Assumes nothing.
 use Prim.Native.Nat.{ℕ, suc, _+_, _≤_, _<_}
-use mathlib.Core.Path.{_≡_, refl, _∙_}
+use mathlib.Core.Path.{_≡_, refl, sym, _∙_}
+use mathlib.Core.Bool.{cond}
 use mathlib.Core.Logic.{inl, inr}
 use mathlib.Core.List.{List·Memᴰ·head as here, List·Memᴰ·tail as there, List, [], _∷_, _++_, append-assoc}
-use native.Mathlib.Nat.{le-refl}
+use native.Mathlib.Nat.{le-refl, add-zero}
 use native.Mathlib.Numerals.{add-one}
 use native.Mathlib.Omega.{arith}
 use borrow.Author.Tests.{eq-eqb, ne-eqb}
+use lib.Dec.{eqb}
 use lib.ListN.{length, getD, set, take, drop, drop-of-length-le}
-use lib.Seq.{take-suc-set, drop-set-lt, drop-cons}
+use lib.Seq.{take-suc-set, take-set-le, drop-set-lt, drop-cons}
 use Rattle.basics.specs.Tests.{eq?}
 use Rattle.basics.specs.Sets.{Sub, Asc}
 use Rattle.ordered.specs.Keys.{sorted, distinct}
@@ -86,33 +88,20 @@ unfoldable pub keeping : List ℕ → ℕ → ℕ → List ℕ
 keeping s n i = take n s ++ distinct (drop i s)
 
 module _ (s : List ℕ) (n i : ℕ) where
-  pub keeping-double : i + 1 < length s → getD s i 0 ≡ getD s (i + 1) 0 → keeping s n i ≡ keeping s n (i + 1)
-  unfolding keeping
-  keeping-double h e =
-      let a : i < length s = omega arith in
-      let b : suc i < length s = omega arith in
-      let e′ = rw (add-one i) at e in
-      simp (add-one, drop-cons s i 0 a, drop-cons s (suc i) 0 b, distinct-double (getD s i 0) (getD s (suc i) 0) (drop (suc (suc i)) s) e′)
-
-  pub keeping-new :
-      n ≤ i → i + 1 < length s → (getD s i 0 ≡ getD s (i + 1) 0 → ⊥)
-      → keeping s n i ≡ keeping (set s n (getD s i 0)) (n + 1) (i + 1)
-  unfolding keeping
-  keeping-new l h ne =
+  -- the key at i is written in any case, and kept if the next is another
+  pub keeping-step :
+      n ≤ i → i + 1 < length s
+      → keeping s n i ≡ keeping (set s n (getD s i 0)) (n + cond (eqb (getD s i 0) (getD s (i + 1) 0)) 0 1) (i + 1)
+  unfolding keeping distinct
+  keeping-step l h =
       let a : i < length s = omega arith in
       let b : suc i < length s = omega arith in
       let d : n < length s = omega arith in
       let e : n < suc i = omega arith in
-      let ne′ : getD s i 0 ≡ getD s (suc i) 0 → ⊥ = rw (add-one i) at ne in
-      simp (
-        add-one,
-        take-suc-set,
-        drop-set-lt,
-        drop-cons s i 0 a,
-        drop-cons s (suc i) 0 b,
-        append-assoc,
-        distinct-new (getD s i 0) (getD s (suc i) 0) (drop (suc (suc i)) s) ne′,
-      )
+      rw (add-one i, drop-cons s i 0, drop-cons s (suc i) 0, drop-set-lt, drop-cons s (suc i) 0) (elim (eq? (getD s i 0) (getD s (suc i) 0)) [
+        | inl q ↦ rw (eq-eqb _ _ q, add-zero, take-set-le n s n (getD s i 0) (le-refl n))
+        | inr ne ↦ rw (ne-eqb _ _ ne, add-one n, take-suc-set) (sym (append-assoc (take n s) (getD s i 0 ∷ []) _))
+      ])
 
   pub keeping-last : n ≤ i → i + 1 ≡ length s → keeping s n i ≡ take (n + 1) (set s n (getD s i 0))
   unfolding keeping distinct

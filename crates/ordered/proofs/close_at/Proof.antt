@@ -9,11 +9,11 @@ use Rattle.ordered.proofs.close_at.Statement.{statement}
 use Rattle.ordered.proofs.close_at.Tie as tie
 
 abbrev Inv-loop : tie.InvT-loop
-Inv-loop keys₀ at n i₀ keys i =
-    (i < n) × (length keys ≡ length keys₀) × (closed keys₀ i₀ n ≡ closed keys i n)
+Inv-loop words₀ at n i₀ words i =
+    (i < n) × (length words ≡ length words₀) × (closed words₀ i₀ n ≡ closed words i n)
 
 abbrev μ-loop : tie.MeasureT-loop
-μ-loop keys₀ at n i₀ keys i = n - i
+μ-loop words₀ at n i₀ words i = n - i
 
 loop-holds : tie.Need-loop-holds Inv-loop μ-loop
 loop-holds c = search needs
@@ -21,20 +21,20 @@ loop-holds c = search needs
 add-loop : tie.Need-add-loop Inv-loop μ-loop
 add-loop c = search needs
 
-add-keys : tie.Need-add-keys Inv-loop μ-loop
-add-keys c = search needs
+add-words : tie.Need-add-words Inv-loop μ-loop
+add-words c = search needs
 
-mul-keys : tie.Need-mul-keys Inv-loop μ-loop
-mul-keys c = search needs
+mul-words : tie.Need-mul-words Inv-loop μ-loop
+mul-words c = search needs
 
-slice-read-keys : tie.Need-slice-read-keys Inv-loop μ-loop
-slice-read-keys c = search needs
+slice-read-words : tie.Need-slice-read-words Inv-loop μ-loop
+slice-read-words c = search needs
 
-mul-keys-2 : tie.Need-mul-keys-2 Inv-loop μ-loop
-mul-keys-2 c = search needs
+mul-words-2 : tie.Need-mul-words-2 Inv-loop μ-loop
+mul-words-2 c = search needs
 
-slice-write-keys : tie.Need-slice-write-keys Inv-loop μ-loop
-slice-write-keys c = search needs
+slice-write-words : tie.Need-slice-write-words Inv-loop μ-loop
+slice-write-words c = search needs
 
 add-i : tie.Need-add-i Inv-loop μ-loop
 add-i c = search needs
@@ -46,7 +46,7 @@ loop-again : tie.Need-loop-again Inv-loop μ-loop
 loop-again c =
     let l = c .before .before .loop in
     let a = c .before .before .before .args in
-    (search needs, search needs, l .inv .2 ∙ closed-step (l .keys) (l .i) (a .n) (omega arith) (omega arith))
+    (search needs, search needs, l .inv .2 ∙ closed-step (l .words) (l .i) (a .n) (omega arith) (omega arith))
 
 same-length : tie.Need-same-length Inv-loop μ-loop
 same-length c = search needs
@@ -55,7 +55,7 @@ returns : tie.Need-returns Inv-loop μ-loop
 returns c =
     let l = c .before .loop in
     let a = c .before .before .args in
-    sym (l .inv .2 ∙ closed-last (l .keys) (l .i) (a .n) (omega arith))
+    sym (l .inv .2 ∙ closed-last (l .words) (l .i) (a .n) (omega arith))
 
 pub close-at-spec : {M : Type 1} → statement M
 close-at-spec =
@@ -65,11 +65,11 @@ close-at-spec =
     μ-loop
     loop-holds
     add-loop
-    add-keys
-    mul-keys
-    slice-read-keys
-    mul-keys-2
-    slice-write-keys
+    add-words
+    mul-words
+    slice-read-words
+    mul-words-2
+    slice-write-words
     add-i
     loop-less
     loop-again

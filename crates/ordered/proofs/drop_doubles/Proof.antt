@@ -2,12 +2,11 @@
 -- keeps of the whole. Assumes nothing.
 use borrow.Author.Needs.{needs}
 use mathlib.Core.Path.{_≡_, refl, sym, _∙_, ap}
-use mathlib.Core.Logic.{⊎-elim}
 use Prim.Native.Nat.{_≤_, _<_, _+_, _-_}
 use native.Mathlib.Omega.{arith}
 use lib.ListN.{length, getD, set, length-set, length-take}
 use Rattle.ordered.specs.Keys.{distinct}
-use Rattle.ordered.specs.Distinct.{distinct-none, keeping, keeping-double, keeping-new, keeping-last}
+use Rattle.ordered.specs.Distinct.{distinct-none, keeping, keeping-step, keeping-last}
 use Rattle.ordered.proofs.drop_doubles.Statement.{statement}
 use Rattle.ordered.proofs.drop_doubles.Tie as tie
 
@@ -20,7 +19,7 @@ abbrev μ-loop : tie.MeasureT-loop
 
 returns : tie.Need-returns Inv-loop μ-loop
 returns c =
-    let e = distinct-none (c .before .args .keys .now) (c .if1 .taken) in (sym e, sym (ap length e))
+    let e = distinct-none (c .before .before .args .keys .now) (c .if1 .taken) in (sym e, sym (ap length e))
 
 loop-holds : tie.Need-loop-holds Inv-loop μ-loop
 unfolding keeping
@@ -51,6 +50,9 @@ mul-keys c = search needs
 slice-write-keys : tie.Need-slice-write-keys Inv-loop μ-loop
 slice-write-keys c = search needs
 
+differs-requires : tie.Need-differs-requires Inv-loop μ-loop
+differs-requires c κs = search needs
+
 add-n : tie.Need-add-n Inv-loop μ-loop
 add-n c = search needs
 
@@ -62,23 +64,12 @@ loop-less c = search needs
 
 loop-again : tie.Need-loop-again Inv-loop μ-loop
 loop-again c =
-    let l = c .before .before .before .before .loop in
-    ⊎-elim
-    (λ w. (
-      omega arith,
-      omega arith,
-      rw (w .1) (simp length-set (l .inv .2)),
-      rw (w .1, w .2)
-          (l .inv .3 ∙ keeping-new (l .keys) (l .n) (l .i) (omega arith) (omega arith) (w .0 .taken)),
-    ))
-    (λ w. (
-      omega arith,
-      omega arith,
-      rw (w .1) (l .inv .2),
-      rw (w .1, w .2)
-          (l .inv .3 ∙ keeping-double (l .keys) (l .n) (l .i) (omega arith) (w .0 .left)),
-    ))
-    (c .if2 .came)
+    let l = c .before .before .before .before .loop in (
+      search needs,
+      search needs,
+      simp length-set (l .inv .2),
+      rw (c .differs .ensures .0) (l .inv .3 ∙ keeping-step (l .keys) (l .n) (l .i) (omega arith) (omega arith)),
+    )
 
 mul-keys-2 : tie.Need-mul-keys-2 Inv-loop μ-loop
 mul-keys-2 c = search needs
@@ -121,6 +112,7 @@ drop-doubles-spec =
     slice-read-y
     mul-keys
     slice-write-keys
+    differs-requires
     add-n
     add-i
     loop-less

@@ -26,8 +26,8 @@ rank-requires c κs = search needs
 abbrev start : tie.After-rank → tie.Start
 start r = r .before .before .before
 
-put-at-requires : tie.Need-put-at-requires
-put-at-requires c κs =
+open-at-requires : tie.Need-open-at-requires
+open-at-requires c κs =
     let s = start (c .before) in
     (omega (arith, front s, c .before .rank .ensures, rank-le (s .args .key) (take (s .args .n) (s .args .keys .now))), search needs)
 
@@ -38,7 +38,7 @@ returns : tie.Need-returns
 returns c =
     let r = c .before .before .before .before in
     let s = start r in
-    let e = c .before .before .put-at .ensures in
+    let e = c .before .before .open-at .ensures in
     let o = opened-set (s .args .keys .now) (s .args .n) (s .args .key) (s .pre .1) (s .pre .0) (s .pre .2) in
     (rw (e, r .rank .ensures) (o .0), rw (e, r .rank .ensures) (o .1))
 
@@ -49,6 +49,6 @@ insert-spec =
     slice-reshare-prefix-rank
     slice-aggregate-rank
     rank-requires
-    put-at-requires
+    open-at-requires
     same-length
     returns)

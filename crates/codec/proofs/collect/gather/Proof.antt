@@ -2,13 +2,12 @@
 -- the words that are left lie inside, and scratch has room for them. Assumes nothing.
 use borrow.Author.Needs.{needs}
 use mathlib.Core.Path.{_≡_, refl, sym, _∙_, ap}
-use mathlib.Core.Logic.{⊎-elim}
 use Prim.Native.Nat.{_≤_, _+_, _*_}
 use native.Mathlib.Omega.{arith}
 use lib.ListN.{length, take, length-set, length-append}
 use lib.Seq.{length-take-le}
 use Rattle.codec.specs.Columns.{picked, left-next}
-use Rattle.codec.specs.Collect.{nonzero, gathering, gathering-key, gathering-blank, gathering-end}
+use Rattle.codec.specs.Collect.{nonzero, gathering, gathering-step, gathering-end}
 use Rattle.codec.proofs.collect.gather.Statement.{statement}
 use Rattle.codec.proofs.collect.gather.Tie as tie
 
@@ -22,6 +21,13 @@ Inv-loop words from step count scratch₀ n end₀ at₀ left₀ scratch end at 
 abbrev μ-loop : tie.MeasureT-loop
 μ-loop words from step count scratch₀ n end₀ at₀ left₀ scratch end at left = left
 
+-- places of the code, each from a later one
+abbrev start : tie.At-loop Inv-loop μ-loop → tie.Start Inv-loop μ-loop
+start l = l .before .before .before
+
+abbrev round : tie.After-differs Inv-loop μ-loop → tie.At-loop Inv-loop μ-loop
+round d = d .before .before .before
+
 loop-holds : tie.Need-loop-holds Inv-loop μ-loop
 loop-holds c = (search needs, search needs, refl, refl)
 
@@ -30,8 +36,8 @@ mul-word c = search needs
 
 shared-slice-read-word : tie.Need-shared-slice-read-word Inv-loop μ-loop
 shared-slice-read-word c =
-    let l = c .before .before .loop in
-    let e = left-next (c .before .before .before .args .step) (l .left) (omega arith) in
+    let l = c .before .before in
+    let e = left-next (start l .args .step) (l .loop .left) (omega arith) in
     omega arith
 
 mul-scratch : tie.Need-mul-scratch Inv-loop μ-loop
@@ -40,13 +46,16 @@ mul-scratch c = search needs
 slice-write-scratch : tie.Need-slice-write-scratch Inv-loop μ-loop
 slice-write-scratch c = search needs
 
+differs-requires : tie.Need-differs-requires Inv-loop μ-loop
+differs-requires c κs = search needs
+
 add-end : tie.Need-add-end Inv-loop μ-loop
 add-end c = search needs
 
 add-at : tie.Need-add-at Inv-loop μ-loop
 add-at c =
-    let l = c .before .before .before .loop in
-    let e = left-next (c .before .before .before .before .args .step) (l .left) (omega arith) in
+    let l = round c in
+    let e = left-next (start l .args .step) (l .loop .left) (omega arith) in
     omega arith
 
 sub-left : tie.Need-sub-left Inv-loop μ-loop
@@ -57,25 +66,14 @@ loop-less c = search needs
 
 loop-again : tie.Need-loop-again Inv-loop μ-loop
 loop-again c =
-    let a = c .before .before .before .before .args in
-    let l = c .before .before .before .loop in
-    let e = left-next (a .step) (l .left) (omega arith) in
-    ⊎-elim
-    (λ w. (
+    let a = start (round c) .args in
+    let l = round c .loop in
+    let e = left-next (a .step) (l .left) (omega arith) in (
       omega arith,
       omega arith,
-      rw (w .1) (simp length-set (l .inv .2)),
-      rw (w .1, w .2)
-          (l .inv .3 ∙ gathering-key (a .words .now) (a .step) (l .at) (l .left) (omega arith) (l .scratch) (l .end) (omega arith) (w .0 .taken)),
-    ))
-    (λ w. (
-      omega arith,
-      omega arith,
-      rw (w .1) (l .inv .2),
-      rw (w .1, w .2)
-          (l .inv .3 ∙ gathering-blank (a .words .now) (a .step) (l .at) (l .left) (omega arith) (l .scratch) (l .end) (w .0 .left)),
-    ))
-    (c .if1 .came)
+      simp length-set (l .inv .2),
+      rw (c .differs .ensures .0) (l .inv .3 ∙ gathering-step (a .words .now) (a .step) (l .at) (l .left) (omega arith) (l .scratch) (l .end) (omega arith)),
+    )
 
 same-length : tie.Need-same-length Inv-loop μ-loop
 same-length c = search needs
@@ -83,7 +81,7 @@ same-length c = search needs
 returns : tie.Need-returns Inv-loop μ-loop
 unfolding gathering
 returns c =
-    let a = c .before .before .args in
+    let a = start (c .before) .args in
     let l = c .before .loop in
     let e = l .inv .3 ∙ gathering-end (a .words .now) (a .step) (l .scratch) (l .end) (l .at) (l .left) (omega arith) in
     let xs = nonzero (picked (a .words .now) (a .from) (a .step) (a .count)) in (
@@ -108,6 +106,7 @@ gather-spec =
     shared-slice-read-word
     mul-scratch
     slice-write-scratch
+    differs-requires
     add-end
     add-at
     sub-left

@@ -1,16 +1,18 @@
--- `codec::image::matches` meets its contract: the counts of the heading, then the columns.
+-- `codec::image::matches` meets its contract: the counts of the heading, then the slots, then the stash.
 use mathlib.Core.Path.{_≡_, sym, _∙_, ap}
-use borrow.Author.Tests.{eq-eqb, ne-eqb, not-true, not-false}
-use lib.Dec.{eqb}
 use mathlib.Core.Bool.{true}
-use Rattle.layout.specs.Layout.{stash-at, key-count, stash-count}
+use native.Mathlib.Omega.{arith}
+use borrow.Author.Tests.{eq-eqb, ne-eqb, not-true, not-false}
 use borrow.Author.Needs.{needs}
+use lib.Dec.{eqb}
+use Rattle.layout.specs.Layout.{stash-at, slots-of, key-count, stash-count}
+use Rattle.codec.specs.Ranks.{held-length, slot-ranks, place-ranks}
 use Rattle.codec.proofs.image.matches.Statement.{statement}
 use Rattle.codec.proofs.image.matches.Tie as tie
 
 -- places of the code, each from a later one
 abbrev start : tie.After-read-header → tie.Start
-start h = h .before .before .before .before .before .before .before
+start h = h .before .before .before .before .before .before
 
 abbrev headed : tie.Else2 → tie.After-read-header
 headed e = e .before .before .before .before
@@ -25,10 +27,10 @@ returns : tie.Need-returns
 returns c =
     let w = c .before in
     let e = w .wide .ensures ∙ w .before .read-header .ensures .1 .1 .0 in
-    rw (ne-eqb (key-count (start (w .before) .args .words .now)) (start (w .before) .args .keys) (λ q. c .if1 .taken (e ∙ q)))
+    rw (ne-eqb (key-count (start (w .before) .args .words .now)) (start (w .before) .args .count) (λ q. c .if1 .taken (e ∙ q)))
 
 -- the numbers of keys are equal
-keys-equal : (e : tie.Else1) → let a = start (e .before .before) .args in eqb (key-count (a .words .now)) (a .keys) ≡ true
+keys-equal : (e : tie.Else1) → let a = start (e .before .before) .args in eqb (key-count (a .words .now)) (a .count) ≡ true
 keys-equal e = let h = e .before .before .read-header .ensures in eq-eqb _ _ (sym (e .before .wide .ensures ∙ h .1 .1 .0) ∙ e .if1 .left)
 
 returns-2 : tie.Need-returns-2
@@ -44,29 +46,53 @@ returns-2 c =
 counts-equal : (e : tie.Else2) → let a = start (headed e) .args in eqb (stash-count (a .words .now)) (a .stashed) ≡ true
 counts-equal e = eq-eqb _ _ (sym (headed e .read-header .ensures .1 .1 .1) ∙ e .if2 .left)
 
+stash-start-requires : tie.Need-stash-start-requires
+stash-start-requires c κs = search needs
+
+wide-requires-2 : tie.Need-wide-requires-2
+wide-requires-2 c κs = search needs
+
+mul-end : tie.Need-mul-end
+mul-end c = search needs
+
+-- r is that of the words
+sized : (w : tie.After-wide2) → w .wide2 .result ≡ slots-of (start (headed (w .before .before)) .args .words .now)
+sized w = w .wide2 .ensures ∙ headed (w .before .before) .read-header .ensures .0
+
+slice-aggregate-same-slots : tie.Need-slice-aggregate-same-slots
+slice-aggregate-same-slots c =
+    let w = c .before in
+    sym (held-length (start (headed (w .before .before)) .pre .1) (w .wide2 .result) (sized w))
+
 same-slots-requires : tie.Need-same-slots-requires
-same-slots-requires c κs = search needs
+same-slots-requires c κs =
+    let w = c .before in
+    let p = start (headed (w .before .before)) .pre in
+    slot-ranks (p .1) (w .wide2 .result) (sized w) _ (omega (arith, p .0 .0 .size))
 
 returns-3 : tie.Need-returns-3
 returns-3 c =
     let s = c .before in
-    rw (keys-equal (s .before .before .before), counts-equal (s .before), sym (s .same-slots .ensures) ∙ not-true _ (c .if3 .taken))
-
-stash-start-requires : tie.Need-stash-start-requires
-stash-start-requires c κs = search needs
+    let w = s .before .before in
+    let e = w .before .before in
+    rw (keys-equal (e .before .before), counts-equal e, sym (rw (sized w) at (s .same-slots .ensures)) ∙ not-true _ (c .if3 .taken))
 
 same-places-requires : tie.Need-same-places-requires
-same-places-requires c κs = search needs
+same-places-requires c κs =
+    let w = c .before .before .before in
+    let p = start (headed (w .before .before)) .pre in
+    place-ranks (p .1) (w .wide2 .result) (sized w) _ _
+    (omega (arith, p .0 .0 .size, p .0 .1, w .before .stash-start .ensures, headed (w .before .before) .read-header .ensures .0))
 
 returns-4 : tie.Need-returns-4
 returns-4 c =
-    let t = c .before in
-    let f = t .before in
+    let f = c .before in
     let s = f .before in
-    let a = start (headed (s .before)) .args in
-    let at = t .stash-start .ensures ∙ ap stash-at (headed (s .before) .read-header .ensures .0) in
-    rw (keys-equal (s .before .before .before), counts-equal (s .before), sym (s .same-slots .ensures) ∙ not-false _ (f .if3 .left))
-    (rw at at (c .same-places .ensures))
+    let w = s .before .before in
+    let e = w .before .before in
+    let at = w .before .stash-start .ensures ∙ ap stash-at (headed e .read-header .ensures .0) in
+    rw (keys-equal (e .before .before), counts-equal e, sym (rw (sized w) at (s .same-slots .ensures)) ∙ not-false _ (f .if3 .left))
+    (rw (at, sized w) at (c .same-places .ensures))
 
 pub matches-spec : {M : Type 1} → statement M
 matches-spec =
@@ -76,8 +102,11 @@ matches-spec =
     wide-requires
     returns
     returns-2
+    stash-start-requires
+    wide-requires-2
+    mul-end
+    slice-aggregate-same-slots
     same-slots-requires
     returns-3
-    stash-start-requires
     same-places-requires
     returns-4)

@@ -1,49 +1,101 @@
--- `codec::image::same_slots` meets its contract: the three columns, one after the other.
-use mathlib.Core.Path.{sym, _∙_}
+-- `codec::image::same_slots` meets its contract: what is left to compare is the slots of the ranks that are left.
+use Prim.Native.Nat.{_≤_, _+_, _*_, _-_}
+use mathlib.Core.Path.{_≡_, refl, sym, _∙_}
+use mathlib.Core.Bool.{_&&_}
+use native.Mathlib.Omega.{arith}
 use borrow.Author.Tests.{not-true, not-false}
 use borrow.Author.Needs.{needs}
+use lib.ListN.{length, drop}
+use Rattle.layout.specs.Layout.{header-length, slot-width}
+use Rattle.codec.specs.Rows.{slots-alike-next, slots-alike-none}
+use Rattle.codec.specs.Ranks.{ranked-slots-alike}
 use Rattle.codec.proofs.image.same_slots.Statement.{statement}
 use Rattle.codec.proofs.image.same_slots.Tie as tie
 
-same-column-requires : tie.Need-same-column-requires
-same-column-requires c κs = search needs
+abbrev Inv-loop : tie.InvT-loop
+Inv-loop words r keys graph next held at₀ v₀ at v =
+    (v ≤ length held)
+    × (at ≡ header-length + slot-width * v)
+    × (ranked-slots-alike words header-length r keys graph next held ≡ ranked-slots-alike words at r keys graph next (drop v held))
 
-returns : tie.Need-returns
-returns c = rw (sym (c .before .same-column .ensures) ∙ not-true _ (c .if1 .taken))
+abbrev μ-loop : tie.MeasureT-loop
+μ-loop words r keys graph next held at₀ v₀ at v = length held - v
 
-add-same-column : tie.Need-add-same-column
-add-same-column c = search needs
+-- places of the code, each from a later one
+abbrev start : tie.At-loop Inv-loop μ-loop → tie.Start Inv-loop μ-loop
+start l = l .before .before .before .before .before .before
 
-same-column-requires-2 : tie.Need-same-column-requires-2
-same-column-requires-2 c κs = search needs
+abbrev turn : tie.After-wide Inv-loop μ-loop → tie.At-loop Inv-loop μ-loop
+turn w = w .before .before .before
 
-returns-2 : tie.Need-returns-2
+loop-holds : tie.Need-loop-holds Inv-loop μ-loop
+loop-holds c = (search needs, refl, refl)
+
+mul-wide : tie.Need-mul-wide Inv-loop μ-loop
+mul-wide c = search needs
+
+shared-slice-read-wide : tie.Need-shared-slice-read-wide Inv-loop μ-loop
+shared-slice-read-wide c = search needs
+
+wide-requires : tie.Need-wide-requires Inv-loop μ-loop
+wide-requires c κs = search needs
+
+same-slot-requires : tie.Need-same-slot-requires Inv-loop μ-loop
+same-slot-requires c κs =
+    let v = turn c .loop .v in
+    let p = start (turn c) .pre in
+    (omega (arith, p .fits), rw (c .wide .ensures) (p .known v (omega arith)), rw (c .wide .ensures) (p .chained v (omega arith)))
+
+-- this slot, and those after it
+next : (s : tie.After-same-slot Inv-loop μ-loop) → let a = start (turn (s .before)) .args in let l = turn (s .before) .loop in
+    ranked-slots-alike (a .words .now) header-length (a .r) (a .keys .now) (a .graph .now) (a .next .now) (a .held .now)
+    ≡ (s .same-slot .result
+    && ranked-slots-alike (a .words .now) (l .at + slot-width) (a .r) (a .keys .now) (a .graph .now) (a .next .now) (drop (l .v + 1) (a .held .now)))
+next s =
+    let w = s .before in
+    let a = start (turn w) .args in
+    let l = turn w .loop in
+    l .inv .2
+    ∙ slots-alike-next (a .r) (a .keys .now) (a .graph .now) (a .next .now) (a .words .now) (l .at) (a .held .now) (l .v) (omega arith) _ (w .wide .ensures) _
+    (s .same-slot .ensures)
+
+returns : tie.Need-returns Inv-loop μ-loop
+returns c =
+    sym (next (c .before) ∙ (rw (not-true (c .before .same-slot .result) (c .if1 .taken))))
+
+add-at : tie.Need-add-at Inv-loop μ-loop
+add-at c = search needs
+
+add-v : tie.Need-add-v Inv-loop μ-loop
+add-v c = search needs
+
+loop-less : tie.Need-loop-less Inv-loop μ-loop
+loop-less c = search needs
+
+loop-again : tie.Need-loop-again Inv-loop μ-loop
+loop-again c =
+    (search needs, omega arith, next (c .before) ∙ (rw (not-false (c .before .same-slot .result) (c .if1 .left))))
+
+returns-2 : tie.Need-returns-2 Inv-loop μ-loop
 returns-2 c =
-    let e = c .before .before in
-    rw (sym (e .before .same-column .ensures) ∙ not-false _ (e .if1 .left), sym (c .before .same-column2 .ensures) ∙ not-true _ (c .if2 .taken))
-
-add-same-column-2 : tie.Need-add-same-column-2
-add-same-column-2 c = search needs
-
-same-column-requires-3 : tie.Need-same-column-requires-3
-same-column-requires-3 c κs = search needs
-
-returns-3 : tie.Need-returns-3
-returns-3 c =
-    let f = c .before in
-    let e = f .before .before in
-    rw (sym (e .before .same-column .ensures) ∙ not-false _ (e .if1 .left), sym (f .before .same-column2 .ensures) ∙ not-false _ (f .if2 .left))
-    (c .same-column3 .ensures)
+    let l = c .before .loop in
+    let a = start (c .before) .args in
+    sym (l .inv .2 ∙ slots-alike-none (a .r) (a .keys .now) (a .graph .now) (a .next .now) (a .words .now) (l .at) (a .held .now) (l .v) (omega arith))
 
 pub same-slots-spec : {M : Type 1} → statement M
 same-slots-spec =
     tie.close
     (tie.spec
-    same-column-requires
+    Inv-loop
+    μ-loop
+    loop-holds
+    mul-wide
+    shared-slice-read-wide
+    wide-requires
+    same-slot-requires
     returns
-    add-same-column
-    same-column-requires-2
-    returns-2
-    add-same-column-2
-    same-column-requires-3
-    returns-3)
+    add-at
+    add-v
+    loop-less
+    loop-again
+    returns-2)

@@ -1,19 +1,19 @@
--- `ordered::put_at` meets its contract. The invariant: what is still to be done gives the same list. Assumes nothing.
+-- `ordered::open_at` meets its contract. The invariant: what is still to be done gives the same list. Assumes nothing.
 use borrow.Author.Needs.{needs}
 use mathlib.Core.Path.{_≡_, sym, _∙_}
 use Prim.Native.Nat.{_≤_, _-_}
 use native.Mathlib.Omega.{arith}
 use lib.ListN.{length}
 use Rattle.ordered.specs.Shift.{opened, opened-step, opened-last}
-use Rattle.ordered.proofs.put_at.Statement.{statement}
-use Rattle.ordered.proofs.put_at.Tie as tie
+use Rattle.ordered.proofs.open_at.Statement.{statement}
+use Rattle.ordered.proofs.open_at.Tie as tie
 
 abbrev Inv-loop : tie.InvT-loop
-Inv-loop keys₀ at n key carry₀ i₀ keys carry i =
-    (i ≤ n) × (length keys ≡ length keys₀) × (opened keys₀ i₀ n carry₀ ≡ opened keys i n carry)
+Inv-loop words₀ at n key carry₀ i₀ words carry i =
+    (i ≤ n) × (length words ≡ length words₀) × (opened words₀ i₀ n carry₀ ≡ opened words i n carry)
 
 abbrev μ-loop : tie.MeasureT-loop
-μ-loop keys₀ at n key carry₀ i₀ keys carry i = n - i
+μ-loop words₀ at n key carry₀ i₀ words carry i = n - i
 
 loop-holds : tie.Need-loop-holds Inv-loop μ-loop
 loop-holds c = search needs
@@ -24,11 +24,11 @@ mul-x c = search needs
 slice-read-x : tie.Need-slice-read-x Inv-loop μ-loop
 slice-read-x c = search needs
 
-mul-keys : tie.Need-mul-keys Inv-loop μ-loop
-mul-keys c = search needs
+mul-words : tie.Need-mul-words Inv-loop μ-loop
+mul-words c = search needs
 
-slice-write-keys : tie.Need-slice-write-keys Inv-loop μ-loop
-slice-write-keys c = search needs
+slice-write-words : tie.Need-slice-write-words Inv-loop μ-loop
+slice-write-words c = search needs
 
 add-i : tie.Need-add-i Inv-loop μ-loop
 add-i c = search needs
@@ -40,13 +40,13 @@ loop-again : tie.Need-loop-again Inv-loop μ-loop
 loop-again c =
     let l = c .before .before .loop in
     let a = c .before .before .before .args in
-    (search needs, search needs, l .inv .2 ∙ opened-step (l .keys) (l .i) (a .n) (l .carry) (omega arith) (omega arith))
+    (search needs, search needs, l .inv .2 ∙ opened-step (l .words) (l .i) (a .n) (l .carry) (omega arith) (omega arith))
 
-mul-keys-2 : tie.Need-mul-keys-2 Inv-loop μ-loop
-mul-keys-2 c = search needs
+mul-words-2 : tie.Need-mul-words-2 Inv-loop μ-loop
+mul-words-2 c = search needs
 
-slice-write-keys-2 : tie.Need-slice-write-keys-2 Inv-loop μ-loop
-slice-write-keys-2 c = search needs
+slice-write-words-2 : tie.Need-slice-write-words-2 Inv-loop μ-loop
+slice-write-words-2 c = search needs
 
 same-length : tie.Need-same-length Inv-loop μ-loop
 same-length c = search needs
@@ -55,10 +55,10 @@ returns : tie.Need-returns Inv-loop μ-loop
 returns c =
     let l = c .before .loop in
     let a = c .before .before .args in
-    sym (l .inv .2 ∙ opened-last (l .keys) (l .i) (a .n) (l .carry) (omega arith) (omega arith))
+    sym (l .inv .2 ∙ opened-last (l .words) (l .i) (a .n) (l .carry) (omega arith) (omega arith))
 
-pub put-at-spec : {M : Type 1} → statement M
-put-at-spec =
+pub open-at-spec : {M : Type 1} → statement M
+open-at-spec =
     tie.close
     (tie.spec
     Inv-loop
@@ -66,12 +66,12 @@ put-at-spec =
     loop-holds
     mul-x
     slice-read-x
-    mul-keys
-    slice-write-keys
+    mul-words
+    slice-write-words
     add-i
     loop-less
     loop-again
-    mul-keys-2
-    slice-write-keys-2
+    mul-words-2
+    slice-write-words-2
     same-length
     returns)
