@@ -1,88 +1,12 @@
-//! The partner of the benchmark: insert, remove, check and lookup as a Rust engineer would write them for speed, with the same promise (answers, words,
-//! scratch and counters of the specification) and the same algorithm (collect, sort, build, find the tiers, compare; change, build, find the tiers, write), in
-//! lent scratch and without allocation. Where std has something faster than plain code, as its sort, it is used. Every call that is timed is compared with the
-//! library's.
+//! The plain twin, one of the two partners of the benchmark: insert, remove and check as a Rust engineer would write them without the ranks of `ranks.rs`, with
+//! the same promise as the library (answers, words, scratch and counters of the specification), in lent scratch and without allocation: collect, sort, build, find
+//! the tiers, compare; change, build, find the tiers, write. A key is hashed wherever its slots are needed. Where std has something faster than plain code, as its
+//! sort, it is used. Every call that is timed is compared with the library's.
 
-use library::Counters;
-
-type Tabulation = [u16; 2_048];
-
-const HEADER: usize = 4;
-/// Words of a slot: key, next, tier.
-const SLOT: usize = 3;
-/// Words of a stash place: key, tier.
-const PLACE: usize = 2;
-const MAX_TIER: u32 = 7;
-
-/// The slot of a key in a table of r slots.
-#[inline]
-fn hash(tabulation: &Tabulation, table: usize, r: u32, key: u32) -> u32 {
-    let bytes = key.to_le_bytes();
-    let entry = |i: usize| u32::from(tabulation[1_024 * table + 256 * i + usize::from(bytes[i])]);
-    (entry(0) + entry(1) + entry(2) + entry(3)) % r
-}
-
-/// The two slots of a key in the row of both tables' slots.
-#[inline]
-fn ends(tabulation: &Tabulation, r: u32, key: u32) -> (usize, usize) {
-    let [first, second] = [0, 1].map(|table| hash(tabulation, table, r, key));
-    (first as usize, (r + second) as usize)
-}
-
-/// r and s, if the words have the shape that their heading tells.
-#[inline]
-fn shape(words: &[u32]) -> Option<(u32, u32)> {
-    let &[r, s, _, _, ..] = words else { return None };
-    let fits = (1..=1_024).contains(&r)
-        && s <= 64
-        && words.len() == HEADER + 2 * SLOT * r as usize + PLACE * s as usize;
-    fits.then_some((r, s))
-}
-
-/// The tier of the first stash place that holds a key. Most keys that come as far as the stash are not in it, so all places are compared first, several at once.
-#[inline]
-fn tier_in_stash(places: &[u32], key: u32) -> Option<u32> {
-    let mut places = places.chunks_exact(PLACE);
-    if !places.clone().fold(false, |any, place| any | (place[0] == key)) {
-        return None;
-    }
-    places.find(|place| place[0] == key).map(|place| place[1])
-}
-
-/// The tier that stands with the first copy of a key in words of the right shape: in its slot of table 0, in that of table 1, in the stash.
-#[inline]
-fn tier_in(tabulation: &Tabulation, words: &[u32], r: u32, key: u32) -> Option<u32> {
-    let in_slot = |slot: u32| {
-        let slot = &words[HEADER + SLOT * slot as usize..][..SLOT];
-        (slot[0] == key).then(|| slot[2])
-    };
-    in_slot(hash(tabulation, 0, r, key))
-        .or_else(|| in_slot(r + hash(tabulation, 1, r, key)))
-        .or_else(|| tier_in_stash(&words[HEADER + 2 * SLOT * r as usize..], key))
-}
-
-/// 0 and whether the key stands in the words, with its tier, or 1, 2 or 5.
-#[inline(never)]
-#[export_name = "twin_lookup"]
-pub fn lookup(
-    tabulation: &[u16],
-    words: &[u32],
-    key: u32,
-    listed: &mut u32,
-    tier: &mut u32,
-) -> u32 {
-    let Ok(tabulation) = <&Tabulation>::try_from(tabulation) else { return 1 };
-    let Some((r, _)) = shape(words) else { return 2 };
-    if key == 0 {
-        return 5;
-    }
-    let found = tier_in(tabulation, words, r, key);
-    *listed = u32::from(found.is_some());
-    if let Some(found) = found {
-        *tier = found;
-    }
-    0
-}
+use crate::common::{
+    columns, early, ends, matches, place_to_insert, place_to_remove, tier_in, write, Tabulation,
+    MAX_TIER, PLACE, SLOT,
+};
 
 /// Scratch in its parts: keys (2r + s), held, next and sets (2r each), stash (s), and the tiers of what is held (2r) and stashed (s).
 struct Parts<'a> {
@@ -292,10 +216,10 @@ impl Build<'_, '_> {
 
 /// The keys that stand in the words, ascending, at the front of `keys`; how many.
 fn collect(words: &[u32], r: u32, keys: &mut [u32]) -> usize {
-    let rest = HEADER + 2 * SLOT * r as usize;
+    let (slots, stash) = columns(words, r);
     let mut n = 0;
-    let in_slots = words[HEADER..rest].chunks_exact(SLOT).map(|slot| slot[0]);
-    for key in in_slots.chain(words[rest..].chunks_exact(PLACE).map(|place| place[0])) {
+    let in_slots = slots.chunks_exact(SLOT).map(|slot| slot[0]);
+    for key in in_slots.chain(stash.chunks_exact(PLACE).map(|place| place[0])) {
         if key != 0 {
             keys[n] = key;
             n += 1;
@@ -312,33 +236,16 @@ fn collect(words: &[u32], r: u32, keys: &mut [u32]) -> usize {
     kept
 }
 
-fn matches(words: &[u32], parts: &Parts, n: usize, stashed: usize) -> bool {
-    let rest = HEADER + SLOT * parts.held.len();
-    let slots = parts.held.iter().zip(parts.next.iter()).zip(parts.tiers.iter());
-    let places = parts.stash.iter().zip(parts.beside.iter());
-    words[2] as usize == n
-        && words[3] as usize == stashed
-        && words[HEADER..rest]
-            .chunks_exact(SLOT)
-            .zip(slots)
-            .all(|(slot, ((key, next), tier))| slot == [*key, *next, *tier])
-        && words[rest..]
-            .chunks_exact(PLACE)
-            .zip(places)
-            .all(|(place, (key, tier))| place == [*key, *tier])
-}
-
-fn write(words: &mut [u32], parts: &Parts, n: usize, stashed: usize) {
-    let rest = HEADER + SLOT * parts.held.len();
-    words[2] = n as u32;
-    words[3] = stashed as u32;
-    let slots = parts.held.iter().zip(parts.next.iter()).zip(parts.tiers.iter());
-    for (slot, ((key, next), tier)) in words[HEADER..rest].chunks_exact_mut(SLOT).zip(slots) {
-        slot.copy_from_slice(&[*key, *next, *tier]);
+impl Parts<'_> {
+    /// The words of each slot.
+    fn slots(&self) -> impl Iterator<Item = [u32; SLOT]> + '_ {
+        let columns = self.held.iter().zip(self.next.iter()).zip(self.tiers.iter());
+        columns.map(|((key, next), tier)| [*key, *next, *tier])
     }
-    let places = parts.stash.iter().zip(parts.beside.iter());
-    for (place, (key, tier)) in words[rest..].chunks_exact_mut(PLACE).zip(places) {
-        place.copy_from_slice(&[*key, *tier]);
+
+    /// The words of each stash place.
+    fn places(&self) -> impl Iterator<Item = [u32; PLACE]> + '_ {
+        self.stash.iter().zip(self.beside.iter()).map(|(key, tier)| [*key, *tier])
     }
 }
 
@@ -348,18 +255,14 @@ fn load<'a>(
     words: &[u32],
     scratch: &mut [u32],
 ) -> Result<(&'a Tabulation, usize), u32> {
-    let tabulation = <&Tabulation>::try_from(tabulation).map_err(|_| 1u32)?;
-    let (r, s) = shape(words).ok_or(2u32)?;
-    if scratch.len() < 12 * r as usize + 8 * s as usize {
-        return Err(3);
-    }
+    let (tabulation, r, s) = early(tabulation, words, scratch)?;
     let mut parts = split(scratch, r, s);
     let n = collect(words, r, parts.keys);
     let mut build = Build { tabulation, r, parts: &mut parts };
     let stashed = build.build(n).ok_or(4u32)?;
     build.place_tiers(words, (0, 0));
     let small = parts.tiers.iter().chain(parts.beside.iter()).all(|tier| *tier <= MAX_TIER);
-    if small && matches(words, &parts, n, stashed) {
+    if small && matches(words, [n, stashed], parts.slots(), parts.places()) {
         Ok((tabulation, n))
     } else {
         Err(4)
@@ -379,7 +282,7 @@ fn renew(
     let mut build = Build { tabulation, r, parts: &mut parts };
     let stashed = build.build(n).ok_or(8u32)?;
     build.place_tiers(words, new);
-    write(words, &parts, n, stashed);
+    write(words, [n, stashed], parts.slots(), parts.places());
     Ok(())
 }
 
@@ -387,27 +290,15 @@ fn insert_words(
     tabulation: &[u16],
     words: &mut [u32],
     scratch: &mut [u32],
-    key: u32,
-    tier: u32,
+    new: (u32, u32),
 ) -> Result<(), u32> {
     let (tabulation, n) = load(tabulation, words, scratch)?;
-    if key == 0 {
-        return Err(5);
-    }
-    if tier > MAX_TIER {
-        return Err(9);
-    }
-    let at = match scratch[..n].binary_search(&key) {
-        Ok(_) if tier_in(tabulation, words, words[0], key) == Some(tier) => return Err(6),
-        Ok(_) => return Err(10),
-        Err(at) => at,
-    };
-    if (2 * words[0] + words[1]) as usize <= n {
-        return Err(8);
-    }
+    let most = (2 * words[0] + words[1]) as usize;
+    let tier_at = |_| tier_in(tabulation, words, words[0], new.0);
+    let at = place_to_insert(&scratch[..n], most, new, tier_at)?;
     scratch.copy_within(at..n, at + 1);
-    scratch[at] = key;
-    renew(tabulation, words, scratch, n + 1, (key, tier))
+    scratch[at] = new.0;
+    renew(tabulation, words, scratch, n + 1, new)
 }
 
 fn remove_words(
@@ -417,53 +308,13 @@ fn remove_words(
     key: u32,
 ) -> Result<(), u32> {
     let (tabulation, n) = load(tabulation, words, scratch)?;
-    if key == 0 {
-        return Err(5);
-    }
-    let Ok(at) = scratch[..n].binary_search(&key) else { return Err(7) };
+    let at = place_to_remove(&scratch[..n], key)?;
     scratch.copy_within(at + 1..n, at);
     renew(tabulation, words, scratch, n - 1, (0, 0))
 }
 
-fn count(counters: &mut Counters, answer: Result<(), u32>) -> u32 {
-    let moved = if answer.is_ok() { &mut counters.done } else { &mut counters.refused };
-    *moved = moved.saturating_add(1);
-    answer.err().unwrap_or(0)
+fn check_words(tabulation: &[u16], words: &[u32], scratch: &mut [u32]) -> Result<(), u32> {
+    load(tabulation, words, scratch).map(|_| ())
 }
 
-#[inline(never)]
-#[export_name = "twin_insert"]
-pub fn insert(
-    tabulation: &[u16],
-    words: &mut [u32],
-    scratch: &mut [u32],
-    counters: &mut Counters,
-    key: u32,
-    tier: u32,
-) -> u32 {
-    let answer = insert_words(tabulation, words, scratch, key, tier);
-    scratch.fill(0);
-    count(counters, answer)
-}
-
-#[inline(never)]
-#[export_name = "twin_remove"]
-pub fn remove(
-    tabulation: &[u16],
-    words: &mut [u32],
-    scratch: &mut [u32],
-    counters: &mut Counters,
-    key: u32,
-) -> u32 {
-    let answer = remove_words(tabulation, words, scratch, key);
-    scratch.fill(0);
-    count(counters, answer)
-}
-
-#[inline(never)]
-#[export_name = "twin_check"]
-pub fn check(tabulation: &[u16], words: &[u32], scratch: &mut [u32]) -> u32 {
-    let answer = load(tabulation, words, scratch);
-    scratch.fill(0);
-    answer.err().unwrap_or(0)
-}
+crate::calls!("plain_insert", "plain_remove", "plain_check");

@@ -1,0 +1,216 @@
+//! What both twins share: how a dictionary lies in words, the hash, the refusals, lookup, and the frame of the calls: a twin by itself has only the ways to read
+//! a set out of words and to write one.
+
+use library::Counters;
+
+pub type Tabulation = [u16; 2_048];
+
+pub const HEADER: usize = 4;
+/// Words of a slot: key, next, tier.
+pub const SLOT: usize = 3;
+/// Words of a stash place: key, tier.
+pub const PLACE: usize = 2;
+pub const MAX_TIER: u32 = 7;
+
+/// The slot of a key in a table of r slots.
+#[inline]
+fn hash(tabulation: &Tabulation, table: usize, r: u32, key: u32) -> u32 {
+    let bytes = key.to_le_bytes();
+    let entry = |i: usize| u32::from(tabulation[1_024 * table + 256 * i + usize::from(bytes[i])]);
+    (entry(0) + entry(1) + entry(2) + entry(3)) % r
+}
+
+/// The two slots of a key in the row of both tables' slots.
+#[inline]
+pub fn ends(tabulation: &Tabulation, r: u32, key: u32) -> (usize, usize) {
+    let [first, second] = [0, 1].map(|table| hash(tabulation, table, r, key));
+    (first as usize, (r + second) as usize)
+}
+
+/// r and s, if the words have the shape that their heading tells.
+#[inline]
+fn shape(words: &[u32]) -> Option<(u32, u32)> {
+    let &[r, s, _, _, ..] = words else { return None };
+    let fits = (1..=1_024).contains(&r)
+        && s <= 64
+        && words.len() == HEADER + 2 * SLOT * r as usize + PLACE * s as usize;
+    fits.then_some((r, s))
+}
+
+/// The words of the slots, three each, and those of the stash, two a place.
+#[inline]
+pub fn columns(words: &[u32], r: u32) -> (&[u32], &[u32]) {
+    words[HEADER..].split_at(2 * SLOT * r as usize)
+}
+
+/// Whether the words are this image: how many keys it has and how many of them are stashed, its slots, its stash.
+pub fn matches(
+    words: &[u32],
+    heading: [usize; 2],
+    slots: impl Iterator<Item = [u32; SLOT]>,
+    places: impl Iterator<Item = [u32; PLACE]>,
+) -> bool {
+    let (in_slots, in_stash) = columns(words, words[0]);
+    words[2..HEADER] == heading.map(|count| count as u32)
+        && in_slots.chunks_exact(SLOT).zip(slots).all(|(words, slot)| words == slot)
+        && in_stash.chunks_exact(PLACE).zip(places).all(|(words, place)| words == place)
+}
+
+/// Writes an image to the words.
+pub fn write(
+    words: &mut [u32],
+    heading: [usize; 2],
+    slots: impl Iterator<Item = [u32; SLOT]>,
+    places: impl Iterator<Item = [u32; PLACE]>,
+) {
+    words[2..HEADER].copy_from_slice(&heading.map(|count| count as u32));
+    let r = words[0] as usize;
+    let (in_slots, in_stash) = words[HEADER..].split_at_mut(2 * SLOT * r);
+    in_slots
+        .chunks_exact_mut(SLOT)
+        .zip(slots)
+        .for_each(|(words, slot)| words.copy_from_slice(&slot));
+    in_stash
+        .chunks_exact_mut(PLACE)
+        .zip(places)
+        .for_each(|(words, place)| words.copy_from_slice(&place));
+}
+
+/// The tier of the first stash place that holds a key. Most keys that come as far as the stash are not in it, so all places are compared first, several at once.
+#[inline]
+pub fn tier_in_stash(places: &[u32], key: u32) -> Option<u32> {
+    let mut places = places.chunks_exact(PLACE);
+    if !places.clone().fold(false, |any, place| any | (place[0] == key)) {
+        return None;
+    }
+    places.find(|place| place[0] == key).map(|place| place[1])
+}
+
+/// The tier that stands with the first copy of a key in words of the right shape: in its slot of table 0, in that of table 1, in the stash.
+#[inline]
+pub fn tier_in(tabulation: &Tabulation, words: &[u32], r: u32, key: u32) -> Option<u32> {
+    let in_slot = |slot: u32| {
+        let slot = &words[HEADER + SLOT * slot as usize..][..SLOT];
+        (slot[0] == key).then(|| slot[2])
+    };
+    in_slot(hash(tabulation, 0, r, key))
+        .or_else(|| in_slot(r + hash(tabulation, 1, r, key)))
+        .or_else(|| tier_in_stash(&words[HEADER + 2 * SLOT * r as usize..], key))
+}
+
+/// 0 and whether the key stands in the words, with its tier, or 1, 2 or 5. Both twins have this one lookup: a set is looked up in its words, however they came
+/// to be.
+#[inline(never)]
+#[export_name = "twin_lookup"]
+pub fn lookup(
+    tabulation: &[u16],
+    words: &[u32],
+    key: u32,
+    listed: &mut u32,
+    tier: &mut u32,
+) -> u32 {
+    let Ok(tabulation) = <&Tabulation>::try_from(tabulation) else { return 1 };
+    let Some((r, _)) = shape(words) else { return 2 };
+    if key == 0 {
+        return 5;
+    }
+    let found = tier_in(tabulation, words, r, key);
+    *listed = u32::from(found.is_some());
+    if let Some(found) = found {
+        *tier = found;
+    }
+    0
+}
+
+/// The refusals 1 to 3, or the tabulation, r and s.
+pub fn early<'a>(
+    tabulation: &'a [u16],
+    words: &[u32],
+    scratch: &[u32],
+) -> Result<(&'a Tabulation, u32, u32), u32> {
+    let tabulation = <&Tabulation>::try_from(tabulation).map_err(|_| 1u32)?;
+    let (r, s) = shape(words).ok_or(2u32)?;
+    if scratch.len() < 12 * r as usize + 8 * s as usize {
+        return Err(3);
+    }
+    Ok((tabulation, r, s))
+}
+
+/// Where a new key belongs among `keys`, of which there may be `most`, or what refuses it: 5, 9, 10, 6 or 8. `tier_at` gives the tier of a key that is there.
+pub fn place_to_insert(
+    keys: &[u32],
+    most: usize,
+    (key, tier): (u32, u32),
+    tier_at: impl FnOnce(usize) -> Option<u32>,
+) -> Result<usize, u32> {
+    if key == 0 {
+        return Err(5);
+    }
+    if tier > MAX_TIER {
+        return Err(9);
+    }
+    match keys.binary_search(&key) {
+        Ok(at) if tier_at(at) == Some(tier) => Err(6),
+        Ok(_) => Err(10),
+        Err(_) if most <= keys.len() => Err(8),
+        Err(at) => Ok(at),
+    }
+}
+
+/// Where a key stands among `keys`, or what refuses its removal: 5 or 7.
+pub fn place_to_remove(keys: &[u32], key: u32) -> Result<usize, u32> {
+    if key == 0 {
+        return Err(5);
+    }
+    keys.binary_search(&key).map_err(|_| 7)
+}
+
+/// Moves the counters on by one call, and gives its number.
+pub fn count(counters: &mut Counters, answer: Result<(), u32>) -> u32 {
+    let moved = if answer.is_ok() { &mut counters.done } else { &mut counters.refused };
+    *moved = moved.saturating_add(1);
+    answer.err().unwrap_or(0)
+}
+
+/// The calls of a twin that has `insert_words`, `remove_words` and `check_words`. They have symbols of their own, by which a counter of instructions knows them.
+#[macro_export]
+macro_rules! calls {
+    ($insert:literal, $remove:literal, $check:literal) => {
+        #[inline(never)]
+        #[export_name = $insert]
+        pub fn insert(
+            tabulation: &[u16],
+            words: &mut [u32],
+            scratch: &mut [u32],
+            counters: &mut library::Counters,
+            key: u32,
+            tier: u32,
+        ) -> u32 {
+            let answer = insert_words(tabulation, words, scratch, (key, tier));
+            scratch.fill(0);
+            $crate::common::count(counters, answer)
+        }
+
+        #[inline(never)]
+        #[export_name = $remove]
+        pub fn remove(
+            tabulation: &[u16],
+            words: &mut [u32],
+            scratch: &mut [u32],
+            counters: &mut library::Counters,
+            key: u32,
+        ) -> u32 {
+            let answer = remove_words(tabulation, words, scratch, key);
+            scratch.fill(0);
+            $crate::common::count(counters, answer)
+        }
+
+        #[inline(never)]
+        #[export_name = $check]
+        pub fn check(tabulation: &[u16], words: &[u32], scratch: &mut [u32]) -> u32 {
+            let answer = check_words(tabulation, words, scratch);
+            scratch.fill(0);
+            answer.err().unwrap_or(0)
+        }
+    };
+}
