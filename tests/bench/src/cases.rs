@@ -11,9 +11,9 @@ use reference::set::Member;
 
 pub const PLACES: u32 = 64;
 
-/// How many sets of keys a case with random keys has. They are taken in turn, so that no processor learns one of them by heart: a head's list is another one
-/// at every call.
-const SETS: u64 = 16;
+/// How many sets of keys a case with random keys has where times are taken. They are taken in turn, so that no processor learns one of them by heart: a head's list is
+/// another one at every call.
+pub const SETS: u64 = 16;
 
 /// A set in a dictionary.
 pub struct Board {
@@ -37,6 +37,8 @@ impl Board {
 pub enum Load {
     /// Random keys under the house book, this many to a hundred slots.
     Percent(usize),
+    /// So many random keys under the house book.
+    Keys(usize),
     /// Random keys under the house book, all that fit but one: every slot is filled, and the stash but for one place.
     Full,
     /// One path through all slots; see [`path`].
@@ -49,6 +51,7 @@ impl fmt::Display for Load {
     fn fmt(&self, f: &mut fmt::Formatter) -> fmt::Result {
         match self {
             Load::Percent(percent) => write!(f, "{percent} %"),
+            Load::Keys(count) => write!(f, "{count} keys"),
             Load::Full => write!(f, "full"),
             Load::Path => write!(f, "path"),
             Load::OnePlace => write!(f, "one place"),
@@ -65,10 +68,12 @@ pub struct Case {
 }
 
 impl Case {
-    pub fn new(r: u32, load: Load) -> Case {
+    /// A case with so many sets, if its keys are random; otherwise it has one.
+    pub fn new(r: u32, load: Load, sets: u64) -> Case {
         let (tabulation, sets) = match load {
-            Load::Percent(percent) => house(r, 2 * r as usize * percent / 100),
-            Load::Full => house(r, 2 * r as usize + PLACES as usize - 1),
+            Load::Percent(percent) => house(r, 2 * r as usize * percent / 100, sets),
+            Load::Keys(count) => house(r, count, sets),
+            Load::Full => house(r, full(r), sets),
             Load::Path => path(r),
             Load::OnePlace => (vec![0; 2_048], vec![(1..=PLACES + 2).collect()]),
         };
@@ -87,7 +92,7 @@ impl Case {
 
     /// Its name in a table.
     pub fn name(&self) -> String {
-        format!("r = {}, {}", self.r, self.load)
+        format!("r = {}, {}", grouped(self.r), self.load)
     }
 
     /// How many keys each of its boards has.
@@ -164,13 +169,18 @@ fn fitting_keys(rng: &mut Rng, tabulation: &[u16], r: u32, count: usize) -> Vec<
 /// A book and the sets of keys to use with it.
 type Sets = (Vec<u16>, Vec<Vec<u32>>);
 
+/// How many keys a full dictionary of random keys has: all that fit but one.
+pub const fn full(r: u32) -> usize {
+    (2 * r + PLACES - 1) as usize
+}
+
 /// The house book, and sets of one key more than `count`.
-fn house(r: u32, count: usize) -> Sets {
+fn house(r: u32, count: usize, sets: u64) -> Sets {
     let set = |seed: u64| {
         let mut rng = Rng::new(u64::from(r) << 32 | (count as u64) << 8 | seed);
         fitting_keys(&mut rng, &HOUSE, r, count + 1)
     };
-    (HOUSE.to_vec(), (0..SETS).map(set).collect())
+    (HOUSE.to_vec(), (0..sets).map(set).collect())
 }
 
 /// A book under which the keys 1 to 2r - 1 are one path through all slots, and ascending they join stretches of one length, doubling it: every set is
@@ -204,3 +214,23 @@ pub const SIZES: [u32; 3] = [128, 512, 1_024];
 pub const LOADS: [Load; 7] = [
     Load::Percent(12), Load::Percent(25), Load::Percent(49), Load::Percent(73), Load::Full, Load::Path, Load::OnePlace,
 ];
+
+/// How many cases the tables have: each load at each size.
+pub const CASES: usize = SIZES.len() * LOADS.len();
+
+/// A case of the tables, by its number, size by size.
+pub fn numbered(number: usize, sets: u64) -> Case {
+    Case::new(SIZES[number / LOADS.len()], LOADS[number % LOADS.len()], sets)
+}
+
+/// A number as it is written in a text: 1,024.
+pub fn grouped(number: impl Into<u64>) -> String {
+    let digits = number.into().to_string();
+    let groups: Vec<&str> = digits
+        .as_bytes()
+        .rchunks(3)
+        .rev()
+        .map(|group| std::str::from_utf8(group).expect("digits"))
+        .collect();
+    groups.join(",")
+}

@@ -1,24 +1,31 @@
-//! scaffold
+//! The benchmark: the library beside two twins in Rust. `tests/bench/run` uses it, in this order: `compare N` makes N random calls that all partners must answer alike;
+//! `counts` prints what a build does, in a build with the feature of that name; `wanted` lists the calls whose instructions are to be counted, and `one CASE PARTNER
+//! CALL` makes one of them; `tables FILE` takes what was counted from a file, takes times, and prints the tables; `picture FILE` draws times against keys.
+
 mod cases;
 mod common;
 mod compare;
+mod instructions;
 mod partners;
+mod picture;
 mod plain;
 mod ranks;
+mod tables;
 mod tally;
 mod timing;
 
-use cases::*;
+use instructions::Instructions;
+
 fn main() {
     let words: Vec<String> = std::env::args().skip(1).collect();
-    match words[0].as_str() {
-        "compare" => compare::run(words[1].parse().unwrap()),
-        _ => {
-            for load in LOADS {
-                let case = Case::new(1_024, load);
-                let found = timing::changes(&case, 20);
-                println!("{} {:?} {:?}", case.name(), found.nanoseconds, found.ratios);
-            }
-        }
+    let words: Vec<&str> = words.iter().map(String::as_str).collect();
+    match words[..] {
+        ["compare", calls] => compare::run(calls.parse().expect("how many calls")),
+        ["counts"] => tables::print_counts(),
+        ["wanted"] => instructions::print_wanted(),
+        ["one", case, partner, call] => instructions::one(case, partner, call),
+        ["tables", file] => tables::print(Instructions::read(file)),
+        ["picture", file] => picture::draw(file),
+        _ => panic!("see the top of main.rs"),
     }
 }

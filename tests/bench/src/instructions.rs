@@ -1,0 +1,74 @@
+//! Instructions of single calls. A counter outside (callgrind) watches one call of one partner at a time; its numbers come back in a file.
+
+use std::collections::BTreeMap;
+
+use crate::cases::{numbered, CASES};
+use crate::partners::{symbol, Call, PARTNERS};
+use crate::timing::{change, others};
+
+/// Prints what is to be counted, a line each: case, partner, call, and the symbol to watch. The twins have one lookup, so it is counted once.
+pub fn print_wanted() {
+    for case in 0..CASES {
+        for (who, partner) in PARTNERS.iter().enumerate() {
+            for call in Call::ALL.into_iter().filter(|call| who < 2 || *call != Call::Lookup) {
+                println!("{case} {} {} {}", partner.name, call.name(), symbol(who, call));
+            }
+        }
+    }
+}
+
+fn partner_named(name: &str) -> usize {
+    let who = PARTNERS.iter().position(|partner| partner.name == name);
+    who.unwrap_or_else(|| panic!("no such partner: {name}"))
+}
+
+/// One call on the first board of a case (lookup: of each of its keys and as many others). The words come from the reference, so that no other call of the partner
+/// runs.
+pub fn one(case: &str, partner: &str, call: &str) {
+    let case = numbered(case.parse().expect("the number of a case"), 1);
+    let (partner, call) = (&PARTNERS[partner_named(partner)], Call::named(call));
+    let (board, book) = (&case.boards[0], &case.tabulation);
+    let mut words = board.words.clone();
+    let mut scratch = case.scratch();
+    let answer = if call == Call::Lookup {
+        let (mut listed, mut tier) = (0, 0);
+        let asked = board.keys().into_iter().chain(others(board));
+        let lookup = |key: u32| (partner.lookup)(book, &words, key, &mut listed, &mut tier);
+        asked.map(lookup).max().unwrap_or(0)
+    } else {
+        let middle = board.members[board.members.len() / 2];
+        let member = if call == Call::Insert { board.extra } else { middle };
+        change(partner, call, book, member, &mut words, &mut scratch)
+    };
+    assert_eq!(answer, 0);
+}
+
+/// What was counted.
+pub struct Instructions {
+    counts: BTreeMap<(usize, usize, Call), u64>,
+}
+
+impl Instructions {
+    /// Reads lines of case, partner, call and count.
+    pub fn read(path: &str) -> Instructions {
+        let text = std::fs::read_to_string(path).expect("the file of counts");
+        let line = |line: &str| {
+            let fields: Vec<&str> = line.split_whitespace().collect();
+            let [case, partner, call, count] = fields[..] else { panic!("a line: {line}") };
+            let case = case.parse().expect("the number of a case");
+            let count = count.parse().unwrap_or_else(|_| panic!("nothing was counted: {line}"));
+            ((case, partner_named(partner), Call::named(call)), count)
+        };
+        Instructions { counts: text.lines().map(line).collect() }
+    }
+
+    /// Those of a call of a partner on a case.
+    pub fn of(&self, case: usize, partner: usize, call: Call) -> u64 {
+        self.counts[&(case, partner, call)]
+    }
+
+    /// Those of the library to those of another partner.
+    pub fn ratio(&self, case: usize, partner: usize, call: Call) -> f64 {
+        self.of(case, 0, call) as f64 / self.of(case, partner, call) as f64
+    }
+}
