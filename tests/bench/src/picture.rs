@@ -5,6 +5,8 @@ use std::fmt::Write;
 use crate::cases::{full, grouped, Case, Load, PLACES, SETS};
 use crate::timing::{changes, lookups, others, Changes, Lookups, CHANGES};
 
+const TITLE: &str = "What a call takes, against the number of keys";
+
 const R: u32 = 1_024;
 /// The numbers of keys that are measured.
 const KEYS: [usize; 11] = [12, 128, 256, 512, 768, 1_024, 1_280, 1_536, 1_792, 2_000, full(R)];
@@ -13,7 +15,7 @@ const ROUNDS: usize = 30;
 
 /// The whole picture, and a panel's frame: where the first one begins, how large it is, and how far it is to the next.
 const SIZE: [f64; 2] = [960.0, 760.0];
-const ORIGIN: [f64; 2] = [80.0, 138.0];
+const ORIGIN: [f64; 2] = [80.0, 168.0];
 const FRAME: [f64; 2] = [370.0, 230.0];
 const STEP: [f64; 2] = [470.0, 310.0];
 
@@ -24,10 +26,10 @@ struct Who {
     mark: char,
 }
 
-const LIBRARY: Who = Who { name: "library (proved)", colour: "#0072b2", mark: 'o' };
+const LIBRARY: Who = Who { name: "library", colour: "#0072b2", mark: 'o' };
 const PLAIN: Who = Who { name: "plain twin", colour: "#d55e00", mark: 's' };
 const RANKS: Who = Who { name: "ranks twin", colour: "#008060", mark: 't' };
-const TWINS: Who = Who { name: "both twins", colour: "#8a5a00", mark: 's' };
+const TWINS: Who = Who { name: "both twins", colour: "#7b3294", mark: 's' };
 const MAP: Who = Who { name: "std HashMap", colour: "#666666", mark: 'd' };
 
 /// A line of a panel: a value for each of `KEYS`.
@@ -39,8 +41,7 @@ struct Line {
 
 /// The lines of one call.
 struct Panel {
-    title: String,
-    unit: &'static str,
+    title: &'static str,
     lines: Vec<Line>,
 }
 
@@ -71,12 +72,11 @@ fn mark(svg: &mut String, who: &Who, [x, y]: [f64; 2]) {
     writeln!(svg, r#"<path d="M{x:.1} {y:.1}{shape}" fill="{}"/>"#, who.colour).expect("a string");
 }
 
-/// A sample of a line with its name behind it.
-fn sample(svg: &mut String, who: &Who, dashed: bool, [x, y]: [f64; 2], name: &str) {
-    let line = line_style(who, dashed);
-    stroke(svg, [x, y], [x + 34.0, y], &line);
+/// A sample of somebody's line with the name behind it.
+fn sample(svg: &mut String, who: &Who, [x, y]: [f64; 2]) {
+    stroke(svg, [x, y], [x + 34.0, y], &line_style(who, false));
     mark(svg, who, [x + 17.0, y]);
-    text(svg, [x + 41.0, y + 4.5], "", name);
+    text(svg, [x + 41.0, y + 4.5], "", who.name);
 }
 
 fn line_style(who: &Who, dashed: bool) -> String {
@@ -91,8 +91,7 @@ impl Panel {
         let most = 1.05 * values.copied().fold(0.0, f64::max);
         let across = |keys: f64| left + width * keys / (1.03 * full(R) as f64);
         let up = |value: f64| top + height * (1.0 - value / most);
-        let title = format!("{}, {}", self.title, self.unit);
-        text(svg, [left, top - 12.0], r#"font-size="15" font-weight="bold""#, &title);
+        text(svg, [left, top - 12.0], r#"font-size="15" font-weight="bold""#, self.title);
         let step = tick_step(most);
         let ticks = (0..).map(|i| f64::from(i) * step).take_while(|value| *value <= most);
         for value in ticks {
@@ -129,7 +128,7 @@ fn change_panels(found: &[Changes]) -> Vec<Panel> {
             Line { who, dashed: false, values }
         };
         let lines = [&LIBRARY, &PLAIN, &RANKS].into_iter().enumerate().map(line).collect();
-        Panel { title: CHANGES[call].name().into(), unit: "µs", lines }
+        Panel { title: ["insert, µs", "remove, µs", "check, µs"][call], lines }
     };
     (0..CHANGES.len()).map(panel).collect()
 }
@@ -142,13 +141,14 @@ fn lookup_panel(found: &[[Lookups; 2]]) -> Panel {
     };
     let seekers = || [&LIBRARY, &TWINS, &MAP].into_iter().enumerate();
     let lines = [0, 1].into_iter().flat_map(|which| seekers().map(move |who| line(which, who)));
-    Panel { title: "lookup".into(), unit: "ns", lines: lines.collect() }
+    Panel { title: "lookup, ns", lines: lines.collect() }
 }
 
-fn legend(svg: &mut String) {
-    let x = |i: usize| ORIGIN[0] + 165.0 * i as f64;
-    for (i, who) in [&LIBRARY, &PLAIN, &RANKS, &TWINS, &MAP].into_iter().enumerate() {
-        sample(svg, who, false, [x(i), 84.0], who.name);
+/// A row of samples: which calls, then whose line is which.
+fn legend(svg: &mut String, y: f64, calls: &str, lines: &[&Who]) {
+    text(svg, [ORIGIN[0], y + 4.5], r#"font-weight="bold""#, calls);
+    for (i, who) in lines.iter().enumerate() {
+        sample(svg, who, [ORIGIN[0] + 170.0 + 155.0 * i as f64, y]);
     }
 }
 
@@ -158,11 +158,14 @@ fn svg(panels: &[Panel]) -> String {
         concat!(
             r#"<svg xmlns="http://www.w3.org/2000/svg" viewBox="0 0 {w} {h}" width="{w}" height="{h}" "#,
             r#"font-family="DejaVu Sans, Verdana, sans-serif" font-size="13" fill="{ink}" role="img">"#,
-            "\n<title>{title}</title>\n<rect width=\"{w}\" height=\"{h}\" fill=\"#ffffff\"/>\n"
+            "\n<title>{title}</title>\n",
+            r#"<rect width="{w}" height="{h}" fill="{paper}"/>"#,
+            "\n"
         ),
         w = width,
         h = height,
         ink = "#222222",
+        paper = "#ffffff",
         title = TITLE,
     );
     text(&mut svg, [ORIGIN[0], 34.0], r#"font-size="19" font-weight="bold""#, TITLE);
@@ -171,15 +174,15 @@ fn svg(panels: &[Panel]) -> String {
         grouped(R)
     );
     text(&mut svg, [ORIGIN[0], 57.0], r##"fill="#555555""##, &below);
-    legend(&mut svg);
+    legend(&mut svg, 86.0, "insert, remove, check", &[&LIBRARY, &PLAIN, &RANKS]);
+    legend(&mut svg, 112.0, "lookup", &[&LIBRARY, &TWINS, &MAP]);
+    text(&mut svg, [ORIGIN[0] + 650.0, 116.5], "", "dashed: keys not in the set");
     for (i, panel) in panels.iter().enumerate() {
         let [column, row] = [i % 2, i / 2].map(|i| i as f64);
         panel.draw(&mut svg, [ORIGIN[0] + STEP[0] * column, ORIGIN[1] + STEP[1] * row]);
     }
     svg + "</svg>\n"
 }
-
-const TITLE: &str = "What a call takes, against the number of keys";
 
 /// Takes the times and writes the picture to a file.
 pub fn draw(file: &str) {
