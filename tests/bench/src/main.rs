@@ -5,6 +5,7 @@
 mod cases;
 mod common;
 mod compare;
+mod goals;
 mod instructions;
 mod partners;
 mod picture;

@@ -1,28 +1,29 @@
-//! The tables of docs/BENCHMARKS.md, and beside each goal the worst that was found.
+//! The tables of docs/BENCHMARKS.md.
 
-use crate::cases::{grouped, numbered, Case, Load, CASES, LOADS, SETS, SIZES};
+use crate::cases::{grouped, numbered, Board, Case, CASES, LOADS, SETS, SIZES};
+use crate::goals;
 use crate::instructions::Instructions;
 use crate::partners::{Call, PARTNERS};
-use crate::tally;
+use crate::tally::{self, Tally};
 use crate::timing::{changes, lookups, others, Changes, Lookups, CHANGES, ROUNDS};
 
 /// What is looked up in a row: the set's keys, and as many others.
-const ASKED: [&str; 2] = ["its keys", "others"];
+pub const ASKED: [&str; 2] = ["its keys", "others"];
 
 /// All that was measured, by the number of a case.
-struct Measured {
-    cases: Vec<Case>,
-    instructions: Instructions,
-    changes: Vec<Changes>,
-    lookups: Vec<[Lookups; ASKED.len()]>,
+pub struct Measured {
+    pub cases: Vec<Case>,
+    pub instructions: Instructions,
+    pub changes: Vec<Changes>,
+    pub lookups: Vec<[Lookups; ASKED.len()]>,
 }
 
-fn head(columns: &[&str]) {
+pub fn head(columns: &[&str]) {
     println!("\n| {} |", columns.join(" | "));
     println!("|{}", "---|".repeat(columns.len()));
 }
 
-fn row(cells: impl IntoIterator<Item = String>) {
+pub fn row(cells: impl IntoIterator<Item = String>) {
     let cells: Vec<String> = cells.into_iter().collect();
     println!("| {} |", cells.join(" | "));
 }
@@ -76,7 +77,7 @@ impl Measured {
     }
 
     /// How many times as dear a call is at the largest size as at the smallest: by instructions, and by time.
-    fn growth(&self, load: usize, call: usize) -> [f64; 2] {
+    pub fn growth(&self, load: usize, call: usize) -> [f64; 2] {
         let (small, large) = (load, CASES - LOADS.len() + load);
         let instructions = [large, small].map(|case| self.instructions.of(case, 0, CHANGES[call]));
         let times = [large, small].map(|case| self.changes[case].nanoseconds[0][call]);
@@ -95,78 +96,6 @@ impl Measured {
             row([load.to_string()].into_iter().chain(cells));
         }
     }
-
-    /// What a number of each big call on each of some cases is, with where it was found.
-    fn all(
-        &self,
-        wanted: impl Fn(&Case) -> bool,
-        number: impl Fn(usize, usize) -> f64,
-    ) -> Vec<Place> {
-        let cases = self.cases.iter().enumerate().filter(|(_, case)| wanted(case));
-        let calls = cases.flat_map(|(i, case)| (0..CHANGES.len()).map(move |call| (i, case, call)));
-        let place = |(i, case, call): (usize, &Case, usize)| {
-            (number(i, call), format!("{}, {}", CHANGES[call].name(), case.name()))
-        };
-        calls.map(place).collect()
-    }
-
-    fn print_goals(&self) {
-        let light = |case: &Case| matches!(case.load, Load::Percent(percent) if percent <= 49);
-        let by_instructions = |who: usize| {
-            move |i: usize, call: usize| self.instructions.ratio(i, who, CHANGES[call])
-        };
-        let lookups_by_instructions = self
-            .cases
-            .iter()
-            .enumerate()
-            .map(|(i, case)| (self.instructions.ratio(i, 1, Call::Lookup), case.name()));
-        let lookups_by_time = self.cases.iter().zip(&self.lookups).flat_map(|(case, both)| {
-            let place = |(what, found): (&&str, &Lookups)| {
-                (found.ratios[1], format!("{}, {what}", case.name()))
-            };
-            ASKED.iter().zip(both).map(place).collect::<Vec<_>>()
-        });
-        let growth = |which: usize| {
-            let first = |case: &Case| light(case) && case.r == SIZES[0];
-            self.all(first, move |i, call| self.growth(i, call)[which])
-        };
-        let goals = [
-            (
-                "to the plain twin, 12 to 49 %, instructions",
-                0.5,
-                self.all(light, by_instructions(1)),
-            ),
-            (
-                "to the plain twin, other cases, instructions",
-                0.65,
-                self.all(|case| !light(case), by_instructions(1)),
-            ),
-            ("to the ranks twin, instructions", 1.1, self.all(|_| true, by_instructions(2))),
-            (
-                "to the ranks twin, time",
-                1.25,
-                self.all(|_| true, |i, call| self.changes[i].ratios[2][call]),
-            ),
-            ("lookup to the twins, instructions", 1.1, lookups_by_instructions.collect()),
-            ("lookup to the twins, time", 1.1, lookups_by_time.collect()),
-            ("from r = 128 to r = 1,024 up to 49 %, instructions", 12.0, growth(0)),
-            ("from r = 128 to r = 1,024 up to 49 %, time", 12.0, growth(1)),
-        ];
-        head(&["goal", "at most", "worst found", "where", "met"]);
-        for (goal, most, found) in goals {
-            print_goal(goal, most, found);
-        }
-    }
-}
-
-/// A number, and where it was found.
-type Place = (f64, String);
-
-fn print_goal(goal: &str, most: f64, found: Vec<Place>) {
-    let worst = found.into_iter().max_by(|one, two| one.0.total_cmp(&two.0));
-    let (number, place) = worst.expect("something is measured for each goal");
-    let met = if number <= most { "yes" } else { "no" };
-    row([goal.into(), most.to_string(), format!("{number:.2}"), place, met.into()]);
 }
 
 /// Measures the times, and prints all tables.
@@ -182,43 +111,44 @@ pub fn print(instructions: Instructions) {
     measured.print_instructions();
     measured.print_times();
     measured.print_growth();
-    measured.print_goals();
+    goals::print(&measured);
 }
 
-/// Prints what a build of the ranks twin does in each case: a check is one build. The most and the mean over the sets of a case.
+/// What one build of each board of a case takes: a check is one build.
+fn tallies(case: &Case) -> Vec<Tally> {
+    let [_, _, ranks] = &PARTNERS;
+    let mut scratch = case.scratch();
+    let mut tally = |board: &Board| {
+        tally::take();
+        assert_eq!((ranks.check)(&case.tabulation, &board.words, &mut scratch), 0);
+        tally::take()
+    };
+    case.boards.iter().map(&mut tally).collect()
+}
+
+/// Prints what a build of the ranks twin does in each case: means over the sets of the case, and the most.
 pub fn print_counts() {
     assert!(cfg!(feature = "counts"), "this build does not count");
-    let columns =
-        "counts, case|keys n|n log2 n|steps|most|longest way|moves|most|of these linking|most";
+    let columns = "counts, case|keys n|n log2 n|steps|of these linking|most steps|longest way|moves|of these linking|most moves";
     head(&columns.split('|').collect::<Vec<_>>());
-    let [_, _, ranks] = &PARTNERS;
     for case in (0..CASES).map(|number| numbered(number, SETS)) {
-        let mut scratch = case.scratch();
-        let tallies: Vec<tally::Tally> = case
-            .boards
-            .iter()
-            .map(|board| {
-                tally::take();
-                assert_eq!((ranks.check)(&case.tabulation, &board.words, &mut scratch), 0);
-                tally::take()
-            })
-            .collect();
-        let mean_and_most = |count: fn(&tally::Tally) -> u64| {
-            let counts = tallies.iter().map(count);
-            let mean = (counts.clone().sum::<u64>() as f64 / tallies.len() as f64).round() as u64;
-            [mean, counts.max().unwrap_or(0)].map(grouped)
+        let tallies = tallies(&case);
+        let mean = |count: fn(&Tally) -> u64| {
+            grouped((tallies.iter().map(count).sum::<u64>() as f64 / tallies.len() as f64).round()
+                as u64)
         };
+        let most = |count: fn(&Tally) -> u64| grouped(tallies.iter().map(count).max().unwrap_or(0));
         let n = case.keys() as f64;
-        let [_, longest] = mean_and_most(|tally| tally.longest);
-        let [steps, moves, linking]: [fn(&tally::Tally) -> u64; 3] =
-            [|tally| tally.steps, |tally| tally.moves, |tally| tally.linking];
         let cells = [
-            vec![grouped((n * n.log2()).round() as u64)],
-            mean_and_most(steps).into(),
-            vec![longest],
-            mean_and_most(moves).into(),
-            mean_and_most(linking).into(),
+            grouped((n * n.log2()).round() as u64),
+            mean(|tally| tally.steps),
+            mean(|tally| tally.linking_steps),
+            most(|tally| tally.steps),
+            most(|tally| tally.longest),
+            mean(|tally| tally.moves),
+            mean(|tally| tally.linking_moves),
+            most(|tally| tally.moves),
         ];
-        row(name_and_keys(&case).into_iter().chain(cells.concat()));
+        row(name_and_keys(&case).into_iter().chain(cells));
     }
 }
