@@ -43,6 +43,8 @@ pub enum Load {
     Full,
     /// One path through all slots; see [`path`].
     Path,
+    /// One path through all slots, with the most moves that we know; see [`moves`].
+    Moves,
     /// All keys have the same two slots: two sit, 63 are stashed, and one more fits.
     OnePlace,
 }
@@ -54,6 +56,7 @@ impl fmt::Display for Load {
             Load::Keys(count) => write!(f, "{count} keys"),
             Load::Full => write!(f, "full"),
             Load::Path => write!(f, "path"),
+            Load::Moves => write!(f, "moves"),
             Load::OnePlace => write!(f, "one place"),
         }
     }
@@ -75,6 +78,7 @@ impl Case {
             Load::Keys(count) => house(r, count, sets),
             Load::Full => house(r, full(r), sets),
             Load::Path => path(r),
+            Load::Moves => moves(r),
             Load::OnePlace => (vec![0; 2_048], vec![(1..=PLACES + 2).collect()]),
         };
         // The last key of a set is the extra one. No tier plays a part in where keys sit, so any tiers fit.
@@ -183,27 +187,58 @@ fn house(r: u32, count: usize, sets: u64) -> Sets {
     (HOUSE.to_vec(), (0..sets).map(set).collect())
 }
 
-/// A book under which the keys 1 to 2r - 1 are one path through all slots, and ascending they join stretches of one length, doubling it: every set is
-/// deep, and half of it moves. `r` is a power of two from 128 on.
-fn path(r: u32) -> Sets {
-    let bits = (2 * r).trailing_zeros();
-    // Key k is edge e of the path, its bits reversed: the highest bit of k says whether e is even.
-    let edge = |k: u32| k.reverse_bits() >> (32 - bits);
+/// A book under which keys are edges of one path through all slots, by the number in their two low bytes: `edge` says which edge of the path that is. Edge e joins
+/// the slots e and e + 1 of the path, of which the even ones are in table 0. An edge must be the sum of those of the two bytes, one of these even.
+fn path_book(r: u32, edge: impl Fn(u32) -> u32) -> Vec<u16> {
     let mut tabulation = vec![0u16; 2_048];
     for byte in 0..256u32 {
-        for (i, key) in [(0, byte), (256, byte << 8)] {
-            if key < 2 * r {
-                let e = edge(key);
-                // Rounding up and down adds up over the two bytes: the low byte's share of e is even.
+        for (i, number) in [(0, byte), (256, byte << 8)] {
+            if number < 2 * r {
+                let e = edge(number);
+                // Rounding up and down adds up over the two bytes, since one of them has an even share.
                 tabulation[i + byte as usize] = e.div_ceil(2) as u16;
                 tabulation[1_024 + i + byte as usize] = (e / 2) as u16;
             }
         }
     }
+    tabulation
+}
+
+/// A book under which the keys 1 to 2r - 1 are one path through all slots, and ascending they join stretches of one length, doubling it: every set is
+/// deep, and half of it moves. `r` is a power of two from 128 on.
+fn path(r: u32) -> Sets {
+    let bits = (2 * r).trailing_zeros();
+    // Key k is edge e of the path, its bits reversed: the highest bit of k says whether e is even.
+    let tabulation = path_book(r, |k: u32| k.reverse_bits() >> (32 - bits));
     let extra = 1 << (bits - 1);
     let mut keys: Vec<u32> = (1..2 * r).filter(|k| *k != extra).collect();
     keys.push(extra);
     (tabulation, vec![keys])
+}
+
+/// A path through all slots that takes the most moves we know: of two stretches that are joined, nearly of one length, the one that is re-rooted has its root at
+/// its far end, so that every key in it moves. The upper bytes of a key say when its edge is joined, and have no part in its slots.
+fn moves(r: u32) -> Sets {
+    let mut edges = Vec::new();
+    join(0, 2 * r, false, &mut edges);
+    let keys = (1..).zip(edges).map(|(order, edge)| order << 16 | edge).collect();
+    (path_book(r, |number| number), vec![keys])
+}
+
+/// Joins the slots of a path from `low` to `high`, so that the root is at the left end, or at the right one: first each half, which has its root at the outer end,
+/// then both by the edge between them. The half without the root is re-rooted if it is smaller, or as large and its end is in table 1.
+fn join(low: u32, high: u32, right: bool, edges: &mut Vec<u32>) {
+    let slots = high - low;
+    if slots == 1 {
+        return;
+    }
+    let half = low + slots / 2;
+    let equal = slots % 2 == 0 && (half % 2 == 0) == right;
+    let less = if equal { slots / 2 } else { (slots - 1) / 2 }.max(1);
+    let middle = if right { low + less } else { high - less };
+    join(low, middle, false, edges);
+    join(middle, high, true, edges);
+    edges.push(middle - 1);
 }
 
 /// The sizes that are measured. The first and the last are compared.
@@ -211,8 +246,8 @@ pub const SIZES: [u32; 3] = [128, 512, 1_024];
 
 /// The loads at each size.
 #[rustfmt::skip]
-pub const LOADS: [Load; 7] = [
-    Load::Percent(12), Load::Percent(25), Load::Percent(49), Load::Percent(73), Load::Full, Load::Path, Load::OnePlace,
+pub const LOADS: [Load; 8] = [
+    Load::Percent(12), Load::Percent(25), Load::Percent(49), Load::Percent(73), Load::Full, Load::Path, Load::Moves, Load::OnePlace,
 ];
 
 /// How many cases the tables have: each load at each size.
