@@ -130,7 +130,7 @@ fn random_call(rng: &mut Rng, board: &Board) -> Asked {
     }
 }
 
-/// Makes some hundred random calls of each partner, at least as many as are asked for, and prints how often each answer came.
+/// Makes random calls of each partner, at least as many as are asked for, and prints how often each answer came.
 pub fn run(calls: usize) {
     let mut rng = Rng::new(2_026);
     let mut seen = BTreeMap::new();

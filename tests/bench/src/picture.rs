@@ -3,7 +3,7 @@
 use std::fmt::Write;
 
 use crate::cases::{full, grouped, Case, Load, PLACES, SETS};
-use crate::timing::{changes, lookups, others, Changes, Lookups, CHANGES};
+use crate::timing::{both_lookups, changes, Changes, Lookups, CHANGES};
 
 const TITLE: &str = "What a call takes, against the number of keys";
 
@@ -12,6 +12,8 @@ const R: u32 = 1_024;
 const KEYS: [usize; 11] = [12, 128, 256, 512, 768, 1_024, 1_280, 1_536, 1_792, 2_000, full(R)];
 /// Turns of each board.
 const ROUNDS: usize = 30;
+/// Turns of the lookups.
+const LOOKUPS: usize = 300;
 
 /// The whole picture, and a panel's frame: where the first one begins, how large it is, and how far it is to the next.
 const SIZE: [f64; 2] = [960.0, 760.0];
@@ -170,7 +172,7 @@ fn svg(panels: &[Panel]) -> String {
     );
     text(&mut svg, [ORIGIN[0], 34.0], r#"font-size="19" font-weight="bold""#, TITLE);
     let below = format!(
-        "r = {}, s = {PLACES}, house book, {SETS} random sets to a point: of each the shortest of {ROUNDS} runs, and the mean",
+        "r = {}, s = {PLACES}, house book; the shortest of {ROUNDS} runs, mean of {SETS} random sets (lookup: of {LOOKUPS}, one set)",
         grouped(R)
     );
     text(&mut svg, [ORIGIN[0], 57.0], r##"fill="#555555""##, &below);
@@ -189,11 +191,7 @@ pub fn draw(file: &str) {
     let cases: Vec<Case> =
         KEYS.iter().map(|count| Case::new(R, Load::Keys(*count), SETS)).collect();
     let found: Vec<Changes> = cases.iter().map(|case| changes(case, ROUNDS)).collect();
-    let looked_up = |case: &Case| {
-        let board = &case.boards[0];
-        [board.keys(), others(board)].map(|asked| lookups(case, board, &asked, 10 * ROUNDS))
-    };
-    let lookups: Vec<[Lookups; 2]> = cases.iter().map(looked_up).collect();
+    let lookups: Vec<[Lookups; 2]> = cases.iter().map(|case| both_lookups(case, LOOKUPS)).collect();
     let mut panels = change_panels(&found);
     panels.push(lookup_panel(&lookups));
     std::fs::write(file, svg(&panels)).expect("the picture's file");

@@ -110,8 +110,14 @@ pub struct Lookups {
     pub ratios: [f64; SEEKERS],
 }
 
+/// Lookups of the keys of a case's first board, and of as many others.
+pub fn both_lookups(case: &Case, rounds: usize) -> [Lookups; 2] {
+    let board = &case.boards[0];
+    [board.keys(), others(board)].map(|asked| lookups(case, board, &asked, rounds))
+}
+
 /// A lookup of some keys on one board. All must agree, in the tiers, too: for a found key 1 and its tier are added up.
-pub fn lookups(case: &Case, board: &Board, asked: &[u32], rounds: usize) -> Lookups {
+fn lookups(case: &Case, board: &Board, asked: &[u32], rounds: usize) -> Lookups {
     let map: HashMap<u32, u32> = board.members.iter().copied().collect();
     let by = |partner: &Partner, key: u32| {
         let (mut listed, mut tier) = (0, 0);
