@@ -17,7 +17,7 @@ test:
 quick:
 	@tests/run --quick
 
-# Instructions and times of the library against a Rust twin: the tables of docs/BENCHMARKS.md, in some minutes. No time is asserted, but both must give the same.
+# Instructions and times of the library against two Rust twins: the tables of docs/BENCHMARKS.md and docs/costs.svg, in some minutes. No time is asserted, but all must give the same.
 bench:
 	@tests/bench/run
 
