@@ -63,7 +63,7 @@ set-of-requires : tie.Need-set-of-requires Inv-loop μ-loop
 set-of-requires c κs =
     let e = c .before in
     let q = e .before .before .before in
-    (enough q, rw (e .edge .ensures, q .loop .inv .2) (first-fits (start q .pre .1) (q .loop .i + 1)))
+    (enough q, rw (e .edge .ensures, q .loop .inv .2) (first-fits (start q .pre .1) _))
 
 word-requires : tie.Need-word-requires Inv-loop μ-loop
 word-requires c κs =
