@@ -107,12 +107,30 @@ module _ (tabulation ws : List ℕ) (key : ℕ) (f : Found) (told : values f ≡
   pub slots-first : (f ≡ Absent → ⊥) → values f ≡ looked-up (looked-at tabulation ws key) key
   slots-first n = elim (answers f told) [ inl l ↦ ap values (l .1) ∙ slots-listed (l .1) | inr a ↦ absurd (n a) ]
 
-  pub slots-passed : ((t : ℕ) → f ≡ Listed t → ⊥) → f ≡ Absent
-  slots-passed n = elim (answers f told) [ inl l ↦ absurd (n (l .0) (l .1)) | inr a ↦ a ]
-
 -- what is looked up says the tier
-pub looked-tier : (L : List Entry) (key : ℕ) → getD (looked-up L key) 1 0 ≡ tier-of L key
+looked-tier : (L : List Entry) (key : ℕ) → getD (looked-up L key) 1 0 ≡ tier-of L key
 looked-tier L key = elim (test (member key (keys-of L))) [
   | inl m ↦ rw m
   | inr m ↦ rw m (sym (tier-absent L (λ i. true≢false (sym (in-member i) ∙ m))))
 ]
+
+-- The tier of a key by its two slots v and w, each tested, and behind them by what is in the stash.
+module _ (ws : List ℕ) (v w key : ℕ) {x y : Bool} (first : x ≡ eqb key (slot-entry ws v .key)) (second : y ≡ eqb key (slot-entry ws w .key)) where
+  abbrev Found-tier : ℕ → Type 0
+  Found-tier t = t ≡ tier-of (slot-entry ws v ∷ slot-entry ws w ∷ stash-entries ws) key
+
+  pub tier-chosen : (x || y) ≡ true → {one other t : ℕ} → one ≡ slot-entry ws v .tier → other ≡ slot-entry ws w .tier → t ≡ cond x one other → Found-tier t
+  tier-chosen h p q e = e ∙ (rw (← first, ← second, p, q) (go x y h _ _ _))
+    where
+      go : (x y : Bool) → (x || y) ≡ true → (a b z : ℕ) → cond x a b ≡ cond x a (cond y b z)
+      go true y h a b z = refl
+      go false true h a b z = refl
+      go false false h a b z = absurd (true≢false (sym h))
+
+  pub tier-passed : (x || y) ≡ false → {vs : List ℕ} {t : ℕ} → vs ≡ looked-up (stash-entries ws) key → t ≡ getD vs 1 0 → Found-tier t
+  tier-passed h p e = e ∙ ap (λ (vs : List ℕ). getD vs 1 0) p ∙ looked-tier (stash-entries ws) key ∙ (rw (← first, ← second) (go x y h _ _ _))
+    where
+      go : (x y : Bool) → (x || y) ≡ false → (a b z : ℕ) → z ≡ cond x a (cond y b z)
+      go true y h a b z = absurd (true≢false h)
+      go false true h a b z = absurd (true≢false h)
+      go false false h a b z = refl

@@ -1,14 +1,16 @@
 // Words read in place: the shape test, lookup, the stash view; and the laying of fresh words. Every call takes words of
 // any content and length, and promises its whole answer by a definition of layout/specs/Answers.antt.
 ghost use mathlib.Core.Path.{_≡_};
-ghost use mathlib.Core.List.{_++_};
+ghost use mathlib.Core.Bool.{cond};
+ghost use mathlib.Core.List.{_∷_, _++_};
 ghost use Prim.Native.Nat.{_+_, _*_, _≤_, _<_};
 ghost use lib.Dec.{eqb};
 ghost use lib.ListN.{length, getD, take, drop};
 ghost use Rattle.tabulation.specs.Hash.{tabulation-length, max-slots};
 ghost use Rattle.layout.specs.Layout.{header-words, header-length, slot-width, slots-of, places-of, key-count};
 ghost use Rattle.layout.specs.Layout.{stash-count, sizes-in-range, shaped, words-length, scratch-length, key-at};
-ghost use Rattle.layout.specs.Layout.{stash-at, tier-at, slot-entry, stash-entries, looked-at, tier-in};
+ghost use Rattle.layout.specs.Entries.{tier-of};
+ghost use Rattle.layout.specs.Layout.{stash-at, tier-at, slot-entry, stash-entries};
 ghost use Rattle.layout.specs.Shape.{Sized, Shaped};
 ghost use Rattle.refusals.specs.Refusal.{done};
 ghost use Rattle.access.specs.Found.{own-slots};
@@ -201,21 +203,6 @@ fn in_stash(words: &[u32], key: u32) -> Found
     find_place(&words[start..start + PLACE_WIDTH * count], count, key)
 }
 
-// Lookup without its refusals: the tier that stands where the key is found first, or that it is not there. Its two
-// steps stand in `lookup` and `tier_found` once more: called there, they are too long for the compiler to put them in
-// the caller's place, and a lookup takes a fifth more time, an insert 2 % more instructions.
-pub fn find(tabulation: &[u16], words: &[u32], key: u32) -> Found
-    requires { ⌜ (length (now tabulation) ≡ tabulation-length) × Shaped (now words) ⌝ }
-    ensures numbered { λ f. ⌜ number f ≡ done ⌝ }
-    ensures valued { λ f. ⌜ values f ≡ looked-up (looked-at (now (tabulation .entry)) (now (words .entry)) key) key ⌝ }
-{
-    let found = in_slots(tabulation, words, key);
-    let Found::Absent = found else {
-        return found;
-    };
-    in_stash(words, key)
-}
-
 // The tier of what was found, 0 where nothing was.
 fn tier_of(found: Found) -> u32
     ensures { λ t. ⌜ t ≡ getD (values found) 1 0 ⌝ }
@@ -227,16 +214,31 @@ fn tier_of(found: Found) -> u32
     }
 }
 
-// The tier at which a key is found, 0 where it is not.
-pub fn tier_found(tabulation: &[u16], words: &[u32], key: u32) -> u32
-    requires { ⌜ (length (now tabulation) ≡ tabulation-length) × Shaped (now words) ⌝ }
-    ensures { λ t. ⌜ t ≡ tier-in (now (tabulation .entry)) (now (words .entry)) key ⌝ }
+// The one word or the other. It is small and plain, so that the compiler can choose without a branch.
+fn chosen(first: bool, one: u32, other: u32) -> u32
+    ensures { λ t. ⌜ t ≡ cond first one other ⌝ }
 {
-    let found = in_slots(tabulation, words, key);
-    let Found::Listed(tier) = found else {
-        return tier_of(in_stash(words, key));
-    };
-    tier
+    if first {
+        return one;
+    }
+    other
+}
+
+// The tier at which a key is found, 0 where it is not; `first` and `second` are its slots. Both slots are read in any
+// case, and no branch says which of them it is: that is as good as random. Few keys are in the stash.
+pub fn tier_at(words: &[u32], first: u32, second: u32, key: u32) -> u32
+    requires { ⌜ Shaped (now words) × ((first < 2 * slots-of (now words)) × (second < 2 * slots-of (now words))) ⌝ }
+    ensures { λ t. ⌜ t ≡ tier-of (slot-entry (now (words .entry)) first ∷ slot-entry (now (words .entry)) second
+        ∷ stash-entries (now (words .entry))) key ⌝ }
+{
+    let in_first = in_slot(words, first, key);
+    let in_second = in_slot(words, second, key);
+    let tier_first = slot_tier(words, first);
+    let tier_second = slot_tier(words, second);
+    if in_first | in_second {
+        return chosen(in_first, tier_first, tier_second);
+    }
+    tier_of(in_stash(words, key))
 }
 
 // The tier of the key, or that it is not there, on any words of the right shape; or 1, 2 or 5.

@@ -163,8 +163,7 @@ module _ {r s n : ℕ} (P : Parts) (G : Edges r (edges-in r (P .graph))) (Z : Pa
     whole-standing {k} c = elim whole [
       | Built.full l q ↦ absurd (zero-one (ap (λ (B : Built.Built). cond (Built.is-made B) 1 0) (sym q ∙ made-is)))
       | Built.right nx l q h w ↦
-          let m = sym made-is ∙ q in
-          (
+          let m = sym made-is ∙ q in (
             l,
             sym c ∙ ap (λ (M : Noting). M .count) noting-is ∙ ap Built.count-of m,
             ap Built.held-of m,

@@ -1,33 +1,27 @@
 -- The steps of insert, remove and check as definitions: what a set that was read leads to. The contracts of the inner functions cite them, and the laws at the
 -- end put them together with reading and renewing to the outcomes. Assumes nothing.
-use Prim.Native.Nat.{ℕ, _+_, _*_, _≤_, _<_}
+use Prim.Native.Nat.{ℕ, _+_, _*_, _-_, _/_, _≤_, _<_}
 use mathlib.Core.Path.{_≡_, refl, sym, _∙_, ap}
-use mathlib.Core.Bool.{Bool, true, false, not, cond, false≢true}
-use mathlib.Core.Logic.{inl, inr}
+use mathlib.Core.Bool.{Bool, true, false, not, cond, true≢false}
 use mathlib.Core.List.{List, [], _∷_, List·Memᴰ as In}
 use native.Mathlib.Omega.{arith}
 use borrow.Author.Tests.{eq-eqb, ne-eqb, lt-ltb, le-ltb}
 use lib.Dec.{eqb, ltb}
-use lib.ListN.{length, take}
-use lib.Seq.{length-take-le}
-use Rattle.basics.specs.Tests.{test, eq?}
-use Rattle.basics.specs.Sets.{member, member-in, without, out-in, Asc}
-use Rattle.ordered.specs.Place.{with-cases}
-use Rattle.ordered.specs.Keys.{with-key}
+use lib.ListN.{length, getD}
+use Rattle.basics.specs.Sets.{member, member-in, in-member, without, out-in, Asc}
+use Rattle.ordered.specs.Place.{rank-le, rank-found, length-with, length-without}
+use Rattle.ordered.specs.Keys.{rank-of, with-key}
 use Rattle.refusals.specs.Refusal.{done, not-canonical, blank-key, key-present, key-absent, stash-full, wrong-tier, other-tier, first-refusal, front-applies}
-use Rattle.tabulation.specs.Hash.{blank}
-use Rattle.layout.specs.Entries.{max-tier, keys-of, tier-of, tiered, keys-tiered, tiered-agree, tier-tiered}
-use Rattle.layout.specs.Layout.{ValidKeys, params-of, slots-of, places-of, scratch-length, fits, image, keys-in, looked-at, tier-in, set-in}
+use Rattle.tabulation.specs.Hash.{Hashing, blank, tables}
+use Rattle.layout.specs.Entries.{max-tier, keys-of, tier-of, tiered, keys-tiered, tier-tiered}
+use Rattle.layout.specs.Layout.{Params, ValidKeys, params-of, slots-of, places-of, fits, image, keys-in, tier-in, set-in}
 use Rattle.layout.specs.Canonical.{canonical, canonical-true}
-use Rattle.layout.specs.Answers as Answers
-use Rattle.layout.specs.Answers.{looked-up}
-use Rattle.layout.specs.Look.{image-found}
-use Rattle.layout.specs.declared.Found.{Found}
-use Rattle.layout.specs.declared.Found.the-variants.{Listed, Absent, Refused}
 use Rattle.layout.specs.Shape.{Shaped, shape}
-use Rattle.layout.specs.Standing.{keys-in-valid, not-blank, zero-outside}
+use Rattle.layout.specs.Standing.{keys-in-valid}
 use Rattle.layout.specs.Fitting.{without-fits}
 use Rattle.codec.specs.Collect.{keys-in-few}
+use Rattle.codec.specs.Ranks.{tier-unit}
+use Rattle.build.specs.Scratch.{edges-at, used}
 use Rattle.build.specs.Build.{Buildable}
 use Rattle.outcome.specs.declared.Change.{Change}
 use Rattle.outcome.specs.declared.Change.the-variants.{Insert, Remove}
@@ -36,15 +30,17 @@ use Rattle.outcome.specs.Laws.{Ready, change-refused, check-ready, change-ready
 use Rattle.outcome.specs.Held.{one-too-many, changed-keys, keys-changed-valid}
 use Rattle.renewal.specs.declared.Reading.{Reading}
 use Rattle.renewal.specs.declared.Reading.the-variants.{Keys, NotCanonical}
-use Rattle.renewal.specs.Tiers.{tier-now}
-use Rattle.renewal.specs.Reading.{early-refusal, number, values, reading-refusal, reading-values, new-answer, new-words, set-buildable, told-tampered, told-keys}
+use Rattle.renewal.specs.Edges.{edge-with, Lined, lined-buildable}
+use Rattle.renewal.specs.Members.{keys-at, put-in, taken-out, lined-agree, lined-keys, lined-tier, lined-put, lined-taken}
+use Rattle.renewal.specs.Reading.{early-refusal, number, values, reading-refusal, reading-values, new-answer, new-words, Listed, Renewed, canonical-small}
+use Rattle.renewal.specs.Reading.{told-tampered, told-keys}
 
--- The words can be read, they are canonical, their n keys stand at the front of scratch, and the key is not blank.
+-- The words can be read, they are canonical, their n keys stand in scratch with their edges, and the key is not blank.
 pub record Settable (tabulation ws scratch : List ℕ) (n key : ℕ) : Type 0 where
   pub ready : Ready tabulation ws scratch
   pub image : canonical tabulation ws ≡ true
   pub count : n ≡ length (keys-in ws)
-  pub front : take n scratch ≡ keys-in ws
+  pub lined : Lined (params-of tabulation ws) (tier-in tabulation ws) (keys-in ws) scratch
   pub not-blank : blank key ≡ false
 
 -- the answer and the words that a change of the set leads to
@@ -59,15 +55,6 @@ set-words kind tabulation ws key =
 abbrev pub Decided : Change → List ℕ → List ℕ → ℕ → (ℕ → List ℕ → Type 0)
 Decided kind tabulation ws key n us = (n ≡ set-answer kind tabulation ws key) × (us ≡ set-words kind tabulation ws key)
 
--- the key and the tier that `renew` is told: those of an insert, and of a removal none
-abbrev pub key-given : Change → ℕ → ℕ
-key-given (Insert tier) key = key
-key-given Remove key = 0
-
-abbrev pub tier-given : Change → ℕ
-tier-given (Insert tier) = tier
-tier-given Remove = 0
-
 -- 8 where it does not fit, and else done
 answer-turned : (f : Bool) → cond f done stash-full ≡ cond (not f) stash-full done
 answer-turned true = refl
@@ -77,165 +64,159 @@ words-turned : (f : Bool) (us ws : List ℕ) → cond f us ws ≡ cond (eqb (con
 words-turned true us ws = refl
 words-turned false us ws = refl
 
--- The set changes. `mid` is scratch with the new set at its front, m keys.
+-- The set changes.
 module _ {tabulation ws scratch : List ℕ} {n key : ℕ} (Z : Settable tabulation ws scratch n key) where
+  abbrev P : Params
+  P = params-of tabulation ws
+
+  abbrev K : List ℕ
+  K = keys-in ws
+
   abbrev sizes : Shaped ws
   sizes = shape ws (Z .ready .shape)
 
-  abbrev valid : ValidKeys (keys-in ws)
+  abbrev valid : ValidKeys K
   valid = keys-in-valid ws
 
-  pub key-count : n ≤ 2 * slots-of ws + places-of ws
+  -- the set's keys and tiers
+  set-keys : keys-of (set-in tabulation ws) ≡ K
+  set-keys = keys-tiered (tier-in tabulation ws) K
+
+  set-tier : {c : ℕ} → In c K → tier-in tabulation ws c ≡ tier-of (set-in tabulation ws) c
+  set-tier i = sym (tier-tiered (tier-in tabulation ws) K i)
+
+  -- they stand in scratch: r and s are those of the words
+  key-count : n ≤ 2 * slots-of ws + places-of ws
   key-count = omega (arith, Z .count, keys-in-few ws sizes)
 
-  pub front-fits : n ≤ length scratch
-  front-fits = omega (arith, key-count, Z .ready .room)
+  room : used (slots-of ws) (places-of ws) ≤ length scratch
+  room = omega (arith, Z .ready .room, sizes .sizes)
 
-  pub front-length : n ≡ length (take n scratch)
-  front-length = sym (length-take-le n scratch front-fits)
+  keys-stand : keys-at n scratch ≡ K
+  keys-stand = rw (Z .count) (lined-keys (Z .lined) room)
 
-  pub front-asc : Asc (take n scratch)
-  front-asc = rw (Z .front) (valid .asc)
+  pub searchable : (n < length scratch) × Asc (keys-at n scratch)
+  searchable = (omega (arith, key-count, room), rw keys-stand (valid .asc))
 
-  -- the set's keys and tiers
-  set-keys : keys-of (set-in tabulation ws) ≡ keys-in ws
-  set-keys = keys-tiered (tier-in tabulation ws) (keys-in ws)
+  pub in-range : {r s : ℕ} → r ≡ slots-of ws → s ≡ places-of ws → Hashing tabulation r × ((s ≤ 64) × ((n ≤ 2 * r + s) × (used r s ≤ length scratch)))
+  in-range e f = (
+    rw e (record { full-length = Z .ready .full-length; has-slots = sizes .sizes .has-slots; slots-bound = sizes .sizes .slots-bound }),
+    (omega (arith, sizes .sizes), (omega (arith, key-count), omega (arith, room))),
+  )
 
-  set-tier : {c : ℕ} → In c (keys-in ws) → tier-of (set-in tabulation ws) c ≡ tier-in tabulation ws c
-  set-tier i = tier-tiered (tier-in tabulation ws) (keys-in ws) i
+  -- a set that stands in `mid` can be built
+  mid-buildable : {t : ℕ → ℕ} {S mid : List ℕ} {m : ℕ} → length mid ≡ length scratch → Lined P t S mid → m ≡ length S → m ≤ 2 * slots-of ws + places-of ws
+      → Buildable (slots-of ws) (places-of ws) m mid × Shaped ws
+  mid-buildable same-room D q few = (rw q (lined-buildable D (omega (arith, room)) (sizes .sizes) (omega arith)), sizes)
 
   pub insert-large : {tier : ℕ} → max-tier < tier → Decided (Insert tier) tabulation ws key wrong-tier ws
   insert-large {tier} l = let t = lt-ltb max-tier tier l in (rw t, rw t)
 
-  module _ {tier : ℕ} (small : tier ≤ max-tier) where
-    small-test : ltb max-tier tier ≡ false
-    small-test = le-ltb max-tier tier small
+  -- what a change does, where a set that stands in `mid` is built: a key is put in or taken out, with its tier
+  changed-renewed : (kind : Change) {mid : List ℕ} {m a : ℕ} {us : List ℕ} → Renewed ws mid m a us → m ≡ length (keys-changed kind key K)
+      → Lined P (tier-changed kind key (tier-of (set-in tabulation ws))) (keys-changed kind key K) mid
+      → Decided kind tabulation ws key (new-answer P (keys-changed kind key K)) (new-words P (changed kind key (set-in tabulation ws)) ws)
+      → Decided kind tabulation ws key a us
+  changed-renewed kind R q D renewed =
+      let u = tier-changed kind key (tier-of (set-in tabulation ws)) in
+      let w = R .by tabulation u (keys-changed kind key K) (keys-changed-valid kind key (Z .not-blank) valid) q D in
+      (w .0 ∙ renewed .0, w .1 ∙ ap (λ (S : List ℕ). new-words P (tiered u (keys-changed kind key S)) ws) (sym set-keys) ∙ renewed .1)
 
-    module _ (m : member key (take n scratch) ≡ true) where
-      listed : member key (keys-in ws) ≡ true
-      listed = rw (Z .front) at m
+  -- Where the key belongs.
+  module _ {at : ℕ} (place : at ≡ rank-of (keys-at n scratch) key) where
+    at-rank : at ≡ rank-of K key
+    at-rank = rw keys-stand at place
 
-      listed-tier : tier-of (set-in tabulation ws) key ≡ tier-in tabulation ws key
-      listed-tier = set-tier (member-in key (keys-in ws) listed)
+    pub at-le : at ≤ n
+    at-le = omega (arith, at-rank, rank-le key K, Z .count)
 
-      pub insert-other : (tier-in tabulation ws key ≡ tier → ⊥) → Decided (Insert tier) tabulation ws key other-tier ws
-      insert-other d =
-          let t = ne-eqb (tier-in tabulation ws key) tier d in
-          (rw (small-test, set-keys, listed, listed-tier, t), rw (small-test, set-keys, listed, listed-tier, t))
+    -- it is there
+    module _ {b : Bool} (found : b ≡ member key (keys-at n scratch)) (yes : b ≡ true) where
+      listed : member key K ≡ true
+      listed = rw keys-stand at (sym found ∙ yes)
 
-      pub insert-present : tier-in tabulation ws key ≡ tier → Decided (Insert tier) tabulation ws key key-present ws
-      insert-present e =
-          let t = eq-eqb (tier-in tabulation ws key) tier e in
-          (rw (small-test, set-keys, listed, listed-tier, t), rw (small-test, set-keys, listed, listed-tier, t))
+      here : In key K
+      here = member-in key K listed
 
-    module _ (m : member key (take n scratch) ≡ false) where
-      absent : member key (keys-in ws) ≡ false
-      absent = rw (Z .front) at m
+      pub at-lt : at < n
+      at-lt = omega (arith, at-rank, rank-found key K (valid .asc) here .1, Z .count)
 
-      pub insert-crowded : 2 * slots-of ws + places-of ws ≤ n → Decided (Insert tier) tabulation ws key stash-full ws
-      insert-crowded l =
-          let f = one-too-many (params-of tabulation ws) key (sizes .sizes .has-slots) valid (Z .not-blank) absent (omega (arith, Z .count)) in
-          (rw (small-test, set-keys, absent, f), rw (small-test, set-keys, absent, f))
+      module _ {r s : ℕ} (e : r ≡ slots-of ws) (f : s ≡ places-of ws) {t : ℕ} (read : t ≡ getD scratch (edges-at r s + at) 0 / tier-unit) where
+        tier-is : tier-of (set-in tabulation ws) key ≡ t
+        tier-is = sym (read ∙ (rw (at-rank, e, f) (lined-tier (Z .lined) room (valid .asc) key (sizes .sizes) here ∙ set-tier here)))
 
-      pub insert-renewed : Decided (Insert tier) tabulation ws key (new-answer (params-of tabulation ws) (with-key key (keys-in ws)))
-          (new-words (params-of tabulation ws) (changed (Insert tier) key (set-in tabulation ws)) ws)
-      insert-renewed =
-          let P = params-of tabulation ws in
-          let L = changed (Insert tier) key (set-in tabulation ws) in
-          let e : fits P (keys-of L) ≡ fits P (with-key key (keys-in ws)) =
-          ap (fits P) (changed-keys (Insert tier) key (set-in tabulation ws) ∙ ap (with-key key) set-keys) in
-          let a : set-answer (Insert tier) tabulation ws key ≡ cond (not (fits P (with-key key (keys-in ws)))) stash-full done =
-          rw (small-test, set-keys, absent) in (
-            answer-turned (fits P (with-key key (keys-in ws))) ∙ sym a,
-            ap (λ (f : Bool). cond f (image P L) ws) e ∙ words-turned (fits P (with-key key (keys-in ws))) (image P L) ws
-                ∙ ap (λ (n : ℕ). cond (eqb n done) (image P L) ws) (sym a),
-          )
+        module _ {tier : ℕ} (small : tier ≤ max-tier) where
+          pub insert-other : (t ≡ tier → ⊥) → Decided (Insert tier) tabulation ws key other-tier ws
+          insert-other d =
+              let x = le-ltb max-tier tier small in
+              let y = ne-eqb t tier d in
+              (rw (x, set-keys, listed, tier-is, y), rw (x, set-keys, listed, tier-is, y))
 
-  -- What is found in these words of a key is what a lookup says: exactly the keys of their set are.
-  module _ (f : Found) (told : Answers.values f ≡ looked-up (looked-at tabulation ws key) key) where
-    looks-up : Answers.values f ≡ cond (member key (keys-in ws)) (1 ∷ tier-of (set-in tabulation ws) key ∷ []) (0 ∷ [])
-    looks-up =
-        let h = canonical-true tabulation ws (Z .image) in
-        let e : looked-up (looked-at tabulation ws key) key ≡ looked-up (set-in tabulation ws) key =
-        rw (← h .is) at (image-found (params-of tabulation ws) (set-in tabulation ws) (h .fit) (h .valid) (sizes .sizes .has-slots) key (Z .not-blank)) in
-        told ∙ e ∙ (rw set-keys)
+          pub insert-present : t ≡ tier → Decided (Insert tier) tabulation ws key key-present ws
+          insert-present q =
+              let x = le-ltb max-tier tier small in
+              let y = eq-eqb t tier q in
+              (rw (x, set-keys, listed, tier-is, y), rw (x, set-keys, listed, tier-is, y))
 
-    pub found-listed : {t : ℕ} → f ≡ Listed t → member key (keys-in ws) ≡ true
-    found-listed e = elim (test (member key (keys-in ws))) [
-      | inl m ↦ m
-      | inr m ↦ absurd (omega (arith, ap length (rw (e, m) at looks-up)))
-    ]
+      -- and is taken out
+      module _ {r s : ℕ} (e : r ≡ slots-of ws) (f : s ≡ places-of ws) {mid : List ℕ} (out : mid ≡ taken-out r s n at scratch) (same-room : length mid ≡ length scratch) where
+        taken : Lined P (tier-in tabulation ws) (without key K) mid
+        taken =
+            rw (out, at-rank, e, f, Z .count) (lined-taken (Z .lined) room (valid .asc) key here (omega (arith, key-count, Z .count)))
 
-    -- 7, where the lookup says that the key is not listed
-    pub found-absent : ((t : ℕ) → f ≡ Listed t → ⊥) → Decided Remove tabulation ws key key-absent ws
-    found-absent n = elim (test (member key (keys-in ws))) [
-      | inl m ↦ absurd (missed f n (rw m at looks-up))
-      | inr m ↦ (rw (set-keys, m), rw (set-keys, m))
-    ]
-      where
-        missed : (f : Found) → ((t : ℕ) → f ≡ Listed t → ⊥) → {t : ℕ} → Answers.values f ≡ 1 ∷ t ∷ [] → ⊥
-        missed (Listed t) n e = n t refl
-        missed Absent n e = omega (arith, ap length e)
-        missed (Refused k) n e = omega (arith, ap length e)
+        pub remove-buildable : Buildable (slots-of ws) (places-of ws) (n - 1) mid × Shaped ws
+        remove-buildable = mid-buildable same-room taken (omega (arith, length-without key K (valid .asc) here, Z .count)) (omega (arith, key-count))
 
-  module _ (m : member key (keys-in ws) ≡ true) where
-    pub remove-present : member key (take n scratch) ≡ true
-    remove-present = rw (Z .front) m
+        pub remove-renewed : {a : ℕ} {us : List ℕ} → Renewed ws mid (n - 1) a us → Decided Remove tabulation ws key a us
+        remove-renewed R =
+            let g = rw set-keys at (canonical-true tabulation ws (Z .image) .fit) in
+            let h = without-fits P valid key g in
+            let k : keys-of (changed Remove key (set-in tabulation ws)) ≡ without key K = changed-keys Remove key (set-in tabulation ws) ∙ ap (without key) set-keys in
+            changed-renewed Remove R (omega (arith, length-without key K (valid .asc) here, Z .count))
+            (lined-agree taken _ (λ c i. set-tier (out-in key K i))) (rw (set-keys, listed, h), rw (k, set-keys, listed, h))
 
-    -- a set with a key has one
-    pub remove-some : 1 ≤ n
-    remove-some = elim (eq? n 0) [ inl e ↦ absurd (false≢true (rw e at remove-present)) | inr e ↦ omega arith ]
+    -- it is not there
+    module _ {b : Bool} (found : b ≡ member key (keys-at n scratch)) (no : b ≡ false) where
+      absent : member key K ≡ false
+      absent = rw keys-stand at (sym found ∙ no)
 
-  pub remove-renewed : member key (keys-in ws) ≡ true
-      → Decided Remove tabulation ws key (new-answer (params-of tabulation ws) (without key (keys-in ws)))
-      (new-words (params-of tabulation ws) (changed Remove key (set-in tabulation ws)) ws)
-  remove-renewed t =
-      let g = rw set-keys at (canonical-true tabulation ws (Z .image) .fit) in
-      let f = without-fits (params-of tabulation ws) valid key g in
-      let e : keys-of (changed Remove key (set-in tabulation ws)) ≡ without key (keys-in ws) =
-      changed-keys Remove key (set-in tabulation ws) ∙ ap (without key) set-keys in
-      (rw (set-keys, t, f), rw (e, set-keys, t, f))
+      gone : In key K → ⊥
+      gone i = true≢false (sym (in-member i) ∙ absent)
 
-  -- The tiers that `renew` is told to give are those of the changed set.
-  changed-set : (kind : Change)
-      → tiered (tier-now tabulation ws (key-given kind key) (tier-given kind)) (keys-changed kind key (keys-in ws)) ≡ changed kind key (set-in tabulation ws)
-  changed-set kind =
-      tiered-agree (keys-changed kind key (keys-in ws)) (agrees kind)
-      ∙ ap (tiered (tier-changed kind key (tier-of (set-in tabulation ws)))) (sym (ap (keys-changed kind key) set-keys))
-    where
-      nonzero : {c : ℕ} → In c (keys-in ws) → c ≡ 0 → ⊥
-      nonzero i q = zero-outside valid (rw q at i)
+      pub remove-absent : Decided Remove tabulation ws key key-absent ws
+      remove-absent = (rw (set-keys, absent), rw (set-keys, absent))
 
-      agrees : (kind : Change) (c : ℕ) → In c (keys-changed kind key (keys-in ws))
-          → tier-now tabulation ws (key-given kind key) (tier-given kind) c ≡ tier-changed kind key (tier-of (set-in tabulation ws)) c
-      agrees (Insert tier) c i = elim (with-cases key (keys-in ws) i) [
-        | inl q ↦ rw (q, ne-eqb key 0 (not-blank key (Z .not-blank)), eq-eqb key key refl)
-        | inr k ↦ rw (ne-eqb c 0 (nonzero k), set-tier k)
-      ]
-      agrees Remove c i = let k = out-in key (keys-in ws) i in rw (ne-eqb c 0 (nonzero k), set-tier k)
+      module _ {tier : ℕ} (small : tier ≤ max-tier) where
+        small-test : ltb max-tier tier ≡ false
+        small-test = le-ltb max-tier tier small
 
-  -- the new set can be built, and what that answers and leaves is what the change does
-  module _ (kind : Change) (mid : List ℕ) (m : ℕ) (same-room : length mid ≡ length scratch) (few : m ≤ 2 * slots-of ws + places-of ws)
-      (front : take m mid ≡ keys-changed kind key (take n scratch)) where
-    changed-front : take m mid ≡ keys-changed kind key (keys-in ws)
-    changed-front = rw (Z .front) at front
+        pub insert-crowded : 2 * slots-of ws + places-of ws ≤ n → Decided (Insert tier) tabulation ws key stash-full ws
+        insert-crowded l =
+            let f = one-too-many P key (sizes .sizes .has-slots) valid (Z .not-blank) absent (omega (arith, Z .count)) in
+            (rw (small-test, set-keys, absent, f), rw (small-test, set-keys, absent, f))
 
-    pub changed-buildable : Buildable (slots-of ws) (places-of ws) m tabulation mid × (Shaped ws × (scratch-length (slots-of ws) (places-of ws) ≤ length mid))
-    changed-buildable = (
-      set-buildable tabulation ws scratch mid m (Z .ready) same-room few changed-front (keys-changed-valid kind key (Z .not-blank) valid),
-      (sizes, omega (arith, Z .ready .room)),
-    )
+        -- and is put in
+        module _ {r s : ℕ} (e : r ≡ slots-of ws) (f : s ≡ places-of ws) (few : n < 2 * slots-of ws + places-of ws) {mid : List ℕ}
+            (in-it : mid ≡ put-in r s n at key (edge-with (tables tabulation r) key tier) scratch) (same-room : length mid ≡ length scratch) where
+          put : Lined P (tier-changed (Insert tier) key (tier-of (set-in tabulation ws))) (with-key key K) mid
+          put =
+              rw (in-it, at-rank, e, f, Z .count)
+              (lined-put (Z .lined) room (valid .asc) key (tier-changed (Insert tier) key (tier-of (set-in tabulation ws)))
+              (λ c i. rw (ne-eqb c key (λ q. gone (rw q at i))) (set-tier i)) gone (omega (arith, Z .count)) (rw (eq-eqb key key refl)))
 
-    pub changed-renewed : {a : ℕ} {us : List ℕ}
-        → Decided kind tabulation ws key (new-answer (params-of tabulation ws) (keys-changed kind key (keys-in ws)))
-        (new-words (params-of tabulation ws) (changed kind key (set-in tabulation ws)) ws)
-        → (a ≡ new-answer (params-of tabulation ws) (take m mid))
-        × (us ≡ new-words (params-of tabulation ws) (tiered (tier-now tabulation ws (key-given kind key) (tier-given kind)) (take m mid)) ws)
-        → Decided kind tabulation ws key a us
-    changed-renewed renewed e = (
-      (rw changed-front at (e .0)) ∙ renewed .0,
-      (rw (changed-front, changed-set kind) at (e .1)) ∙ renewed .1,
-    )
+          pub insert-buildable : Buildable (slots-of ws) (places-of ws) (n + 1) mid × Shaped ws
+          insert-buildable = mid-buildable same-room put (omega (arith, length-with key K (valid .asc) gone, Z .count)) (omega arith)
+
+          pub insert-renewed : {a : ℕ} {us : List ℕ} → Renewed ws mid (n + 1) a us → Decided (Insert tier) tabulation ws key a us
+          insert-renewed R =
+              let L = changed (Insert tier) key (set-in tabulation ws) in
+              let g : fits P (keys-of L) ≡ fits P (with-key key K) = ap (fits P) (changed-keys (Insert tier) key (set-in tabulation ws) ∙ ap (with-key key) set-keys) in
+              let h : set-answer (Insert tier) tabulation ws key ≡ cond (not (fits P (with-key key K))) stash-full done = rw (small-test, set-keys, absent) in
+              changed-renewed (Insert tier) R (omega (arith, length-with key K (valid .asc) gone, Z .count)) put (
+                answer-turned (fits P (with-key key K)) ∙ sym h,
+                ap (λ (f : Bool). cond f (image P L) ws) g ∙ words-turned (fits P (with-key key K)) (image P L) ws
+                    ∙ ap (λ (n : ℕ). cond (eqb n done) (image P L) ws) (sym h),
+              )
 
 -- From the steps to the outcomes.
 
@@ -264,7 +245,7 @@ module _ {tabulation ws scratch : List ℕ} (ready : Ready tabulation ws scratch
 -- the set of the words can be changed
 pub settable : {tabulation ws before scratch : List ℕ} {n key : ℕ} {l : Reading} {b : Bool}
     → Ready tabulation ws before → length scratch ≡ length before → l ≡ Keys n
-    → (values l ≡ reading-values tabulation ws) × (take (length (keys-in ws)) scratch ≡ keys-in ws) → b ≡ false → b ≡ blank key
+    → (values l ≡ reading-values tabulation ws) × Listed tabulation ws scratch → b ≡ false → b ≡ blank key
     → Settable tabulation ws scratch n key
 settable {tabulation} {ws} ready same-room e told not-blank test =
     let t = told-keys tabulation ws (told .0) e in
@@ -272,7 +253,7 @@ settable {tabulation} {ws} ready same-room e told not-blank test =
       ready = record { full-length = ready .full-length; shape = ready .shape; room = omega (arith, ready .room) };
       image = t .0;
       count = t .1;
-      front = rw (t .1) (told .1);
+      lined = lined-agree (told .1) (tier-in tabulation ws) (λ c. canonical-small tabulation ws (t .0));
       not-blank = sym test ∙ not-blank;
     }
 

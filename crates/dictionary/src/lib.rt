@@ -6,7 +6,6 @@ ghost use Rattle.dictionary.specs.Core.{Settable, Decided, Left};
 ghost use Rattle.outcome.specs.Outcome.{change-outcome, check-outcome};
 ghost use Rattle.outcome.specs.declared.Change.the-variants.{Insert, Remove};
 use access::MAX_TIER;
-use layout::Found;
 use outcome::Change;
 use refusals::BLANK_KEY;
 use refusals::KEY_ABSENT;
@@ -18,11 +17,16 @@ use refusals::WRONG_TIER;
 use renewal::Reading;
 use renewal::clear;
 use renewal::early;
+use renewal::members::is_at;
+use renewal::members::place_of;
+use renewal::members::put_key;
+use renewal::members::take_key;
+use renewal::members::tier_at;
 use renewal::read_set;
 use renewal::renew;
 use words::wide;
 
-// The keys at the front of scratch are the set of the words, and the key is not blank: the set with the key.
+// The set of the words stands in scratch, n keys and their edges, and the key is not blank: the set with the key.
 fn insert_key(
     tabulation: &[u16],
     words: &mut [u32],
@@ -37,31 +41,35 @@ fn insert_key(
     if MAX_TIER < tier {
         return WRONG_TIER;
     }
-    if ordered::has(&scratch[..n], key) {
-        if access::tier_found(tabulation, &*words, key) != tier {
+    let header = access::read_header(&*words);
+    let r = header.slots;
+    let s = header.places;
+    let at = place_of(&*scratch, n, key);
+    if is_at(&*scratch, n, at, key) {
+        if tier_at(&*scratch, r, s, at) != tier {
             return OTHER_TIER;
         }
         return KEY_PRESENT;
     }
-    let header = access::read_header(&*words);
-    if wide(2 * header.slots + header.places) <= n {
+    if wide(2 * r + s) <= n {
         return STASH_FULL;
     }
-    ordered::insert(&mut *scratch, n, key);
-    renew(tabulation, &mut *words, &mut *scratch, n + 1, key, tier)
+    put_key(tabulation, &mut *scratch, r, s, n, at, key, tier);
+    renew(&mut *words, &mut *scratch, n + 1)
 }
 
-// The keys at the front of scratch are the set of the words, and the key is not blank: the set without the key.
+// The set of the words stands in scratch, n keys and their edges, and the key is not blank: the set without the key.
 fn remove_key(tabulation: &[u16], words: &mut [u32], scratch: &mut [u32], n: usize, key: u32) -> u32
     requires { ⌜ Settable (now tabulation) (now words) (now scratch) n key ⌝ }
     ensures { λ a. ⌜ Decided Remove (now (tabulation .entry)) (now (words .entry)) key a (now (words .exit)) ⌝ }
 {
-    let found = access::find(tabulation, &*words, key);
-    let Found::Listed(_) = found else {
+    let header = access::read_header(&*words);
+    let at = place_of(&*scratch, n, key);
+    if !is_at(&*scratch, n, at, key) {
         return KEY_ABSENT;
-    };
-    ordered::delete(&mut *scratch, n, key);
-    renew(tabulation, &mut *words, &mut *scratch, n - 1, 0, 0)
+    }
+    take_key(&mut *scratch, header.slots, header.places, n, at);
+    renew(&mut *words, &mut *scratch, n - 1)
 }
 
 // The whole of insert and remove but for the clearing of scratch.

@@ -180,7 +180,7 @@ module _ {r : ℕ} {before : List ℕ} (G : Graph r before) where
           fit = rw (e, held-with r after next next-size) (fit-reroot (other-slot r after) (suc (2 * r)) (held-in r after) carry slot (K .fit) rank);
         },
         ap (held-in r) e ∙ held-with r after next next-size
-        ∙ ap (λ (E : List ℕ). reroot (other-end r E) (suc (2 * r)) (held-in r after) carry slot) kept-edges,
+            ∙ ap (λ (E : List ℕ). reroot (other-end r E) (suc (2 * r)) (held-in r after) carry slot) kept-edges,
       )
 
     -- the exchange, and the smallest rank on a way, told by the edges of before

@@ -1,33 +1,32 @@
 -- What every call on a whole dictionary is made of, as definitions: what is refused before the words are read as a set, what reading them answers, and what a new
--- set leads to. The laws say that this is what the code does, by way of the keys in scratch and the build. Assumes nothing.
+-- set leads to. The laws say that this is what the code does, by way of the keys and edges in scratch and the build. Assumes nothing.
 use Prim.Native.Nat.{ℕ, _+_, _*_, _≤_, _<_}
-use mathlib.Core.Path.{_≡_, refl, sym, _∙_, ap}
-use mathlib.Core.Bool.{Bool, true, false, not, cond, _&&_}
+use mathlib.Core.Path.{_≡_, refl, sym, _∙_}
+use mathlib.Core.Bool.{Bool, true, false, not, cond}
 use mathlib.Core.List.{List, [], _∷_, List·Memᴰ as In}
 use native.Mathlib.Omega.{arith}
 use borrow.Author.Tests.{lt-leb}
 use lib.ListN.{length, take}
-use lib.Seq.{take-take, length-take-le}
-use Rattle.basics.specs.Lists.{same}
+use Rattle.basics.specs.Tests.{bool-ext}
+use Rattle.basics.specs.Lists.{same, same-true, true-same}
 use Rattle.refusals.specs.Refusal.{done, not-canonical, stash-full, first-refusal, front-none}
-use Rattle.tabulation.specs.Hash.{tables}
-use Rattle.layout.specs.Layout.{Params, ValidKeys, family, params-of, slots-of, places-of, stash-of, fits, image, keys-in, fits-by}
-use Rattle.layout.specs.Entries.{Entry, keys-of, tier-of, tiered, keys-tiered, tier-absent}
-use Rattle.layout.specs.Canonical.{canonical}
-use Rattle.layout.specs.Shape.{Shaped, shape}
-use Rattle.codec.specs.Image.{written-image}
-use Rattle.renewal.specs.Tiers.{tier-now}
+use Rattle.layout.specs.Layout.{Params, ValidKeys, params-of, slots-of, places-of, words-length, shaped, stash-of, fits, image, keys-in, fits-by, tier-in}
+use Rattle.layout.specs.Entries.{Entry, keys-of, tier-of, tiered, keys-tiered, tiered-agree, tiered-in, in-tiered, tier-absent}
+use Rattle.layout.specs.Canonical.{canonical, canonical-tier, canonical-true, image-of-canonical}
+use Rattle.layout.specs.Shape.{Shaped, Sized, shape}
 use Rattle.layout.specs.Image.{le-fits}
-use Rattle.layout.specs.Standing.{keys-in-valid, not-blank, zero-outside}
-use Rattle.codec.specs.Collect.{keys-in-few}
-use Rattle.build.specs.Scratch.{used}
-use Rattle.build.specs.Build.{full, made, Build, Built, Buildable}
+use Rattle.layout.specs.Standing.{keys-in-valid, zero-outside}
+use Rattle.tabulation.specs.Hash.{tables}
+use Rattle.build.specs.Scratch.{parts, edges-at, used}
+use Rattle.build.specs.Build.{full, made, Built, Buildable}
 use Rattle.build.specs.declared.StashCount.{StashCount}
-use Rattle.build.specs.declared.StashCount.the-variants.{Keys as StashKeys, Overflow}
+use Rattle.build.specs.declared.StashCount.the-variants.{Ranks, Overflow}
+use Rattle.codec.specs.Collect.{keys-in-few}
+use Rattle.codec.specs.Image.{ImageColumns, alike-image, written-image}
 use Rattle.outcome.specs.Outcome.{early-refusals}
 use Rattle.outcome.specs.Laws.{Ready, none-ready}
-use Rattle.renewal.specs.Parts.{Parted, PartsComparable, PartsWritable, beside-at, small-in, alike-in, written-in, TiersPlaced}
-use Rattle.renewal.specs.Placed.{placed-columns, placed-small, placed-alike}
+use Rattle.renewal.specs.Edges.{tier-found, small-le, small-same, edge-of, Lined, lined-buildable, lined-built, EdgesTo, edges-lined}
+use Rattle.renewal.specs.Columns.{keys-held, nexts-held, tiers-held, keys-stashed, tiers-stashed, alike-in, written-in, Readable, standing-readable, stash-count, set-columns}
 use Rattle.renewal.specs.declared.Reading.{Reading}
 use Rattle.renewal.specs.declared.Reading.the-variants.{Keys, NotCanonical}
 
@@ -44,7 +43,7 @@ abbrev pub values : Reading → List ℕ
 values (Keys n) = n ∷ []
 values NotCanonical = []
 
--- the words read as a set: 4, or the number of its keys, which then stand at the front of scratch
+-- the words read as a set: 4, or the number of its keys
 abbrev pub reading-refusal : List ℕ → List ℕ → ℕ
 reading-refusal tabulation ws = first-refusal ((not-canonical, not (canonical tabulation ws)) ∷ [])
 
@@ -58,7 +57,24 @@ new-answer P S = cond (fits P S) done stash-full
 abbrev pub new-words : Params → List Entry → List ℕ → List ℕ
 new-words P L ws = cond (fits P (keys-of L)) (image P L) ws
 
--- Where none of them applies, the words can be read.
+-- The n keys that stand in the words have been collected: they stand in scratch from word 1 on. r and s are those of the words.
+pub record Collected (tabulation ws scratch : List ℕ) (r s n : ℕ) : Type 0 where
+  pub ready : Ready tabulation ws scratch
+  pub slots : r ≡ slots-of ws
+  pub places : s ≡ places-of ws
+  pub count : n ≡ length (keys-in ws)
+  pub front : take (n + 1) scratch ≡ 0 ∷ keys-in ws
+
+-- they stand there with their edges, which have the tiers at which they are found in the words
+abbrev pub Listed : List ℕ → List ℕ → List ℕ → Type 0
+Listed tabulation ws scratch = Lined (params-of tabulation ws) (tier-found tabulation ws) (keys-in ws) scratch
+
+-- Whichever set of n keys stands in scratch, with tiers t: the answer and the words are those that it leads to.
+pub record Renewed (ws scratch : List ℕ) (n answer : ℕ) (us : List ℕ) : Type 0 where
+  pub by : (tabulation : List ℕ) (t : ℕ → ℕ) (S : List ℕ) → ValidKeys S → n ≡ length S → Lined (params-of tabulation ws) t S scratch
+      → (answer ≡ new-answer (params-of tabulation ws) S) × (us ≡ new-words (params-of tabulation ws) (tiered t S) ws)
+
+-- The laws. Where none of 1 to 3 applies, the words can be read.
 early-none : (tabulation ws scratch : List ℕ) → early-refusal tabulation ws (length scratch) ≡ done → Ready tabulation ws scratch
 unfolding early-refusal
 early-none tabulation ws scratch e =
@@ -67,154 +83,191 @@ early-none tabulation ws scratch e =
 pub early-ready : (tabulation ws scratch : List ℕ) {n : ℕ} → n ≡ early-refusal tabulation ws (length scratch) → n ≡ 0 → Ready tabulation ws scratch
 early-ready tabulation ws scratch e z = early-none tabulation ws scratch (sym e ∙ z)
 
--- a build that has no room is of a set that does not fit
+-- a set whose stash is too long does not fit
 full-fits : (P : Params) (S : List ℕ) → P .places < length (stash-of P S) → fits P S ≡ false
 unfolding fits fits-by
 full-fits P S l = lt-leb (length (stash-of P S)) (P .places) l
 
--- a valid set at the front of scratch can be built
-pub set-buildable : (tabulation ws scratch mid : List ℕ) (n : ℕ) {S : List ℕ} → Ready tabulation ws scratch → length mid ≡ length scratch
-    → n ≤ 2 * slots-of ws + places-of ws → take n mid ≡ S → ValidKeys S → Buildable (slots-of ws) (places-of ws) n tabulation mid
-set-buildable tabulation ws scratch mid n ready same-room few front valid =
-    let h = shape ws (ready .shape) in
-    record {
-      hashing = record { full-length = ready .full-length; has-slots = h .sizes .has-slots; slots-bound = h .sizes .slots-bound };
-      places-bound = h .sizes .places-bound;
-      room = omega (arith, ready .room);
-      keys = few;
-      asc = rw front (valid .asc);
-      nonzero = λ c i. not-blank c (valid .none-blank c (rw front at i));
-    }
+-- 0 has no tier
+no-tier : {S : List ℕ} (t : ℕ → ℕ) → ValidKeys S → tier-of (tiered t S) 0 ≡ 0
+no-tier {S} t valid = tier-absent (tiered t S) (λ i. zero-outside valid (rw (keys-tiered t S) at i))
 
--- Reading words as a set. First the keys that stand in them are collected: n of them, at the front of `mid`, which is scratch then.
-pub record Collected (tabulation ws scratch mid : List ℕ) (n : ℕ) : Type 0 where
-  pub ready : Ready tabulation ws scratch
-  pub same-room : length mid ≡ length scratch
-  pub front : take n mid ≡ keys-in ws
-  pub count : n ≡ length (keys-in ws)
+-- A build that has room leaves what can be read by rank.
+pub built-readable : {r s n : ℕ} {before after : List ℕ} {count : StashCount} {k : ℕ} → Sized r s → Buildable r s n before → length after ≡ length before
+    → Built r s n before after count → count ≡ Ranks k → Readable r s n after
+built-readable sizes b same B e = elim (B .built) [
+  | full l q ↦ absurd (omega (arith, rw e at q))
+  | made l q v W ↦ standing-readable sizes (b .few) (omega (arith, b .room)) W
+]
 
-module _ {tabulation ws scratch mid : List ℕ} {n : ℕ} (R : Collected tabulation ws scratch mid n) where
-  abbrev P : Params
-  P = params-of tabulation ws
+-- A set that stands in scratch is built.
+module _ {P : Params} {t : ℕ → ℕ} {S before after : List ℕ} {count : StashCount} (valid : ValidKeys S) (sizes : Sized (P .slots) (P .places))
+    (few : length S ≤ 2 * P .slots + P .places) (room : used (P .slots) (P .places) ≤ length before) (D : Lined P t S before)
+    (same-room : length after ≡ length before) (B : Built (P .slots) (P .places) (length S) before after count) where
+  pub set-kept : Lined P t S after
+  set-kept = lined-built D same-room room few B
 
-  collected-few : n ≤ 2 * slots-of ws + places-of ws
-  collected-few = omega (arith, R .count, keys-in-few ws (shape ws (R .ready .shape)))
+  room-after : used (P .slots) (P .places) ≤ length after
+  room-after = omega arith
 
-  pub collected-buildable : Buildable (slots-of ws) (places-of ws) n tabulation mid
-  collected-buildable = set-buildable tabulation ws scratch mid n (R .ready) (R .same-room) collected-few (R .front) (keys-in-valid ws)
+  set-full : count ≡ Overflow → fits P S ≡ false
+  set-full e = elim (B .built) [
+    | full l q ↦ full-fits P S (rw (stash-count valid sizes few room-after set-kept) at l)
+    | made l q v W ↦ absurd (omega (arith, rw e at q))
+  ]
 
-  pub collected-parted : {after : List ℕ} → length after ≡ length mid → Parted (slots-of ws) (places-of ws) after
-  collected-parted l = record { sizes = shape ws (R .ready .shape) .sizes; room = omega (arith, R .ready .room, R .same-room) }
+  module _ {k : ℕ} (e : count ≡ Ranks k) where
+    -- it fits, its stash has k keys, and its columns stand there
+    record Made : Type 0 where
+      fit : fits P S ≡ true
+      stashed : length (stash-of P S) ≡ k
+      columns : let G = parts (P .slots) (P .places) (length S) after in
+          ImageColumns P (tiered t S) (keys-held (P .slots) G) (nexts-held (P .slots) G) (tiers-held (P .slots) G) (keys-stashed (P .slots) G) (tiers-stashed (P .slots) G)
 
-  pub collected-comparable : {after : List ℕ} → length after ≡ length mid → PartsComparable (slots-of ws) (places-of ws) ws after
-  collected-comparable l = record { shape = shape ws (R .ready .shape); slots = refl; places = refl; room = omega (arith, R .ready .room, R .same-room) }
+    set-made : Made
+    set-made = elim (B .built) [
+      | full l q ↦ absurd (omega (arith, rw e at q))
+      | made l q v W ↦
+          let c = stash-count valid sizes few room-after set-kept in
+          let w = rw e at v in
+          record { fit = le-fits P S (rw c at l); stashed = cc; columns = set-columns valid sizes few room-after set-kept W }
+    ]
 
-  -- Then they are built and their tiers are placed: scratch is `after`, and then `last`; and the words are compared with what stands there.
-  module _ {after : List ℕ} {count : StashCount} (B : Built (family P) (places-of ws) (take n mid) mid after count) where
-    keys-built : Build (family P) (places-of ws) (keys-in ws) after count
-    keys-built = rw (R .front) at (B .built)
-
-    -- what reading promises, of scratch as it is then
-    abbrev Told : List ℕ → Reading → Type 0
-    Told last l =
-        (number l ≡ reading-refusal tabulation ws)
-        × ((values l ≡ reading-values tabulation ws) × (take (length (keys-in ws)) last ≡ keys-in ws))
-
-    -- the keys are still there
-    front-built : take (length (keys-in ws)) after ≡ keys-in ws
-    front-built =
-        rw (← R .count)
-        (sym (take-take n (2 * slots-of ws + places-of ws) after collected-few)
-        ∙ ap (take n) (B .kept)
-        ∙ take-take n (2 * slots-of ws + places-of ws) mid collected-few
-        ∙ R .front)
-
-    pub read-full : count ≡ Overflow → Told after NotCanonical
-    unfolding canonical
-    read-full e =
-        elim keys-built [
-          | full l q ↦ let f = full-fits P (keys-in ws) l in (rw f, (rw f, front-built))
-          | made l q v W ↦ absurd (omega (arith, rw e at q))
-        ]
-
-    module _ {last : List ℕ} (T : TiersPlaced tabulation ws 0 0 (slots-of ws) (places-of ws) after last) (long : length last ≡ length mid)
-        (same-long : length last ≡ length after) where
-      front-kept : take (length (keys-in ws)) last ≡ keys-in ws
-      front-kept =
-          let l : length (keys-in ws) ≤ used (slots-of ws) (places-of ws) = omega (arith, collected-few, R .count) in
-          sym (take-take _ (used (slots-of ws) (places-of ws)) last l) ∙ ap (take (length (keys-in ws))) (T .kept)
-          ∙ take-take _ (used (slots-of ws) (places-of ws)) after l ∙ front-built
-
-      module _ {k : ℕ} (e : count ≡ StashKeys k) where
-        -- the words are canonical exactly if no tier is above 7 and they are the image that stands in scratch
-        canonical-same : canonical tabulation ws
-            ≡ (small-in (slots-of ws) (places-of ws) last && alike-in (slots-of ws) (places-of ws) ws n k last)
-        unfolding canonical
-        canonical-same =
-            elim keys-built [
-              | full l q ↦ absurd (omega (arith, rw e at q))
-              | made l q v W ↦
-                  let w = rw e at v in
-                  let m : length (stash-of P (keys-in ws)) ≡ k = cc in
-                  let h = shape ws (R .ready .shape) in
-                  let fit = le-fits P (keys-in ws) l in
-                  let room : beside-at (slots-of ws) (places-of ws) + places-of ws ≤ length last = omega (arith, R .ready .room, R .same-room) in
-                  let valid = keys-in-valid ws in
-                  let C = placed-columns P (keys-in ws) (valid .asc) (zero-outside valid) tabulation ws 0 0 W T same-long fit room in
-                  rw (fit, placed-small tabulation ws last C fit room (h .sizes .has-slots), R .count, ← m) (ap (λ (b : Bool). small-in (slots-of ws) (places-of ws) last && b)
-                  (sym (placed-alike tabulation ws last C fit h)))
-            ]
-
-        pub read-large : small-in (slots-of ws) (places-of ws) last ≡ false → Told last NotCanonical
-        read-large t = let e : canonical tabulation ws ≡ false = canonical-same ∙ (rw t) in (rw e, (rw e, front-kept))
-
-        module _ (small : small-in (slots-of ws) (places-of ws) last ≡ true) {b : Bool}
-            (compared : b ≡ alike-in (slots-of ws) (places-of ws) ws n k last) where
-          pub read-same : b ≡ true → Told last (Keys n)
-          read-same t = let e : canonical tabulation ws ≡ true = canonical-same ∙ (rw (small, sym compared ∙ t)) in (rw e, (rw (R .count, e), front-kept))
-
-          pub read-other : b ≡ false → Told last NotCanonical
-          read-other t = let e : canonical tabulation ws ≡ false = canonical-same ∙ (rw (small, sym compared ∙ t)) in (rw e, (rw e, front-kept))
-
--- A new set: its keys are the first n words of scratch, built, and their tiers are placed: that of `key` is given.
-module _ (tabulation ws scratch : List ℕ) (n key tier : ℕ) {after : List ℕ} {count : StashCount}
-    (B : Built (family (params-of tabulation ws)) (places-of ws) (take n scratch) scratch after count) where
+-- words are alike exactly if they are its image, and what is written is its image
+module _ (tabulation ws : List ℕ) (formed : Shaped ws) {t : ℕ → ℕ} {S before after : List ℕ} {count : StashCount} (valid : ValidKeys S)
+    (few : length S ≤ 2 * slots-of ws + places-of ws) (room : used (slots-of ws) (places-of ws) ≤ length before)
+    (D : Lined (params-of tabulation ws) t S before) (same-room : length after ≡ length before)
+    (B : Built (slots-of ws) (places-of ws) (length S) before after count) {k : ℕ} (e : count ≡ Ranks k) where
   abbrev N : Params
   N = params-of tabulation ws
 
-  abbrev S : List ℕ
-  S = take n scratch
+  abbrev M : Made valid (formed .sizes) few room D same-room B e
+  M = set-made valid (formed .sizes) few room D same-room B e
 
-  abbrev new-set : List Entry
-  new-set = tiered (tier-now tabulation ws key tier) S
+  set-alike : alike-in (slots-of ws) (places-of ws) (length S) ws k after ≡ same ws (image N (tiered t S))
+  set-alike =
+      let a = alike-image (M .columns) (rw (keys-tiered t S) (M .fit)) (no-tier t valid) formed refl refl in
+      rw (← M .stashed) (rw (keys-tiered t S) at a)
 
-  pub renew-full : count ≡ Overflow → (stash-full ≡ new-answer N S) × (ws ≡ new-words N new-set ws)
-  renew-full e =
-      elim (B .built) [
-        | full l q ↦ let f = full-fits N S l in (rw f, rw (keys-tiered (tier-now tabulation ws key tier) S, f))
-        | made l q v W ↦ absurd (omega (arith, rw e at q))
-      ]
+  set-written : written-in ws (record { slots = slots-of ws; places = places-of ws; keys = length S; stashed = k }) after ≡ image N (tiered t S)
+  set-written =
+      let i = written-image (M .columns) (rw (keys-tiered t S) (M .fit)) (no-tier t valid) ws (formed .sizes .has-slots) (formed .size) in
+      rw (← M .stashed) (rw (keys-tiered t S) at i)
 
-  pub renew-made : {k : ℕ} → count ≡ StashKeys k → n ≤ length scratch → Buildable (slots-of ws) (places-of ws) n tabulation scratch → Shaped ws
-      → {last : List ℕ} → TiersPlaced tabulation ws key tier (slots-of ws) (places-of ws) after last → length last ≡ length after
-      → beside-at (slots-of ws) (places-of ws) + places-of ws ≤ length last
-      → (done ≡ new-answer N S)
-      × (written-in ws (record { slots = slots-of ws; places = places-of ws; keys = n; stashed = k }) last ≡ new-words N new-set ws)
-  renew-made {k} e long b formed {last} T same room =
-      elim (B .built) [
-        | full l q ↦ absurd (omega (arith, rw e at q))
-        | made l q v W ↦
-            let t = tier-now tabulation ws key tier in
-            let w = rw e at v in
-            let f = le-fits N S l in
-            let m : length (stash-of N S) ≡ k = cc in
-            let c : length S ≡ n = length-take-le n scratch long in
-            let no-zero : In 0 S → ⊥ = λ i. b .nonzero 0 i refl in
-            let C = placed-columns N S (b .asc) no-zero tabulation ws key tier W T same f room in
-            let z : tier-of new-set 0 ≡ 0 = tier-absent new-set (λ i. no-zero (rw (keys-tiered t S) at i)) in
-            let i = written-image C (rw (keys-tiered t S) f) z ws (formed .sizes .has-slots) (formed .size) in
-            (rw f, rw (keys-tiered t S, f, ← m) (rw (keys-tiered t S, c) at i))
-      ]
+-- Reading words as a set. Words whose keys fit are canonical exactly if they are the image of their set, with 0 for every tier above 7: if they are, then that
+-- set is theirs; and if they are canonical, then no tier is above 7.
+module _ (tabulation ws : List ℕ) where
+  abbrev P : Params
+  P = params-of tabulation ws
+
+  abbrev t : ℕ → ℕ
+  t = tier-found tabulation ws
+
+  pub canonical-small : canonical tabulation ws ≡ true → {c : ℕ} → In c (keys-in ws) → t c ≡ tier-in tabulation ws c
+  canonical-small e i = small-same _ (canonical-tier tabulation ws e _ (in-tiered (tier-in tabulation ws) (keys-in ws) i))
+
+  canonical-same : shaped ws ≡ true → fits P (keys-in ws) ≡ true → canonical tabulation ws ≡ same ws (image P (tiered t (keys-in ws)))
+  canonical-same formed fit =
+      bool-ext (canonical tabulation ws) (same ws (image P (tiered t (keys-in ws))))
+      (λ e. true-same ws (image P (tiered t (keys-in ws))) (rw (tiered-agree {t = t} (keys-in ws) (λ c. canonical-small e)) (canonical-true tabulation ws e .is)))
+      (λ e. image-of-canonical tabulation ws formed refl (record {
+        valid = record {
+          keys = rw (keys-tiered t (keys-in ws)) (keys-in-valid ws);
+          tiers = λ x i. rw (tiered-in t (keys-in ws) i) (small-le (tier-in tabulation ws (x .key)));
+        };
+        fit = rw (keys-tiered t (keys-in ws)) fit;
+        is = same-true ws (image P (tiered t (keys-in ws))) e;
+      }) .2)
+
+-- Keys that are collected: they and their edges have room,
+module _ {tabulation ws scratch : List ℕ} {r s n : ℕ} (C : Collected tabulation ws scratch r s n) where
+  abbrev formed : Shaped ws
+  formed = shape ws (C .ready .shape)
+
+  collected-few : length (keys-in ws) ≤ 2 * slots-of ws + places-of ws
+  collected-few = keys-in-few ws formed
+
+  pub collected-room : Sized r s × ((n ≤ 2 * r + s) × (used r s ≤ length scratch))
+  collected-room = (
+    rw (C .slots, C .places) (formed .sizes),
+    (omega (arith, C .count, C .slots, C .places, collected-few), omega (arith, C .slots, C .places, C .ready .room, formed .sizes)),
+  )
+
+  -- and are listed once these are made,
+  pub collected-listed : {after : List ℕ} {start : ℕ} → start ≡ edges-at r s
+      → EdgesTo (edge-of (tables tabulation (slots-of ws)) (tier-found tabulation ws)) scratch after start n → Listed tabulation ws after
+  collected-listed e T =
+      edges-lined (rw (C .count) at (C .front)) (rw (e, C .slots, C .places, C .count) at T) collected-few (rw (C .slots, C .places) at (collected-room .1 .1))
+
+-- and can be built then.
+module _ {tabulation ws scratch mid : List ℕ} {r s n : ℕ} (C : Collected tabulation ws scratch r s n) (same-room : length mid ≡ length scratch)
+    (D : Listed tabulation ws mid) where
+  room-mid : used (slots-of ws) (places-of ws) ≤ length mid
+  room-mid = omega (arith, C .ready .room, formed C .sizes)
+
+  pub collected-buildable : Buildable r s n mid
+  collected-buildable = rw (C .slots, C .places, C .count) (lined-buildable D room-mid (formed C .sizes) (collected-few C))
+
+  module _ {after : List ℕ} {count : StashCount} (same : length after ≡ length mid) (B : Built r s n mid after count) where
+    built-set : Built (slots-of ws) (places-of ws) (length (keys-in ws)) mid after count
+    built-set = rw (← C .slots, ← C .places, ← C .count) B
+
+    -- what reading promises
+    abbrev Told : Reading → Type 0
+    Told l = (number l ≡ reading-refusal tabulation ws) × ((values l ≡ reading-values tabulation ws) × Listed tabulation ws after)
+
+    kept : Listed tabulation ws after
+    kept = set-kept (keys-in-valid ws) (formed C .sizes) (collected-few C) room-mid D same built-set
+
+    pub read-full : count ≡ Overflow → Told NotCanonical
+    unfolding canonical
+    read-full e = let f = set-full (keys-in-valid ws) (formed C .sizes) (collected-few C) room-mid D same built-set e in (rw f, (rw f, kept))
+
+    module _ {k : ℕ} (e : count ≡ Ranks k) {b : Bool} (compared : b ≡ alike-in r s n ws k after) where
+      read-compared : canonical tabulation ws ≡ b
+      read-compared =
+          let valid = keys-in-valid ws in
+          canonical-same tabulation ws (C .ready .shape) (set-made valid (formed C .sizes) (collected-few C) room-mid D same built-set e .fit)
+          ∙ sym (set-alike tabulation ws (formed C) valid (collected-few C) room-mid D same built-set e)
+          ∙ sym (rw (C .slots, C .places, C .count) at compared)
+
+      pub read-same : b ≡ true → Told (Keys n)
+      read-same q = let c : canonical tabulation ws ≡ true = read-compared ∙ q in (rw c, (rw (C .count, c), kept))
+
+      pub read-other : b ≡ false → Told NotCanonical
+      read-other q = let c : canonical tabulation ws ≡ false = read-compared ∙ q in (rw c, (rw c, kept))
+
+-- A new set, whichever stands in scratch: r and s are those of the words.
+module _ {ws scratch : List ℕ} {r s n : ℕ} (e : r ≡ slots-of ws) (f : s ≡ places-of ws) (formed : Shaped ws)
+    (b : Buildable (slots-of ws) (places-of ws) n scratch) where
+  pub new-buildable : Buildable r s n scratch
+  new-buildable = rw (e, f) b
+
+  module _ {after : List ℕ} {count : StashCount} (same : length after ≡ length scratch) (B : Built r s n scratch after count) where
+    built-new : (S : List ℕ) → n ≡ length S → Built (slots-of ws) (places-of ws) (length S) scratch after count
+    built-new S q = rw (← e, ← f, ← q) B
+
+    few-new : (S : List ℕ) → n ≡ length S → length S ≤ 2 * slots-of ws + places-of ws
+    few-new S q = omega (arith, b .few)
+
+    pub renew-full : count ≡ Overflow → Renewed ws scratch n stash-full ws
+    renew-full o = record {
+      by = λ tabulation t S valid q D.
+          let g = set-full {P = params-of tabulation ws} valid (formed .sizes) (few-new S q) (b .room) D same (built-new S q) o in
+          (rw g, rw (keys-tiered t S, g));
+    }
+
+    module _ {k : ℕ} (o : count ≡ Ranks k) where
+      pub renew-readable : (length ws ≡ words-length r s) × Readable r s n after
+      renew-readable = (rw (e, f) (formed .size), built-readable (rw (e, f) (formed .sizes)) new-buildable same B o)
+
+      pub renew-made : {us : List ℕ} → us ≡ written-in ws (record { slots = r; places = s; keys = n; stashed = k }) after → Renewed ws scratch n done us
+      renew-made w = record {
+        by = λ tabulation t S valid q D.
+            let g = set-made {P = params-of tabulation ws} valid (formed .sizes) (few-new S q) (b .room) D same (built-new S q) o .fit in
+            let i = set-written tabulation ws formed valid (few-new S q) (b .room) D same (built-new S q) o in
+            (rw g, rw (keys-tiered t S, g) ((rw (e, f, q) at w) ∙ i));
+      }
 
 -- what reading the words told
 module _ (tabulation ws : List ℕ) where
@@ -232,37 +285,3 @@ module _ (tabulation ws : List ℕ) where
       go : (t : Bool) → n ∷ [] ≡ cond t (length (keys-in ws) ∷ []) [] → (t ≡ true) × (n ≡ length (keys-in ws))
       go true e = (refl, cc)
       go false e = absurd (let z : _≡_ {A = ℕ} 0 1 = cc in omega arith)
-
--- The same with r and s as the code has them: read from the heading.
-module _ {r r′ s s′ : ℕ} (e : r ≡ r′) (f : s ≡ s′) where
-  pub buildable-as : {n : ℕ} {tabulation scratch : List ℕ} → Buildable r′ s′ n tabulation scratch → Buildable r s n tabulation scratch
-  buildable-as B = rw (e, f) B
-
-  pub built-as : {tabulation S before after : List ℕ} {count : StashCount}
-      → Built (tables tabulation r) s S before after count
-      → Built (tables tabulation r′) s′ S before after count
-  built-as B = rw (← e, ← f) B
-
-  pub comparable-as : {ws scratch : List ℕ} → PartsComparable r′ s′ ws scratch → PartsComparable r s ws scratch
-  comparable-as C = rw (e, f) C
-
-  pub parted-as : {scratch : List ℕ} → Parted r′ s′ scratch → Parted r s scratch
-  parted-as C = rw (e, f) C
-
-  pub placed-as : {tabulation ws before after : List ℕ} {key tier : ℕ} → TiersPlaced tabulation ws key tier r s before after
-      → TiersPlaced tabulation ws key tier r′ s′ before after
-  placed-as T = rw (← e, ← f) T
-
-  pub small-as : (scratch : List ℕ) → small-in r s scratch ≡ small-in r′ s′ scratch
-  small-as scratch = rw (e, f)
-
-  pub alike-as : (ws : List ℕ) (keys stashed : ℕ) (scratch : List ℕ) → alike-in r s ws keys stashed scratch ≡ alike-in r′ s′ ws keys stashed scratch
-  alike-as ws keys stashed scratch = rw (e, f)
-
-  pub writable-as : {ws scratch : List ℕ} → PartsWritable r′ s′ ws scratch → PartsWritable r s ws scratch
-  writable-as W = rw (e, f) W
-
-  pub written-as : (ws : List ℕ) (keys stashed : ℕ) (scratch : List ℕ)
-      → written-in ws (record { slots = r; places = s; keys = keys; stashed = stashed }) scratch
-      ≡ written-in ws (record { slots = r′; places = s′; keys = keys; stashed = stashed }) scratch
-  written-as ws keys stashed scratch = rw (e, f)

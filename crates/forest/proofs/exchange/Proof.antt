@@ -54,9 +54,11 @@ reroot-requires-2 : tie.Need-reroot-requires-2
 reroot-requires-2 c κs =
     let m = c .before .before .before .before .before in
     let s = start (known m) in
-    let K = once m in
-    (kept-graph (s .pre .0) K, search needs,
-    rw (kept-edges (s .pre .0) K) (kept-rank (s .pre .0) (kept-start (s .pre .0)) (s .args .low) (s .pre .3)))
+    let K = once m in (
+      kept-graph (s .pre .0) K,
+      search needs,
+      rw (kept-edges (s .pre .0) K) (kept-rank (s .pre .0) (kept-start (s .pre .0)) (s .args .low) (s .pre .3)),
+    )
 
 same-length : tie.Need-same-length
 same-length c =

@@ -88,8 +88,8 @@ loop-again c =
       c .other-slot .ensures .1,
       k .1,
       l .inv .2 ∙ ap (λ (n : ℕ). lowest-slot (other-slot r g) n (held-in r g) (l .at) (l .low)) e
-      ∙ lowest-step (other-slot r g) (l .left - 1) (held-in r g) (l .at) (l .low) (λ q. o .if1 .left (w ∙ q))
-      ∙ rw (k .0, c .other-slot .ensures .0, w, w′) refl,
+          ∙ lowest-step (other-slot r g) (l .left - 1) (held-in r g) (l .at) (l .low) (λ q. o .if1 .left (w ∙ q))
+          ∙ rw (k .0, c .other-slot .ensures .0, w, w′) refl,
     )
 
 returns-2 : tie.Need-returns-2 Inv-loop μ-loop

@@ -95,8 +95,8 @@ loop-again c =
       c .other-slot .ensures .1,
       kept-rank G (l .inv .0) (l .at) (l .inv .1),
       l .inv .3 ∙ rw (t, c .other-slot .ensures .0, kept-edges G K, w)
-      (ap (λ (k : ℕ). reroot (other-slot r (s .args .graph .now)) k (held-in r (l .graph)) (l .moving) (l .at)) e
-      ∙ reroot-step (other-slot r (s .args .graph .now)) (l .left - 1) (held-in r (l .graph)) (l .moving) (l .at) (λ q. o .if1 .left (w ∙ q))),
+          (ap (λ (k : ℕ). reroot (other-slot r (s .args .graph .now)) k (held-in r (l .graph)) (l .moving) (l .at)) e
+          ∙ reroot-step (other-slot r (s .args .graph .now)) (l .left - 1) (held-in r (l .graph)) (l .moving) (l .at) (λ q. o .if1 .left (w ∙ q))),
     )
 
 same-length-2 : tie.Need-same-length-2 Inv-loop μ-loop

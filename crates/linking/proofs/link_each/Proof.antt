@@ -35,9 +35,12 @@ add-i c = search needs
 link-rank-requires : tie.Need-link-rank-requires Inv-loop μ-loop
 link-rank-requires c κs =
     let l = c .before .before .loop in
-    let s = c .before .before .before .before in
-    (enough-kept (s .pre .0) (l .inv .1), search needs, omega arith,
-    rw (l .inv .2) (after-linkable (s .pre .1) (l .i) (omega (arith, edges-count (s .pre .0)))))
+    let s = c .before .before .before .before in (
+      enough-kept (s .pre .0) (l .inv .1),
+      search needs,
+      omega arith,
+      rw (l .inv .2) (after-linkable (s .pre .1) (l .i) (omega (arith, edges-count (s .pre .0)))),
+    )
 
 loop-less : tie.Need-loop-less Inv-loop μ-loop
 loop-less c = search needs
@@ -46,9 +49,11 @@ loop-again : tie.Need-loop-again Inv-loop μ-loop
 loop-again c =
     let k = c .before .before in
     let l = k .before .before .before .loop in
-    let s = k .before .before .before .before .before in
-    (omega arith, search needs,
-    k .link-rank .ensures ∙ again (s .pre .1) (l .inv .2) (omega (arith, edges-count (s .pre .0))))
+    let s = k .before .before .before .before .before in (
+      omega arith,
+      search needs,
+      k .link-rank .ensures ∙ again (s .pre .1) (l .inv .2) (omega (arith, edges-count (s .pre .0))),
+    )
 
 same-length : tie.Need-same-length Inv-loop μ-loop
 same-length c = search needs

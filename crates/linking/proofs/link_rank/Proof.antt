@@ -53,9 +53,12 @@ reroot-graph-requires c κs =
     let k = e .before in
     let s = start k in
     let K = k .before .ends-of .ensures in
-    let g = marked-graph (s .pre .3) K (m .put-word2 .ensures) in
-    (search needs, rw g (s .pre .3 .graph), end-fits K _ (ended m .smaller-end .ensures) (s .pre .3 .graph .edges),
-    rw g (omega (arith, edges-count (s .pre .0), s .pre .2)))
+    let g = marked-graph (s .pre .3) K (m .put-word2 .ensures) in (
+      search needs,
+      rw g (s .pre .3 .graph),
+      end-fits K _ (ended m .smaller-end .ensures) (s .pre .3 .graph .edges),
+      rw g (omega (arith, edges-count (s .pre .0), s .pre .2)),
+    )
 
 unite-sets-requires : tie.Need-unite-sets-requires
 unite-sets-requires c κs =

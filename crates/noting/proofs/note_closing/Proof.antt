@@ -72,9 +72,11 @@ loop-less c = search needs
 loop-again : tie.Need-loop-again Inv-loop μ-loop
 loop-again c =
     let k = c .before .before .before .before .before in
-    let l = loop-at k .loop in
-    (omega arith, k .note-rank .kept .0 ∙ l .inv .1,
-    rw (add-one) (closing-more (l .inv .2) (omega arith) (noted-is k .0) (sym (c .before .noted .given .1) ∙ noted-is k .1)))
+    let l = loop-at k .loop in (
+      omega arith,
+      k .note-rank .kept .0 ∙ l .inv .1,
+      rw (add-one) (closing-more (l .inv .2) (omega arith) (noted-is k .0) (sym (c .before .noted .given .1) ∙ noted-is k .1)),
+    )
 
 same-length-2 : tie.Need-same-length-2 Inv-loop μ-loop
 same-length-2 c = search needs

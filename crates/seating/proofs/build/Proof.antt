@@ -30,9 +30,10 @@ returns c =
 seat-requires : tie.Need-seat-requires
 seat-requires c κs =
     let k = c .before .before in
-    let p = prepared k in
-    (enough-kept (enough (p .before .before .before .pre)) (p .prepare .kept .0),
-    mid-finishable _ (p .before .before .before .pre) (p .prepare .ensures .0) (sym (k .count .given .1) ∙ p .prepare .ensures .1))
+    let p = prepared k in (
+      enough-kept (enough (p .before .before .before .pre)) (p .prepare .kept .0),
+      mid-finishable _ (p .before .before .before .pre) (p .prepare .ensures .0) (sym (k .count .given .1) ∙ p .prepare .ensures .1),
+    )
 
 same-length-2 : tie.Need-same-length-2
 same-length-2 c = search needs

@@ -38,9 +38,11 @@ label-ranks-requires : tie.Need-label-ranks-requires
 label-ranks-requires c κs =
     let l = c .before .before .before in
     let B = start l .pre in
-    let e = l .link-ranks .ensures in
-    (enough-kept (enough B) (l .link-ranks .kept .0), rw e (linked-able (before l) (B .edges) (parts-fit (enough B)) (ranks-small B)),
-    rw e (linked-marks (before l) (B .edges) (parts-fit (enough B)) (ranks-small B)))
+    let e = l .link-ranks .ensures in (
+      enough-kept (enough B) (l .link-ranks .kept .0),
+      rw e (linked-able (before l) (B .edges) (parts-fit (enough B)) (ranks-small B)),
+      rw e (linked-marks (before l) (B .edges) (parts-fit (enough B)) (ranks-small B)),
+    )
 
 clear-notes-requires : tie.Need-clear-notes-requires
 clear-notes-requires c κs = search needs

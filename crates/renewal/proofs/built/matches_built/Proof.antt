@@ -1,50 +1,39 @@
 -- `renewal::built::matches_built` meets its contract: what is lent to `codec` are the parts of scratch, and the words say r and s.
+use mathlib.Core.Path.{_∙_, ap}
+use lib.ListN.{length}
+use Rattle.renewal.specs.Columns.{readable-stash}
 use borrow.Author.Needs.{needs}
 use Rattle.renewal.proofs.built.matches_built.Statement.{statement}
 use Rattle.renewal.proofs.built.matches_built.Tie as tie
 
-held-part-requires : tie.Need-held-part-requires
-held-part-requires c κs = search needs
+keys-part-requires : tie.Need-keys-part-requires
+keys-part-requires c κs = search needs
+
+graph-part-requires : tie.Need-graph-part-requires
+graph-part-requires c κs = search needs
 
 next-part-requires : tie.Need-next-part-requires
 next-part-requires c κs = search needs
 
-tiers-part-requires : tie.Need-tiers-part-requires
-tiers-part-requires c κs = search needs
-
 stash-part-requires : tie.Need-stash-part-requires
 stash-part-requires c κs = search needs
 
-beside-part-requires : tie.Need-beside-part-requires
-beside-part-requires c κs = search needs
-
 matches-requires : tie.Need-matches-requires
-matches-requires c κs = search needs
+matches-requires c κs =
+    let n = c .before in
+    let g = n .before in
+    let k = g .before in
+    let p = k .before .before .before .pre in (
+      (p .0 .0, ap length (c .stash-part .ensures) ∙ readable-stash (p .1) ∙ p .0 .1 .1),
+      rw (k .keys-part .ensures, g .graph-part .ensures, n .next-part .ensures, c .stash-part .ensures, ← p .0 .1 .0) (p .1 .ranked),
+    )
 
 returns : tie.Need-returns
 returns c =
-    let beside = c .before in
-    let stash = beside .before in
-    let tiers = stash .before in
-    let next = tiers .before in
-    let held = next .before in
-    rw (
-      held .held-part .ensures .0,
-      next .next-part .ensures .0,
-      tiers .tiers-part .ensures .0,
-      stash .stash-part .ensures .0,
-      beside .beside-part .ensures .0,
-    )
-    at (c .matches .ensures)
+    let s = c .before in
+    let n = s .before in
+    let g = n .before in
+    rw (g .before .keys-part .ensures, g .graph-part .ensures, n .next-part .ensures, s .stash-part .ensures) at (c .matches .ensures)
 
 pub matches-built-spec : {M : Type 1} → statement M
-matches-built-spec =
-    tie.close
-    (tie.spec
-    held-part-requires
-    next-part-requires
-    tiers-part-requires
-    stash-part-requires
-    beside-part-requires
-    matches-requires
-    returns)
+matches-built-spec = tie.close (tie.spec keys-part-requires graph-part-requires next-part-requires stash-part-requires matches-requires returns)

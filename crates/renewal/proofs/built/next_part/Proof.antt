@@ -1,5 +1,8 @@
--- `renewal::built::next_part` meets its contract: from where next begins to where the sets begin.
-use Rattle.renewal.specs.Parts.{next-lent}
+-- `renewal::built::next_part` meets its contract: as many words as there are keys, from where next begins.
+use Prim.Native.Nat.{_+_, _*_}
+use native.Mathlib.Omega.{arith}
+use Rattle.build.specs.Scratch.{parts, next-at}
+use Rattle.renewal.specs.Columns.{part-lent}
 use borrow.Author.Needs.{needs}
 use Rattle.renewal.proofs.built.next_part.Statement.{statement}
 use Rattle.renewal.proofs.built.next_part.Tie as tie
@@ -7,8 +10,11 @@ use Rattle.renewal.proofs.built.next_part.Tie as tie
 next-start-requires : tie.Need-next-start-requires
 next-start-requires c κs = search needs
 
-sets-start-requires : tie.Need-sets-start-requires
-sets-start-requires c κs = search needs
+held-start-requires : tie.Need-held-start-requires
+held-start-requires c κs = search needs
+
+add-end : tie.Need-add-end
+add-end c = search needs
 
 mul-result : tie.Need-mul-result
 mul-result c = search needs
@@ -23,16 +29,12 @@ part-result-end : tie.Need-part-result-end
 part-result-end c = search needs
 
 returns : tie.Need-returns
-returns c = (next-lent _ _ _ (c .before .before .next-start .ensures) (c .before .sets-start .ensures), search needs)
+unfolding parts
+returns c =
+    let h = c .before .before in
+    let d = h .before .before .args in
+    part-lent (d .scratch .now) (next-at (d .r) (d .s)) (2 * d .r + d .s + 1) (h .next-start .ensures)
+    (omega (arith, h .next-start .ensures, c .before .held-start .ensures))
 
 pub next-part-spec : {M : Type 1} → statement M
-next-part-spec =
-    tie.close
-    (tie.spec
-    next-start-requires
-    sets-start-requires
-    mul-result
-    sub-result
-    part-result-start
-    part-result-end
-    returns)
+next-part-spec = tie.close (tie.spec next-start-requires held-start-requires add-end mul-result sub-result part-result-start part-result-end returns)

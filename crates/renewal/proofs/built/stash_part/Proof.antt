@@ -1,6 +1,7 @@
 -- `renewal::built::stash_part` meets its contract: s words from where the stash begins.
-use mathlib.Core.Path.{refl}
-use Rattle.renewal.specs.Parts.{stash-lent}
+use native.Mathlib.Omega.{arith}
+use Rattle.build.specs.Scratch.{parts, stashed-at}
+use Rattle.renewal.specs.Columns.{part-lent}
 use borrow.Author.Needs.{needs}
 use Rattle.renewal.proofs.built.stash_part.Statement.{statement}
 use Rattle.renewal.proofs.built.stash_part.Tie as tie
@@ -27,17 +28,11 @@ part-result-end : tie.Need-part-result-end
 part-result-end c = search needs
 
 returns : tie.Need-returns
-returns c = (stash-lent _ _ _ (c .before .before .stashed-start .ensures) (c .before .wide .ensures) refl, search needs)
+unfolding parts
+returns c =
+    let h = c .before .before in
+    let d = h .before .before .args in
+    part-lent (d .scratch .now) (stashed-at (d .r) (d .s)) (d .s) (h .stashed-start .ensures) (omega (arith, h .stashed-start .ensures, c .before .wide .ensures))
 
 pub stash-part-spec : {M : Type 1} → statement M
-stash-part-spec =
-    tie.close
-    (tie.spec
-    stashed-start-requires
-    wide-requires
-    add-end
-    mul-result
-    sub-result
-    part-result-start
-    part-result-end
-    returns)
+stash-part-spec = tie.close (tie.spec stashed-start-requires wide-requires add-end mul-result sub-result part-result-start part-result-end returns)

@@ -1,55 +1,54 @@
--- `renewal::built::write_built` meets its contract: what is lent to `codec` are the parts of scratch.
+-- `renewal::built::write_built` meets its contract: what is lent to `codec` are the parts of scratch, and the heading says r, s and n.
+use mathlib.Core.Path.{_∙_, ap}
+use lib.ListN.{length}
+use Rattle.renewal.specs.Columns.{Readable, readable-stash}
 use borrow.Author.Needs.{needs}
 use Rattle.renewal.proofs.built.write_built.Statement.{statement}
 use Rattle.renewal.proofs.built.write_built.Tie as tie
 
-held-part-requires : tie.Need-held-part-requires
-held-part-requires c κs = search needs
+wide-requires : tie.Need-wide-requires
+wide-requires c κs = search needs
+
+-- n is known, and scratch can be read
+readable : (w : tie.After-wide) → let h = w .before .before .before .args .header in
+    Readable (h .slots) (h .places) (w .wide .result) (w .before .before .before .args .scratch .now)
+readable w = rw (w .wide .ensures) (w .before .before .before .pre .1)
+
+keys-part-requires : tie.Need-keys-part-requires
+keys-part-requires c κs = readable c
+
+graph-part-requires : tie.Need-graph-part-requires
+graph-part-requires c κs = readable (c .before)
 
 next-part-requires : tie.Need-next-part-requires
-next-part-requires c κs = search needs
-
-tiers-part-requires : tie.Need-tiers-part-requires
-tiers-part-requires c κs = search needs
+next-part-requires c κs = readable (c .before .before)
 
 stash-part-requires : tie.Need-stash-part-requires
-stash-part-requires c κs = search needs
-
-beside-part-requires : tie.Need-beside-part-requires
-beside-part-requires c κs = search needs
+stash-part-requires c κs = readable (c .before .before .before)
 
 write-image-requires : tie.Need-write-image-requires
-write-image-requires c κs = search needs
+write-image-requires c κs =
+    let s = c .before in
+    let n = s .before in
+    let g = n .before in
+    let k = g .before in
+    let w = k .before in
+    let p = w .before .before .before .pre in (
+      (p .1 .sizes, (p .0, ap length (s .stash-part .ensures) ∙ readable-stash (readable w))),
+      rw (k .keys-part .ensures, g .graph-part .ensures, n .next-part .ensures, s .stash-part .ensures, w .wide .ensures) (p .1 .ranked),
+    )
 
 same-length : tie.Need-same-length
 same-length c = search needs
 
 returns : tie.Need-returns
 returns c =
-    let written = c .before .before in
-    let beside = written .before .before in
-    let stash = beside .before in
-    let tiers = stash .before in
-    let next = tiers .before in
-    let held = next .before in
-    rw (
-      held .held-part .ensures .0,
-      next .next-part .ensures .0,
-      tiers .tiers-part .ensures .0,
-      stash .stash-part .ensures .0,
-      beside .beside-part .ensures .0,
-    )
-    at (written .write-image .ensures)
+    let i = c .before .before in
+    let s = i .before .before in
+    let n = s .before in
+    let g = n .before in
+    let k = g .before in
+    rw (k .keys-part .ensures, g .graph-part .ensures, n .next-part .ensures, s .stash-part .ensures, k .before .wide .ensures) at (i .write-image .ensures)
 
 pub write-built-spec : {M : Type 1} → statement M
-write-built-spec =
-    tie.close
-    (tie.spec
-    held-part-requires
-    next-part-requires
-    tiers-part-requires
-    stash-part-requires
-    beside-part-requires
-    write-image-requires
-    same-length
-    returns)
+write-built-spec = tie.close (tie.spec wide-requires keys-part-requires graph-part-requires next-part-requires stash-part-requires write-image-requires same-length returns)

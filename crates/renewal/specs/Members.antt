@@ -1,0 +1,218 @@
+-- A set in scratch, its keys and their edges: two columns that move together. Where a key stands in it, its tier, and the set with a key put in or taken out. The
+-- definitions come first: contracts cite them. Assumes nothing.
+use Prim.Native.Nat.{ℕ, zero, suc, _+_, _*_, _-_, _/_, _≤_, _<_}
+use mathlib.Core.Path.{_≡_, refl, sym, _∙_, ap}
+use mathlib.Core.Bool.{false}
+use mathlib.Core.List.{List, [], _∷_, _++_, map, map-append, append-assoc, List·Memᴰ as In, List·Memᴰ·head as here, List·Memᴰ·tail as there}
+use native.Mathlib.Omega.{arith}
+use native.Mathlib.Numerals.{add-one}
+use lib.Dec.{eqb}
+use lib.ListN.{length, getD, take, drop, length-take, length-append, length-drop, take-append-drop}
+use lib.Seq.{take-take, drop-drop, drop-at, take-add, take-append-le, take-append-add, drop-append-add, getD-take, getD-drop, length-take-le}
+use Rattle.basics.specs.Sets.{member, Asc, without}
+use Rattle.ordered.specs.Keys.{rank-of, with-key}
+use Rattle.ordered.specs.Place.{rank-le, rank-found, member-at, member-past, with-parts, without-parts, length-with, length-without}
+use Rattle.ordered.specs.Shift.{opened, closed, opened-column, closed-column}
+use Rattle.layout.specs.Layout.{Params, family}
+use Rattle.layout.specs.Shape.{Sized}
+use Rattle.build.specs.Scratch.{edges-at, used}
+use Rattle.codec.specs.Ranks.{tier-unit}
+use Rattle.renewal.specs.Edges.{edge-with, edge-of, Lined, at-map, edge-tier}
+
+-- the n keys from word 1 on
+abbrev pub keys-at : ℕ → List ℕ → List ℕ
+keys-at n scratch = take n (drop 1 scratch)
+
+-- n keys and their edges, with a key and its edge put in at a place, and with those at a place taken out
+abbrev pub put-in : (r s n at key edge : ℕ) → List ℕ → List ℕ
+put-in r s n at key edge scratch = opened (opened scratch (at + 1) (n + 1) key) (edges-at r s + at) (edges-at r s + n) edge
+
+abbrev pub taken-out : (r s n at : ℕ) → List ℕ → List ℕ
+taken-out r s n at scratch = closed (closed scratch (at + 1) (n + 1)) (edges-at r s + at) (edges-at r s + n)
+
+-- The laws. First of columns that begin at m: what is before them stays, and all are as long as before.
+opened-length : (s : List ℕ) (i n word : ℕ) → i ≤ n → n < length s → length (opened s i n word) ≡ length s
+unfolding opened
+opened-length s i n word l m = simp (length-append, length-take, length-drop) (omega arith)
+
+closed-length : (s : List ℕ) (i n : ℕ) → i < n → n ≤ length s → length (closed s i n) ≡ length s
+unfolding closed
+closed-length s i n l m = simp (length-append, length-take, length-drop) (omega arith)
+
+module _ (s : List ℕ) (m i n : ℕ) (fit : m ≤ length s) where
+  front-long : length (take m s) ≡ m
+  front-long = length-take-le m s fit
+
+  abbrev A : List ℕ
+  A = take m s
+
+  abbrev B : List ℕ
+  B = drop m s
+
+  parted : s ≡ A ++ B
+  parted = sym (take-append-drop m s)
+
+  opened-behind : (word : ℕ) → opened s (m + i) (m + n) word ≡ A ++ opened B i n word
+  unfolding opened
+  opened-behind word =
+      let e : m + n + 1 ≡ length A + (n + 1) = omega (arith, front-long) in
+      let f : m + i ≡ length A + i = omega (arith, front-long) in
+      let g : m + n ≡ length A + n = omega (arith, front-long) in
+      ap (λ (x : List ℕ). take (m + i) x ++ (word ∷ (drop (m + i) (take (m + n) x) ++ drop (m + n + 1) x))) parted
+      ∙ (rw (e, f, g, take-append-add A B i, take-append-add A B n, drop-append-add A (take n B) i, drop-append-add A B (n + 1))
+      (append-assoc A (take i B) (word ∷ (drop i (take n B) ++ drop (n + 1) B))))
+
+  closed-behind : 1 ≤ n → closed s (m + i) (m + n) ≡ A ++ closed B i n
+  unfolding closed
+  closed-behind some =
+      let e : m + n - 1 ≡ length A + (n - 1) = omega (arith, front-long) in
+      let h : m + i + 1 ≡ length A + (i + 1) = omega (arith, front-long) in
+      let f : m + i ≡ length A + i = omega (arith, front-long) in
+      let g : m + n ≡ length A + n = omega (arith, front-long) in
+      ap (λ (x : List ℕ). take (m + i) x ++ (drop (m + i + 1) (take (m + n) x) ++ drop (m + n - 1) x)) parted
+      ∙ (rw (e, h, f, g, take-append-add A B i, take-append-add A B n, drop-append-add A (take n B) (i + 1), drop-append-add A B (n - 1))
+      (append-assoc A (take i B) (drop (i + 1) (take n B) ++ drop (n - 1) B)))
+
+-- Where a key stands among n keys: they are lent to the search, and what stands at its rank says whether it is there.
+module _ (scratch : List ℕ) (n : ℕ) (long : n < length scratch) where
+  pub keys-lent : {e : ℕ} → e ≡ n + 1 → take (e - 1) (drop 1 scratch) ≡ keys-at n scratch
+  keys-lent {e} q = let k : e - 1 ≡ n = omega arith in rw k
+
+  keys-length : length (keys-at n scratch) ≡ n
+  keys-length = simp (length-take, length-drop) (omega arith)
+
+  module _ (key : ℕ) (asc : Asc (keys-at n scratch)) {at : ℕ} (q : at ≡ rank-of (keys-at n scratch) key) where
+    pub stands-at : at < n → eqb (getD scratch (at + 1) 0) key ≡ member key (keys-at n scratch)
+    stands-at l =
+        let e : at + 1 ≡ 1 + at = omega arith in
+        rw (e, ← getD-drop 1 scratch at 0, ← getD-take n (drop 1 scratch) at 0 l)
+        (rw (← q) at (member-at key (keys-at n scratch) asc (omega (arith, keys-length))))
+
+    pub stands-nowhere : n ≤ at → false ≡ member key (keys-at n scratch)
+    stands-nowhere l = member-past key (keys-at n scratch) asc (omega (arith, keys-length))
+
+-- both columns moved, one after the other: start is where the edges begin, and mid are the words in between
+module _ (r s n at : ℕ) (scratch : List ℕ) {mid out : List ℕ} {start : ℕ} (e : start ≡ edges-at r s) where
+  pub put-both : (key : ℕ) {edge word : ℕ} → word ≡ edge → mid ≡ opened scratch (at + 1) (n + 1) key → out ≡ opened mid (start + at) (start + n) word
+      → out ≡ put-in r s n at key edge scratch
+  put-both key q f g = g ∙ (rw (f, e, q))
+
+  pub taken-both : mid ≡ closed scratch (at + 1) (n + 1) → out ≡ closed mid (start + at) (start + n) → out ≡ taken-out r s n at scratch
+  taken-both f g = g ∙ (rw (f, e))
+
+-- Words whose first ones are m keys of a new set, and whose edges are then moved: the new set stands there.
+lined-moved : {P : Params} {u : ℕ → ℕ} {S : List ℕ} (mid column : List ℕ) → length S ≤ 2 * P .slots + P .places → used (P .slots) (P .places) ≤ length mid
+    → take (length S + 1) mid ≡ 0 ∷ S → take (length S) column ≡ map (edge-of (family P) u) S
+    → Lined P u S (take (edges-at (P .slots) (P .places)) mid ++ column)
+lined-moved {P} {u} {S} mid column few room front edges =
+    let to = edges-at (P .slots) (P .places) in
+    let long : length (take to mid) ≡ to = length-take-le to mid (omega arith) in
+    record {
+      keys = take-append-le (length S + 1) (take to mid) column (omega arith) ∙ take-take (length S + 1) to mid (omega arith) ∙ front;
+      edges = ap (take (length S)) (drop-at (take to mid) column to long) ∙ edges;
+    }
+
+map-same : (f g : ℕ → ℕ) (S : List ℕ) → ((c : ℕ) → In c S → f c ≡ g c) → map f S ≡ map g S
+map-same f g [] h = refl
+map-same f g (c ∷ S) h = rw (h c (here refl), map-same f g S (λ d i. h d (there i)))
+
+map-take : (f : ℕ → ℕ) (i : ℕ) (S : List ℕ) → map f (take i S) ≡ take i (map f S)
+map-take f zero S = refl
+map-take f (suc i) [] = refl
+map-take f (suc i) (c ∷ S) = ap (λ (X : List ℕ). f c ∷ X) (map-take f i S)
+
+map-drop : (f : ℕ → ℕ) (i : ℕ) (S : List ℕ) → map f (drop i S) ≡ drop i (map f S)
+map-drop f zero S = refl
+map-drop f (suc i) [] = refl
+map-drop f (suc i) (c ∷ S) = map-drop f i S
+
+-- A set that stands in scratch.
+module _ {P : Params} {t : ℕ → ℕ} {S scratch : List ℕ} (D : Lined P t S scratch) where
+  abbrev r : ℕ
+  r = P .slots
+
+  abbrev s : ℕ
+  s = P .places
+
+  abbrev n : ℕ
+  n = length S
+
+  abbrev to : ℕ
+  to = edges-at r s
+
+  abbrev f : (ℕ → ℕ) → ℕ → ℕ
+  f = edge-of (family P)
+
+  -- only the tiers of its keys matter
+  edge-agree : (u : ℕ → ℕ) → ((c : ℕ) → In c S → t c ≡ u c) → (c : ℕ) → In c S → f t c ≡ f u c
+  unfolding edge-of
+  edge-agree u h c i = rw (h c i)
+
+  pub lined-agree : (u : ℕ → ℕ) → ((c : ℕ) → In c S → t c ≡ u c) → Lined P u S scratch
+  lined-agree u h = record { keys = D .keys; edges = D .edges ∙ map-same (f t) (f u) S (edge-agree u h) }
+
+  -- words that are the same from k on have the same edges
+  rest-same : (mid : List ℕ) (k : ℕ) → k ≤ to → drop k mid ≡ drop k scratch → drop to mid ≡ drop to scratch
+  rest-same mid k l e =
+      let q : k + (to - k) ≡ to = omega arith in
+      rw q at (sym (drop-drop (to - k) k mid) ∙ ap (drop (to - k)) e ∙ drop-drop (to - k) k scratch)
+
+  module _ (room : used r s ≤ length scratch) where
+    pub lined-keys : keys-at n scratch ≡ S
+    lined-keys =
+        let e : n + 1 ≡ 1 + n = omega arith in
+        let long : length (take 1 scratch) ≡ 1 = length-take-le 1 scratch (omega arith) in
+        sym (ap (drop 1) (ap (λ (k : ℕ). take k scratch) e ∙ take-add 1 n scratch) ∙ drop-at (take 1 scratch) (keys-at n scratch) 1 long) ∙ ap (drop 1) (D .keys)
+
+    module _ (asc : Asc S) (key : ℕ) where
+      abbrev at : ℕ
+      at = rank-of S key
+
+      -- the tier of one of its keys is in the edge at its rank
+      pub lined-tier : Sized r s → In key S → getD scratch (edges-at r s + at) 0 / tier-unit ≡ t key
+      lined-tier z i =
+          let k = rank-found key S asc i in
+          ap (λ (x : ℕ). x / tier-unit)
+          (sym (getD-take n (drop (edges-at r s) scratch) at 0 (k .1) ∙ getD-drop (edges-at r s) scratch at 0)
+          ∙ ap (λ (X : List ℕ). getD X at 0) (D .edges) ∙ at-map (f t) S at (k .1) ∙ ap (f t) (k .0))
+          ∙ edge-tier (family P) (z .has-slots) (z .slots-bound) t key
+
+      -- a key is put in, with its edge
+      pub lined-put : (u : ℕ → ℕ) → ((c : ℕ) → In c S → t c ≡ u c) → (In key S → ⊥) → n < 2 * r + s → {tier : ℕ} → tier ≡ u key
+          → Lined P u (with-key key S) (put-in r s n at key (edge-with (family P) key tier) scratch)
+      unfolding edge-of
+      lined-put u h out few {tier} q =
+          let edge = edge-with (family P) key tier in
+          let mid = opened scratch (at + 1) (n + 1) key in
+          let l = rank-le key S in
+          let m : length (with-key key S) ≡ n + 1 = omega (arith, length-with key S asc out) in
+          let long = opened-length scratch (at + 1) (n + 1) key (omega arith) (omega arith) in
+          let o = opened-column scratch (at + 1) (n + 1) key (omega arith) (omega arith) in
+          let c = rest-same mid (n + 1 + 1) (omega arith) (o .1) in
+          let p = opened-column (drop to mid) at n edge l (omega (arith, length-drop to mid)) in
+          let keys : take (n + 1 + 1) mid ≡ 0 ∷ with-key key S =
+          o .0 ∙ (rw (D .keys, add-one at) (ap (λ (X : List ℕ). 0 ∷ X) (with-parts key S asc out))) in
+          let edges : take (n + 1) (opened (drop to mid) at n edge) ≡ map (f u) (with-key key S) =
+          p .0 ∙ (rw (c, D .edges, map-same (f t) (f u) S (edge-agree u h), ← map-take (f u) at S, ← map-drop (f u) at S, q)
+          (sym (map-append (f u) (take at S) (key ∷ drop at S)) ∙ ap (map (f u)) (with-parts key S asc out))) in
+          rw (opened-behind mid to at n (omega arith) edge)
+          (lined-moved mid (opened (drop to mid) at n edge) (omega arith) (omega arith) (rw m keys) (rw m edges))
+
+      -- a key is taken out, and its edge
+      pub lined-taken : In key S → n ≤ 2 * r + s → Lined P t (without key S) (taken-out r s n at scratch)
+      lined-taken i few =
+          let mid = closed scratch (at + 1) (n + 1) in
+          let l = rank-found key S asc i .1 in
+          let m : length (without key S) ≡ n - 1 = omega (arith, length-without key S asc i) in
+          let long = closed-length scratch (at + 1) (n + 1) (omega arith) (omega arith) in
+          let o = closed-column scratch (at + 1) (n + 1) (omega arith) (omega arith) in
+          let c = rest-same mid (n + 1 - 1) (omega arith) (o .1) in
+          let p = closed-column (drop to mid) at n l (omega (arith, length-drop to mid)) in
+          let e : n - 1 + 1 ≡ n + 1 - 1 = omega arith in
+          let keys : take (n + 1 - 1) mid ≡ 0 ∷ without key S =
+          o .0 ∙ (rw (D .keys, add-one (at + 1), add-one at) (ap (λ (X : List ℕ). 0 ∷ X) (rw (add-one at) at (without-parts key S asc i)))) in
+          let edges : take (n - 1) (closed (drop to mid) at n) ≡ map (f t) (without key S) =
+          p .0 ∙ (rw (c, D .edges, ← map-take (f t) at S, ← map-drop (f t) (at + 1) S)
+          (sym (map-append (f t) (take at S) (drop (at + 1) S)) ∙ ap (map (f t)) (without-parts key S asc i))) in
+          rw (closed-behind mid to at n (omega arith) (omega arith))
+          (lined-moved mid (closed (drop to mid) at n) (omega arith) (omega arith) (rw (m, e) keys) (rw m edges))

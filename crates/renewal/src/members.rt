@@ -1,0 +1,82 @@
+// The set in scratch, its keys from word 1 on and their edges: where a key stands in it, and a key put in or taken out.
+// Both columns move together, at the same place.
+ghost use mathlib.Core.Path.{_≡_};
+ghost use Prim.Native.Nat.{_+_, _*_, _/_, _≤_, _<_};
+ghost use lib.ListN.{length, getD};
+ghost use Rattle.basics.specs.Sets.{member, Asc};
+ghost use Rattle.ordered.specs.Keys.{rank-of};
+ghost use Rattle.tabulation.specs.Hash.{tables, Hashing};
+ghost use Rattle.layout.specs.Entries.{max-tier};
+ghost use Rattle.build.specs.Scratch.{edges-at, used};
+ghost use Rattle.codec.specs.Ranks.{tier-unit};
+ghost use Rattle.renewal.specs.Edges.{edge-with};
+ghost use Rattle.renewal.specs.Members.{keys-at, put-in, taken-out};
+use crate::edges::edge_given;
+use crate::edges::edge_tier;
+use ordered::close_at;
+use ordered::open_at;
+use ordered::rank;
+use parts::edges_start;
+
+// How many of the n keys are smaller than `key`: its place, if it is there, and the place where it belongs, if not.
+pub fn place_of(scratch: &[u32], n: usize, key: u32) -> usize
+    requires { ⌜ (n < length (now scratch)) × Asc (keys-at n (now scratch)) ⌝ }
+    ensures { λ at. ⌜ at ≡ rank-of (keys-at n (now (scratch .entry))) key ⌝ }
+{
+    let end = n + 1;
+    rank(&scratch[1..end], key)
+}
+
+// Whether a key is one of the n; `at` is its place.
+pub fn is_at(scratch: &[u32], n: usize, at: usize, key: u32) -> bool
+    requires { ⌜ ((n < length (now scratch)) × Asc (keys-at n (now scratch)))
+        × (at ≡ rank-of (keys-at n (now scratch)) key) ⌝ }
+    ensures { λ b. ⌜ b ≡ member key (keys-at n (now (scratch .entry))) ⌝ }
+{
+    if at < n {
+        let x = scratch[at + 1];
+        return x == key;
+    }
+    false
+}
+
+// The tier of the key at place `at`.
+pub fn tier_at(scratch: &[u32], r: u32, s: u32, at: usize) -> u32
+    requires { ⌜ ((r ≤ 1024) × (s ≤ 64)) × (edges-at r s + at < length (now scratch)) ⌝ }
+    ensures { λ t. ⌜ t ≡ getD (now (scratch .entry)) (edges-at r s + at) 0 / tier-unit ⌝ }
+{
+    let start = edges_start(r, s);
+    edge_tier(scratch[start + at])
+}
+
+// A key and its edge come to place `at` of n keys.
+pub fn put_key(
+    tabulation: &[u16],
+    scratch: &mut [u32],
+    r: u32,
+    s: u32,
+    n: usize,
+    at: usize,
+    key: u32,
+    tier: u32,
+)
+    requires { ⌜ ((Hashing (now tabulation) r × (tier ≤ max-tier)) × (s ≤ 64))
+        × ((at ≤ n) × ((n < 2 * r + s) × (used r s ≤ length (now scratch)))) ⌝ }
+    ensures { λ _. ⌜ now (scratch .exit) ≡ put-in r s n at key
+        (edge-with (tables (now (tabulation .entry)) r) key tier) (now (scratch .entry)) ⌝ }
+{
+    let edge = edge_given(tabulation, r, key, tier);
+    let start = edges_start(r, s);
+    open_at(&mut *scratch, at + 1, n + 1, key);
+    open_at(&mut *scratch, start + at, start + n, edge);
+}
+
+// The key at place `at` of n keys goes, and its edge.
+pub fn take_key(scratch: &mut [u32], r: u32, s: u32, n: usize, at: usize)
+    requires { ⌜ ((r ≤ 1024) × (s ≤ 64)) × ((at < n) × ((n ≤ 2 * r + s) × (used r s ≤ length (now scratch)))) ⌝ }
+    ensures { λ _. ⌜ now (scratch .exit) ≡ taken-out r s n at (now (scratch .entry)) ⌝ }
+{
+    let start = edges_start(r, s);
+    close_at(&mut *scratch, at + 1, n + 1);
+    close_at(&mut *scratch, start + at, start + n);
+}
