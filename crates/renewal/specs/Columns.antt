@@ -21,7 +21,7 @@ use Rattle.cuckoo.specs.Renaming.{ranks, from-in, from-asc, ranked, Renames, ra
 use Rattle.tabulation.specs.Slots.{slot-0, slot-1}
 use Rattle.forest.specs.Edges.{end-0, end-1}
 use Rattle.forest.specs.Graph.{edges-in}
-use Rattle.layout.specs.Entries.{tier-of, tiered, keys-tiered, tier-tiered, tier-absent}
+use Rattle.layout.specs.Entries.{Entry, tier-of, tiered, keys-tiered, tier-tiered, tier-absent}
 use Rattle.layout.specs.Layout.{Params, ValidKeys, family, stash-of}
 use Rattle.layout.specs.Shape.{Sized}
 use Rattle.layout.specs.Image.{place-keys}
@@ -34,39 +34,30 @@ use Rattle.codec.specs.Ranks.{tier-unit, slots-held, tier-by, key-column, next-
 use Rattle.codec.specs.Image.{ImageColumns}
 use Rattle.renewal.specs.Edges.{edge-of, Lined, at-map, edge-tier, lined-at, lined-first, lined-second}
 
--- the columns that `codec` reads in parts: r slots to a table
-module _ (r : ℕ) (G : Parts) where
+-- the columns that `codec` reads: r slots to a table, the keys by rank are the first words of scratch, G are its parts
+module _ (r : ℕ) (scratch : List ℕ) (G : Parts) where
   abbrev pub ranks-held : List ℕ
   ranks-held = slots-held r (G .graph)
 
-  abbrev pub keys-held : List ℕ
-  keys-held = key-column (G .keys) ranks-held
-
-  abbrev pub nexts-held : List ℕ
-  nexts-held = next-column (G .keys) (G .next) ranks-held
-
-  abbrev pub tiers-held : List ℕ
-  tiers-held = tier-column r (G .graph) ranks-held
-
-  abbrev pub keys-stashed : List ℕ
-  keys-stashed = key-column (G .keys) (G .stash)
-
-  abbrev pub tiers-stashed : List ℕ
-  tiers-stashed = tier-column r (G .graph) (G .stash)
+  -- the columns that the image of a set has
+  abbrev pub SetColumns : Params → List Entry → Type 0
+  SetColumns P L =
+      ImageColumns P L (key-column scratch ranks-held) (next-column scratch (G .next) ranks-held) (tier-column r (G .graph) ranks-held)
+      (key-column scratch (G .stash)) (tier-column r (G .graph) (G .stash))
 
 -- whether words are the image of the n ranks that stands in scratch, and the words with it
 abbrev pub alike-in : (r s n : ℕ) (ws : List ℕ) (stashed : ℕ) (scratch : List ℕ) → Bool
-alike-in r s n ws stashed scratch = let G = parts r s n scratch in ranks-alike ws n stashed (G .keys) (G .graph) (G .next) (G .stash)
+alike-in r s n ws stashed scratch = let G = parts r s n scratch in ranks-alike ws n stashed scratch (G .graph) (G .next) (G .stash)
 
 abbrev pub written-in : (ws : List ℕ) (h : Header) (scratch : List ℕ) → List ℕ
-written-in ws h scratch = let G = parts (h .slots) (h .places) (h .keys) scratch in ranks-written ws h (G .keys) (G .graph) (G .next) (G .stash)
+written-in ws h scratch = let G = parts (h .slots) (h .places) (h .keys) scratch in ranks-written ws h scratch (G .graph) (G .next) (G .stash)
 
 -- The image of n ranks stands in scratch, in parts of their lengths: every rank that is read has its words.
 pub record Readable (r s n : ℕ) (scratch : List ℕ) : Type 0 where
   pub sizes : Sized r s
   pub few : n ≤ 2 * r + s
   pub room : used r s ≤ length scratch
-  pub ranked : let G = parts r s n scratch in Ranked r n (G .keys) (G .graph) (G .next) (G .stash)
+  pub ranked : let G = parts r s n scratch in Ranked r n scratch (G .graph) (G .next) (G .stash)
 
 -- The laws. First a part as code lends it, from a to e.
 pub part-lent : (scratch : List ℕ) {a e : ℕ} (at size : ℕ) → a ≡ at → e ≡ at + size → midOf a (e - a) scratch ≡ take size (drop at scratch)
@@ -102,10 +93,10 @@ module _ {r s n : ℕ} {scratch : List ℕ} (sizes : Sized r s) (few : n ≤ 2 *
   abbrev long : PartsSized r s n G
   long = parts-sized r s n scratch few room
 
-  held-long : length (ranks-held r G) ≡ 2 * r
+  held-long : length (ranks-held r scratch G) ≡ 2 * r
   held-long = simp length-take (omega (arith, long .graph-size))
 
-  held-is : (v : ℕ) → v < 2 * r → getD (ranks-held r G) v 0 ≡ slot-rank r n E v
+  held-is : (v : ℕ) → v < 2 * r → getD (ranks-held r scratch G) v 0 ≡ slot-rank r n E v
   held-is v l = let o : 0 + v ≡ v = omega arith in ap (λ (xs : List ℕ). getD xs v 0) (W .held) ∙ (rw o at (listed-at (slot-rank r n E) (2 * r) 0 v l))
 
   held-word : (v : ℕ) → v < 2 * r → getD (G .graph) v 0 ≡ slot-rank r n E v
@@ -127,7 +118,7 @@ module _ {r s n : ℕ} {scratch : List ℕ} (sizes : Sized r s) (few : n ≤ 2 *
     room = room;
     ranked = record {
       some = sizes .has-slots;
-      keys-long = omega (arith, long .keys-size);
+      keys-long = omega arith;
       next-long = omega (arith, long .next-size);
       graph-long = long .graph-size;
       held = λ v l. rw (held-word v l) (slot-rank-le (end-0 r E) (end-1 r E) n v);
@@ -173,10 +164,8 @@ module _ {P : Params} {t : ℕ → ℕ} {S scratch : List ℕ} (valid : ValidKey
     rank = slot-rank r n ends
 
     -- the key of a rank, and its tier
-    key-is : (k : ℕ) → k ≤ n → getD (A .keys) k 0 ≡ ranked S k
-    unfolding parts
-    key-is k l =
-        getD-take (2 * r + P .places + 1) scratch k 0 (omega arith) ∙ sym (getD-take (n + 1) scratch k 0 (omega arith)) ∙ ap (λ (xs : List ℕ). getD xs k 0) (D .keys)
+    key-is : (k : ℕ) → k ≤ n → getD scratch k 0 ≡ ranked S k
+    key-is k l = sym (getD-take (n + 1) scratch k 0 (omega arith)) ∙ ap (λ (xs : List ℕ). getD xs k 0) (D .keys)
 
     none-at-zero : tier-of (tiered t S) 0 ≡ 0
     none-at-zero = tier-absent (tiered t S) (λ i. zero-outside valid (rw (keys-tiered t S) at i))
@@ -213,10 +202,10 @@ module _ {P : Params} {t : ℕ → ℕ} {S scratch : List ℕ} (valid : ValidKey
 
     -- a column that has at each rank what the image has
     by-rank : (g h : ℕ → ℕ) → ((k : ℕ) → k ≤ n → g k ≡ h (ranked S k)) → (v : ℕ) → v < r + r
-        → getD (map g (ranks-held r A)) v 0 ≡ h (slot-key (slot-0 (family P)) (slot-1 (family P)) S v)
+        → getD (map g (ranks-held r scratch A)) v 0 ≡ h (slot-key (slot-0 (family P)) (slot-1 (family P)) S v)
     by-rank g h e v l =
         let m : v < 2 * r = omega arith in
-        at-map g (ranks-held r A) v (omega (arith, held-long sizes few room W)) ∙ ap g (held-is sizes few room W v m)
+        at-map g (ranks-held r scratch A) v (omega (arith, held-long sizes few room W)) ∙ ap g (held-is sizes few room W v m)
         ∙ e (rank v) (slot-rank-le (end-0 r ends) (end-1 r ends) n v) ∙ ap h (sym (slot-is v))
 
     by-place : (g h : ℕ → ℕ) → ((k : ℕ) → k ≤ n → g k ≡ h (ranked S k)) → (i : ℕ) → i < P .places
@@ -226,24 +215,24 @@ module _ {P : Params} {t : ℕ → ℕ} {S scratch : List ℕ} (valid : ValidKey
         at-map g (A .stash) i m ∙ e (getD (A .stash) i 0) (R .ranked .stashed i m)
         ∙ ap h (sym (ap (λ (xs : List ℕ). getD xs i 0) stash-is ∙ at-map (ranked S) (A .stash) i m))
 
-    next-is : (v : ℕ) → v < r + r → getD (nexts-held r A) v 0 ≡ slot-next (slot-0 (family P)) (slot-1 (family P)) S v
+    next-is : (v : ℕ) → v < r + r → getD (next-column scratch (A .next) (ranks-held r scratch A)) v 0 ≡ slot-next (slot-0 (family P)) (slot-1 (family P)) S v
     next-is v l =
         let m : v < 2 * r = omega arith in
-        let g : ℕ → ℕ = λ k. getD (A .keys) (getD (A .next) k 0) 0 in
-        at-map g (ranks-held r A) v (omega (arith, held-long sizes few room W)) ∙ ap g (held-is sizes few room W v m)
-        ∙ ap (λ (k : ℕ). getD (A .keys) k 0) (W .next v m) ∙ key-is (next-rank r n ends v) (next-rank-le (end-0 r ends) (end-1 r ends) n v)
+        let g : ℕ → ℕ = λ k. getD scratch (getD (A .next) k 0) 0 in
+        at-map g (ranks-held r scratch A) v (omega (arith, held-long sizes few room W)) ∙ ap g (held-is sizes few room W v m)
+        ∙ ap (λ (k : ℕ). getD scratch k 0) (W .next v m) ∙ key-is (next-rank r n ends v) (next-rank-le (end-0 r ends) (end-1 r ends) n v)
         ∙ sym (ranked-slot-next S renames v)
 
-    pub set-columns : ImageColumns P (tiered t S) (keys-held r A) (nexts-held r A) (tiers-held r A) (keys-stashed r A) (tiers-stashed r A)
+    pub set-columns : SetColumns r scratch A P (tiered t S)
     set-columns = record {
-      held-size = length-map (ranks-held r A) _ ∙ held-long sizes few room W;
-      next-size = length-map (ranks-held r A) _ ∙ held-long sizes few room W;
-      tiers-size = length-map (ranks-held r A) _ ∙ held-long sizes few room W;
+      held-size = length-map (ranks-held r scratch A) _ ∙ held-long sizes few room W;
+      next-size = length-map (ranks-held r scratch A) _ ∙ held-long sizes few room W;
+      tiers-size = length-map (ranks-held r scratch A) _ ∙ held-long sizes few room W;
       stash-size = length-map (A .stash) _ ∙ size .stash-size;
       beside-size = length-map (A .stash) _ ∙ size .stash-size;
-      held-is = λ v l. rw (keys-tiered t S) (by-rank (λ k. getD (A .keys) k 0) (λ c. c) key-is v l);
+      held-is = λ v l. rw (keys-tiered t S) (by-rank (λ k. getD scratch k 0) (λ c. c) key-is v l);
       next-is = λ v l. rw (keys-tiered t S) (next-is v l);
       tiers-is = λ v l. rw (keys-tiered t S) (by-rank (tier-by r (A .graph)) (tier-of (tiered t S)) tier-is v l);
-      stash-is = λ i l. rw (keys-tiered t S) (by-place (λ k. getD (A .keys) k 0) (λ c. c) key-is i l);
+      stash-is = λ i l. rw (keys-tiered t S) (by-place (λ k. getD scratch k 0) (λ c. c) key-is i l);
       beside-is = λ i l. rw (keys-tiered t S) (by-place (tier-by r (A .graph)) (tier-of (tiered t S)) tier-is i l);
     }

@@ -22,11 +22,11 @@ use Rattle.build.specs.Build.{full, made, Built, Buildable}
 use Rattle.build.specs.declared.StashCount.{StashCount}
 use Rattle.build.specs.declared.StashCount.the-variants.{Ranks, Overflow}
 use Rattle.codec.specs.Collect.{keys-in-few}
-use Rattle.codec.specs.Image.{ImageColumns, alike-image, written-image}
+use Rattle.codec.specs.Image.{alike-image, written-image}
 use Rattle.outcome.specs.Outcome.{early-refusals}
 use Rattle.outcome.specs.Laws.{Ready, none-ready}
 use Rattle.renewal.specs.Edges.{tier-found, small-le, small-same, edge-of, Lined, lined-buildable, lined-built, EdgesTo, edges-lined}
-use Rattle.renewal.specs.Columns.{keys-held, nexts-held, tiers-held, keys-stashed, tiers-stashed, alike-in, written-in, Readable, standing-readable, stash-count, set-columns}
+use Rattle.renewal.specs.Columns.{SetColumns, alike-in, written-in, Readable, standing-readable, stash-count, set-columns}
 use Rattle.renewal.specs.declared.Reading.{Reading}
 use Rattle.renewal.specs.declared.Reading.the-variants.{Keys, NotCanonical}
 
@@ -121,8 +121,7 @@ module _ {P : Params} {t : ℕ → ℕ} {S before after : List ℕ} {count : Sta
     record Made : Type 0 where
       fit : fits P S ≡ true
       stashed : length (stash-of P S) ≡ k
-      columns : let G = parts (P .slots) (P .places) (length S) after in
-          ImageColumns P (tiered t S) (keys-held (P .slots) G) (nexts-held (P .slots) G) (tiers-held (P .slots) G) (keys-stashed (P .slots) G) (tiers-stashed (P .slots) G)
+      columns : SetColumns (P .slots) after (parts (P .slots) (P .places) (length S) after) P (tiered t S)
 
     set-made : Made
     set-made = elim (B .built) [

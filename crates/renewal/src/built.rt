@@ -13,16 +13,8 @@ use parts::next_start;
 use parts::stashed_start;
 use words::wide;
 
-// The parts of scratch that the image is made of: the keys by rank, what the slots hold with the edges, the next of each
-// rank, the stash.
-fn keys_part(scratch: &[u32], r: u32, s: u32, n: usize) -> &[u32]
-    requires { ⌜ Readable r s n (now scratch) ⌝ }
-    ensures { λ p. ⌜ now p ≡ parts r s n (now (scratch .entry)) .keys ⌝ }
-{
-    let end = held_start(r, s);
-    &scratch[0..end]
-}
-
+// The parts of scratch that the image is made of: what the slots hold with the edges, the next of each rank, the stash. The
+// keys by rank are the first words of scratch.
 fn graph_part(scratch: &[u32], r: u32, s: u32, n: usize) -> &[u32]
     requires { ⌜ Readable r s n (now scratch) ⌝ }
     ensures { λ p. ⌜ now p ≡ parts r s n (now (scratch .entry)) .graph ⌝ }
@@ -56,11 +48,10 @@ pub fn matches_built(words: &[u32], scratch: &[u32], r: u32, s: u32, n: usize, s
         × Readable r s n (now scratch) ⌝ }
     ensures { λ b. ⌜ b ≡ alike-in r s n (now (words .entry)) stashed (now (scratch .entry)) ⌝ }
 {
-    let keys = keys_part(scratch, r, s, n);
     let graph = graph_part(scratch, r, s, n);
     let next = next_part(scratch, r, s, n);
     let stash = stash_part(scratch, r, s, n);
-    codec::image::matches(words, n, stashed, keys, graph, next, stash)
+    codec::image::matches(words, n, stashed, scratch, graph, next, stash)
 }
 
 // Writes the image that stands in scratch over all of the words, whatever they were.
@@ -72,9 +63,8 @@ pub fn write_built(words: &mut [u32], scratch: &[u32], header: Header)
     let r = header.slots;
     let s = header.places;
     let n = wide(header.keys);
-    let keys = keys_part(scratch, r, s, n);
     let graph = graph_part(scratch, r, s, n);
     let next = next_part(scratch, r, s, n);
     let stash = stash_part(scratch, r, s, n);
-    codec::image::write_image(words, header, keys, graph, next, stash);
+    codec::image::write_image(words, header, scratch, graph, next, stash);
 }

@@ -6,9 +6,6 @@ use borrow.Author.Needs.{needs}
 use Rattle.renewal.proofs.built.matches_built.Statement.{statement}
 use Rattle.renewal.proofs.built.matches_built.Tie as tie
 
-keys-part-requires : tie.Need-keys-part-requires
-keys-part-requires c κs = search needs
-
 graph-part-requires : tie.Need-graph-part-requires
 graph-part-requires c κs = search needs
 
@@ -22,10 +19,9 @@ matches-requires : tie.Need-matches-requires
 matches-requires c κs =
     let n = c .before in
     let g = n .before in
-    let k = g .before in
-    let p = k .before .before .before .pre in (
+    let p = g .before .before .before .pre in (
       (p .0 .0, ap length (c .stash-part .ensures) ∙ readable-stash (p .1) ∙ p .0 .1 .1),
-      rw (k .keys-part .ensures, g .graph-part .ensures, n .next-part .ensures, c .stash-part .ensures, ← p .0 .1 .0) (p .1 .ranked),
+      rw (g .graph-part .ensures, n .next-part .ensures, c .stash-part .ensures, ← p .0 .1 .0) (p .1 .ranked),
     )
 
 returns : tie.Need-returns
@@ -33,7 +29,7 @@ returns c =
     let s = c .before in
     let n = s .before in
     let g = n .before in
-    rw (g .before .keys-part .ensures, g .graph-part .ensures, n .next-part .ensures, s .stash-part .ensures) at (c .matches .ensures)
+    rw (g .graph-part .ensures, n .next-part .ensures, s .stash-part .ensures) at (c .matches .ensures)
 
 pub matches-built-spec : {M : Type 1} → statement M
-matches-built-spec = tie.close (tie.spec keys-part-requires graph-part-requires next-part-requires stash-part-requires matches-requires returns)
+matches-built-spec = tie.close (tie.spec graph-part-requires next-part-requires stash-part-requires matches-requires returns)

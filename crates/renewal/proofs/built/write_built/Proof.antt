@@ -14,28 +14,24 @@ readable : (w : tie.After-wide) → let h = w .before .before .before .args .hea
     Readable (h .slots) (h .places) (w .wide .result) (w .before .before .before .args .scratch .now)
 readable w = rw (w .wide .ensures) (w .before .before .before .pre .1)
 
-keys-part-requires : tie.Need-keys-part-requires
-keys-part-requires c κs = readable c
-
 graph-part-requires : tie.Need-graph-part-requires
-graph-part-requires c κs = readable (c .before)
+graph-part-requires c κs = readable c
 
 next-part-requires : tie.Need-next-part-requires
-next-part-requires c κs = readable (c .before .before)
+next-part-requires c κs = readable (c .before)
 
 stash-part-requires : tie.Need-stash-part-requires
-stash-part-requires c κs = readable (c .before .before .before)
+stash-part-requires c κs = readable (c .before .before)
 
 write-image-requires : tie.Need-write-image-requires
 write-image-requires c κs =
     let s = c .before in
     let n = s .before in
     let g = n .before in
-    let k = g .before in
-    let w = k .before in
+    let w = g .before in
     let p = w .before .before .before .pre in (
       (p .1 .sizes, (p .0, ap length (s .stash-part .ensures) ∙ readable-stash (readable w))),
-      rw (k .keys-part .ensures, g .graph-part .ensures, n .next-part .ensures, s .stash-part .ensures, w .wide .ensures) (p .1 .ranked),
+      rw (g .graph-part .ensures, n .next-part .ensures, s .stash-part .ensures, w .wide .ensures) (p .1 .ranked),
     )
 
 same-length : tie.Need-same-length
@@ -47,8 +43,7 @@ returns c =
     let s = i .before .before in
     let n = s .before in
     let g = n .before in
-    let k = g .before in
-    rw (k .keys-part .ensures, g .graph-part .ensures, n .next-part .ensures, s .stash-part .ensures, k .before .wide .ensures) at (i .write-image .ensures)
+    rw (g .graph-part .ensures, n .next-part .ensures, s .stash-part .ensures, g .before .wide .ensures) at (i .write-image .ensures)
 
 pub write-built-spec : {M : Type 1} → statement M
-write-built-spec = tie.close (tie.spec wide-requires keys-part-requires graph-part-requires next-part-requires stash-part-requires write-image-requires same-length returns)
+write-built-spec = tie.close (tie.spec wide-requires graph-part-requires next-part-requires stash-part-requires write-image-requires same-length returns)
