@@ -1,16 +1,16 @@
--- Lists of numbers beyond membership (which is in Sets): equality as a test, what tests keep, what stands where, the smallest of an ascending list, and
+-- Lists of numbers beyond membership (which is in Sets): equality as a test, what tests keep, what stands where, images, the smallest of an ascending list, and
 -- counting. Nothing here knows of slots. Assumes nothing.
 use Prim.Native.Nat.{ℕ, zero, suc, _+_, _%_, _<_, _≤_, zero-le}
 use mathlib.Core.Path.{_≡_, refl, sym, _∙_, ap}
 use mathlib.Core.Bool.{Bool, true, false, not, _&&_, false≢true}
 use mathlib.Core.Logic.{_⊎_, inl, inr}
-use mathlib.Core.List.{List, [], _∷_, _++_, List·Memᴰ as In, List·Memᴰ·head as here, List·Memᴰ·tail as there}
+use mathlib.Core.List.{List, [], _∷_, _++_, map, List·Memᴰ as In, List·Memᴰ·head as here, List·Memᴰ·tail as there}
 use native.Mathlib.Omega.{arith}
 use native.Mathlib.Nat.{not-suc-le-zero, le-of-eq, mod-self, mod-eq-of-lt}
 use native.Mathlib.Numerals.{add-one}
 use borrow.Author.Tests.{eqb-true, eq-eqb, ltb-true, lt-ltb, le-ltb}
 use lib.Dec.{eqb, ltb}
-use lib.ListN.{length, getD, drop, drop-of-length-le}
+use lib.ListN.{length, getD, take, drop, replicate, drop-of-length-le}
 use lib.Seq.{drop-cons}
 use Rattle.basics.specs.Tests.{test, eq?, le?, and-true, bool-ext}
 use Rattle.basics.specs.Sets.{keep, first, keep-in, keep-test, in-keep, length-drop, below, in-below, Asc, none, some, asc-keep, first-in}
@@ -99,6 +99,31 @@ getD-in (c ∷ L) (suc i) l = there (getD-in L i (omega arith))
 first-getD : (L : List ℕ) → first L ≡ getD L 0 0
 first-getD [] = refl
 first-getD (c ∷ L) = refl
+
+-- of each element its image
+
+pub at-map : (f : ℕ → ℕ) (K : List ℕ) (i : ℕ) → i < length K → getD (map f K) i 0 ≡ f (getD K i 0)
+at-map f [] i l = absurd (omega arith)
+at-map f (c ∷ K) zero l = refl
+at-map f (c ∷ K) (suc i) l = at-map f K i (omega arith)
+
+pub map-same : (f g : ℕ → ℕ) (S : List ℕ) → ((c : ℕ) → In c S → f c ≡ g c) → map f S ≡ map g S
+map-same f g [] h = refl
+map-same f g (c ∷ S) h = rw (h c (here refl), map-same f g S (λ d i. h d (there i)))
+
+pub map-take : (f : ℕ → ℕ) (i : ℕ) (S : List ℕ) → map f (take i S) ≡ take i (map f S)
+map-take f zero S = refl
+map-take f (suc i) [] = refl
+map-take f (suc i) (c ∷ S) = ap (λ (X : List ℕ). f c ∷ X) (map-take f i S)
+
+pub map-drop : (f : ℕ → ℕ) (i : ℕ) (S : List ℕ) → map f (drop i S) ≡ drop i (map f S)
+map-drop f zero S = refl
+map-drop f (suc i) [] = refl
+map-drop f (suc i) (c ∷ S) = map-drop f i S
+
+pub map-zeros : (f : ℕ → ℕ) → f 0 ≡ 0 → (n : ℕ) → map f (replicate n 0) ≡ replicate n 0
+map-zeros f z zero = refl
+map-zeros f z (suc n) = rw (z, map-zeros f z n)
 
 -- ascending lists
 

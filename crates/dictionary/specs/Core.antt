@@ -159,7 +159,8 @@ module _ {tabulation ws scratch : List ℕ} {n key : ℕ} (Z : Settable tabulati
               (rw (x, set-keys, listed, tier-is, y), rw (x, set-keys, listed, tier-is, y))
 
       -- and is taken out
-      module _ {r s : ℕ} (e : r ≡ slots-of ws) (f : s ≡ places-of ws) {mid : List ℕ} (out : mid ≡ taken-out r s n at scratch) (same-room : length mid ≡ length scratch) where
+      module _ {r s : ℕ} (e : r ≡ slots-of ws) (f : s ≡ places-of ws) {mid : List ℕ} (out : mid ≡ taken-out r s n at scratch)
+          (same-room : length mid ≡ length scratch) where
         taken : Lined P (tier-in tabulation ws) (without key K) mid
         taken =
             rw (out, at-rank, e, f, Z .count) (lined-taken (Z .lined) room (valid .asc) key here (omega (arith, key-count, Z .count)))
@@ -171,7 +172,8 @@ module _ {tabulation ws scratch : List ℕ} {n key : ℕ} (Z : Settable tabulati
         remove-renewed R =
             let g = rw set-keys at (canonical-true tabulation ws (Z .image) .fit) in
             let h = without-fits P valid key g in
-            let k : keys-of (changed Remove key (set-in tabulation ws)) ≡ without key K = changed-keys Remove key (set-in tabulation ws) ∙ ap (without key) set-keys in
+            let k : keys-of (changed Remove key (set-in tabulation ws)) ≡ without key K =
+            changed-keys Remove key (set-in tabulation ws) ∙ ap (without key) set-keys in
             changed-renewed Remove R (omega (arith, length-without key K (valid .asc) here, Z .count))
             (lined-agree taken _ (λ c i. set-tier (out-in key K i))) (rw (set-keys, listed, h), rw (k, set-keys, listed, h))
 
@@ -210,7 +212,8 @@ module _ {tabulation ws scratch : List ℕ} {n key : ℕ} (Z : Settable tabulati
           pub insert-renewed : {a : ℕ} {us : List ℕ} → Renewed ws mid (n + 1) a us → Decided (Insert tier) tabulation ws key a us
           insert-renewed R =
               let L = changed (Insert tier) key (set-in tabulation ws) in
-              let g : fits P (keys-of L) ≡ fits P (with-key key K) = ap (fits P) (changed-keys (Insert tier) key (set-in tabulation ws) ∙ ap (with-key key) set-keys) in
+              let g : fits P (keys-of L) ≡ fits P (with-key key K) =
+              ap (fits P) (changed-keys (Insert tier) key (set-in tabulation ws) ∙ ap (with-key key) set-keys) in
               let h : set-answer (Insert tier) tabulation ws key ≡ cond (not (fits P (with-key key K))) stash-full done = rw (small-test, set-keys, absent) in
               changed-renewed (Insert tier) R (omega (arith, length-with key K (valid .asc) gone, Z .count)) put (
                 answer-turned (fits P (with-key key K)) ∙ sym h,

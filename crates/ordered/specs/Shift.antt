@@ -3,14 +3,10 @@
 use Prim.Native.Nat.{ℕ, suc, _+_, _-_, _≤_, _<_}
 use mathlib.Core.Path.{_≡_, sym, _∙_, ap}
 use mathlib.Core.List.{List, _∷_, _++_, append-assoc}
-use mathlib.Core.Bool.{true, false, true≢false}
 use native.Mathlib.Numerals.{add-one}
 use native.Mathlib.Omega.{arith}
 use lib.ListN.{length, getD, set, take, drop, take-append-drop, length-take, length-drop, length-append}
-use lib.Seq.{slice, slice-cons, slice-empty, take-suc-set, take-set-lt, drop-set-lt, set-split, take-at, drop-at, take-take}
-use Rattle.basics.specs.Sets.{member, without, Asc, in-member, member-in}
-use Rattle.ordered.specs.Keys.{rank-of, with-key}
-use Rattle.ordered.specs.Place.{rank-le, rank-found, with-parts, without-parts}
+use lib.Seq.{slice, slice-cons, slice-empty, take-suc-set, take-set-lt, drop-set-lt, set-split, take-at, drop-at, take-take, take-append-add, drop-append-add, length-take-le}
 
 -- the words from i to n are to move up, over the word at n, and the carried key is to come to i
 unfoldable pub opened : List ℕ → ℕ → ℕ → ℕ → List ℕ
@@ -75,24 +71,46 @@ module _ (s : List ℕ) (i n : ℕ) where
       let long : length front ≡ n - 1 = simp (length-append, length-take, length-drop) (omega arith) in
       (ap (take (n - 1)) whole ∙ take-at front (drop (n - 1) s) (n - 1) long, ap (drop (n - 1)) whole ∙ drop-at front (drop (n - 1) s) (n - 1) long)
 
--- Of a set, the first n words: making room at the key's rank puts it in, closing the gap there takes it out.
-module _ (s : List ℕ) (n key : ℕ) (h : Asc (take n s)) where
-  abbrev r : ℕ
-  r = rank-of (take n s) key
+-- The words are as many as before,
+pub opened-length : (s : List ℕ) (i n word : ℕ) → i ≤ n → n < length s → length (opened s i n word) ≡ length s
+unfolding opened
+opened-length s i n word l m = simp (length-append, length-take, length-drop) (omega arith)
 
-  pub opened-set :
-      n < length s → member key (take n s) ≡ false
-      → (take (n + 1) (opened s r n key) ≡ with-key key (take n s))
-      × (drop (n + 1) (opened s r n key) ≡ drop (n + 1) s)
-  opened-set l m =
-      let o = opened-column s r n key (omega (arith, rank-le key (take n s), length-take n s)) l in
-      (o .0 ∙ with-parts key (take n s) h (λ i. true≢false (sym (in-member i) ∙ m)), o .1)
+pub closed-length : (s : List ℕ) (i n : ℕ) → i < n → n ≤ length s → length (closed s i n) ≡ length s
+unfolding closed
+closed-length s i n l m = simp (length-append, length-take, length-drop) (omega arith)
 
-  pub closed-set :
-      n ≤ length s → member key (take n s) ≡ true
-      → (take (n - 1) (closed s r n) ≡ without key (take n s))
-      × (drop (n - 1) (closed s r n) ≡ drop (n - 1) s)
-  closed-set l m =
-      let found = member-in key (take n s) m in
-      let o = closed-column s r n (omega (arith, rank-found key (take n s) h found .1, length-take n s)) l in
-      (o .0 ∙ without-parts key (take n s) h found, o .1)
+-- and in a column that begins at m those before it stay.
+module _ (s : List ℕ) (m i n : ℕ) (fit : m ≤ length s) where
+  front-long : length (take m s) ≡ m
+  front-long = length-take-le m s fit
+
+  abbrev A : List ℕ
+  A = take m s
+
+  abbrev B : List ℕ
+  B = drop m s
+
+  parted : s ≡ A ++ B
+  parted = sym (take-append-drop m s)
+
+  pub opened-behind : (word : ℕ) → opened s (m + i) (m + n) word ≡ A ++ opened B i n word
+  unfolding opened
+  opened-behind word =
+      let e : m + n + 1 ≡ length A + (n + 1) = omega (arith, front-long) in
+      let f : m + i ≡ length A + i = omega (arith, front-long) in
+      let g : m + n ≡ length A + n = omega (arith, front-long) in
+      ap (λ (x : List ℕ). take (m + i) x ++ (word ∷ (drop (m + i) (take (m + n) x) ++ drop (m + n + 1) x))) parted
+      ∙ (rw (e, f, g, take-append-add A B i, take-append-add A B n, drop-append-add A (take n B) i, drop-append-add A B (n + 1))
+      (append-assoc A (take i B) (word ∷ (drop i (take n B) ++ drop (n + 1) B))))
+
+  pub closed-behind : 1 ≤ n → closed s (m + i) (m + n) ≡ A ++ closed B i n
+  unfolding closed
+  closed-behind some =
+      let e : m + n - 1 ≡ length A + (n - 1) = omega (arith, front-long) in
+      let h : m + i + 1 ≡ length A + (i + 1) = omega (arith, front-long) in
+      let f : m + i ≡ length A + i = omega (arith, front-long) in
+      let g : m + n ≡ length A + n = omega (arith, front-long) in
+      ap (λ (x : List ℕ). take (m + i) x ++ (drop (m + i + 1) (take (m + n) x) ++ drop (m + n - 1) x)) parted
+      ∙ (rw (e, h, f, g, take-append-add A B i, take-append-add A B n, drop-append-add A (take n B) (i + 1), drop-append-add A B (n - 1))
+      (append-assoc A (take i B) (drop (i + 1) (take n B) ++ drop (n - 1) B)))

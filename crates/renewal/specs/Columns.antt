@@ -11,7 +11,7 @@ use borrow.Rule.Slice.PartMut.{midOf}
 use lib.ListN.{length, getD, take, drop, replicate, length-map, length-take}
 use lib.Seq.{getD-take, getD-drop}
 use Rattle.basics.specs.Tests.{eq?}
-use Rattle.basics.specs.Lists.{getD-in}
+use Rattle.basics.specs.Lists.{getD-in, at-map, map-zeros}
 use Rattle.cuckoo.specs.Graph.{seated, slot-key, slot-next}
 use Rattle.cuckoo.specs.Settling.{seated-sub, seated-asc}
 use Rattle.cuckoo.specs.Seating.{occupant-from}
@@ -32,7 +32,7 @@ use Rattle.build.specs.Scratch.{Parts, parts, used, PartsSized, parts-sized}
 use Rattle.build.specs.Build.{edges-of, stash-ranks, slot-rank, next-rank, Standing}
 use Rattle.codec.specs.Ranks.{tier-unit, slots-held, tier-by, key-column, next-column, tier-column, ranks-alike, ranks-written, Ranked}
 use Rattle.codec.specs.Image.{ImageColumns}
-use Rattle.renewal.specs.Edges.{edge-of, Lined, at-map, edge-tier, lined-at, lined-first, lined-second}
+use Rattle.renewal.specs.Edges.{edge-of, Lined, edge-tier, lined-at, lined-first, lined-second}
 
 -- the columns that `codec` reads: r slots to a table, the keys by rank are the first words of scratch, G are its parts
 module _ (r : ℕ) (scratch : List ℕ) (G : Parts) where
@@ -130,11 +130,6 @@ module _ {r s n : ℕ} {scratch : List ℕ} (sizes : Sized r s) (few : n ≤ 2 *
 pub readable-stash : {r s n : ℕ} {scratch : List ℕ} → Readable r s n scratch → length (parts r s n scratch .stash) ≡ s
 readable-stash {r} {s} {n} {scratch} R = parts-sized r s n scratch (R .few) (R .room) .stash-size
 
--- a list of keys and zeros by rank
-map-zeros : (f : ℕ → ℕ) → f 0 ≡ 0 → (n : ℕ) → map f (replicate n 0) ≡ replicate n 0
-map-zeros f z zero = refl
-map-zeros f z (suc n) = rw (z, map-zeros f z n)
-
 -- The ranks are those of a set that stands there.
 module _ {P : Params} {t : ℕ → ℕ} {S scratch : List ℕ} (valid : ValidKeys S) (sizes : Sized (P .slots) (P .places))
     (few : length S ≤ 2 * P .slots + P .places) (room : used (P .slots) (P .places) ≤ length scratch) (D : Lined P t S scratch) where
@@ -191,8 +186,8 @@ module _ {P : Params} {t : ℕ → ℕ} {S scratch : List ℕ} (valid : ValidKey
 
     stash-is : place-keys P S ≡ map (ranked S) (A .stash)
     stash-is =
-        let z : List ℕ = replicate (P .places - length (stash-ranks r n ends)) 0 in
-        rw (← stash-count, stash-keys, W .stashed, map-append (ranked S) (stash-ranks r n ends) z, map-zeros (ranked S) refl (P .places - length (stash-ranks r n ends)))
+        let k = P .places - length (stash-ranks r n ends) in
+        rw (← stash-count, stash-keys, W .stashed, map-append (ranked S) (stash-ranks r n ends) (replicate k 0), map-zeros (ranked S) refl k)
 
     abbrev R : Readable r (P .places) n scratch
     R = standing-readable sizes few room W

@@ -4,13 +4,14 @@ use Prim.Native.Nat.{ℕ, zero, suc, _+_, _*_, _-_, _/_, _≤_, _<_}
 use mathlib.Core.Path.{_≡_, refl, sym, _∙_, ap}
 use mathlib.Core.Bool.{cond}
 use mathlib.Core.Logic.{inl, inr}
-use mathlib.Core.List.{List, [], _∷_, map}
+use mathlib.Core.List.{List, _∷_, map}
 use native.Mathlib.Omega.{arith}
 use borrow.Author.Tests.{le-ltb, lt-ltb}
 use lib.Dec.{ltb}
 use lib.ListN.{length, getD, take, drop, set, length-map, length-set, length-take, length-drop}
 use lib.Seq.{take-add, drop-drop, drop-at, take-take, getD-take, getD-drop, getD-set-same, getD-set-other, ext-getD}
 use Rattle.basics.specs.Tests.{eq?, le?}
+use Rattle.basics.specs.Lists.{at-map}
 use Rattle.tabulation.specs.Hash.{Family, tables}
 use Rattle.tabulation.specs.Slots.{slot-0, slot-1, slot-0-lt, slot-1-le, slot-1-lt}
 use Rattle.forest.specs.Edges.{Edge, Edges, first-of, second-of, edge-at, edge-read, end-0, end-1}
@@ -48,11 +49,6 @@ pub record Lined (P : Params) (t : ℕ → ℕ) (S scratch : List ℕ) : Type 0 
   pub edges : take (length S) (drop (edges-at (P .slots) (P .places)) scratch) ≡ map (edge-of (family P) t) S
 
 -- The laws.
-
-pub at-map : (f : ℕ → ℕ) (K : List ℕ) (i : ℕ) → i < length K → getD (map f K) i 0 ≡ f (getD K i 0)
-at-map f [] i l = absurd (omega arith)
-at-map f (c ∷ K) zero l = refl
-at-map f (c ∷ K) (suc i) l = at-map f K i (omega arith)
 
 pub small-le : (tier : ℕ) → small-tier tier ≤ max-tier
 small-le tier = elim (le? tier max-tier) [ inl l ↦ rw (le-ltb max-tier tier l) l | inr l ↦ rw (lt-ltb max-tier tier l) (omega arith) ]
@@ -162,7 +158,8 @@ lined-built {P} {t} {S} {before} {after} D same room few B =
     let cut : take (length S) (drop (edges-at r s) after) ≡ take (length S) (drop (edges-at r s) before) =
     ap (drop 1) (sym (edges-cut r s (length S) after (omega arith)) ∙ B .edges ∙ edges-cut r s (length S) before room) in
     record {
-      keys = sym (take-take (length S + 1) (2 * r + s + 1) after l) ∙ ap (take (length S + 1)) (B .keys) ∙ take-take (length S + 1) (2 * r + s + 1) before l ∙ D .keys;
+      keys = sym (take-take (length S + 1) (2 * r + s + 1) after l) ∙ ap (take (length S + 1)) (B .keys)
+          ∙ take-take (length S + 1) (2 * r + s + 1) before l ∙ D .keys;
       edges = cut ∙ D .edges;
     }
 

@@ -1,23 +1,24 @@
 -- A set in scratch, its keys and their edges: two columns that move together. Where a key stands in it, its tier, and the set with a key put in or taken out. The
 -- definitions come first: contracts cite them. Assumes nothing.
-use Prim.Native.Nat.{ℕ, zero, suc, _+_, _*_, _-_, _/_, _≤_, _<_}
-use mathlib.Core.Path.{_≡_, refl, sym, _∙_, ap}
+use Prim.Native.Nat.{ℕ, _+_, _*_, _-_, _/_, _≤_, _<_}
+use mathlib.Core.Path.{_≡_, sym, _∙_, ap}
 use mathlib.Core.Bool.{false}
-use mathlib.Core.List.{List, [], _∷_, _++_, map, map-append, append-assoc, List·Memᴰ as In, List·Memᴰ·head as here, List·Memᴰ·tail as there}
+use mathlib.Core.List.{List, _∷_, _++_, map, map-append, List·Memᴰ as In}
 use native.Mathlib.Omega.{arith}
 use native.Mathlib.Numerals.{add-one}
 use lib.Dec.{eqb}
-use lib.ListN.{length, getD, take, drop, length-take, length-append, length-drop, take-append-drop}
-use lib.Seq.{take-take, drop-drop, drop-at, take-add, take-append-le, take-append-add, drop-append-add, getD-take, getD-drop, length-take-le}
+use lib.ListN.{length, getD, take, drop, length-take, length-drop}
+use lib.Seq.{take-take, drop-drop, drop-at, take-add, take-append-le, getD-take, getD-drop, length-take-le}
 use Rattle.basics.specs.Sets.{member, Asc, without}
+use Rattle.basics.specs.Lists.{at-map, map-same, map-take, map-drop}
 use Rattle.ordered.specs.Keys.{rank-of, with-key}
 use Rattle.ordered.specs.Place.{rank-le, rank-found, member-at, member-past, with-parts, without-parts, length-with, length-without}
-use Rattle.ordered.specs.Shift.{opened, closed, opened-column, closed-column}
+use Rattle.ordered.specs.Shift.{opened, closed, opened-column, closed-column, opened-length, closed-length, opened-behind, closed-behind}
 use Rattle.layout.specs.Layout.{Params, family}
 use Rattle.layout.specs.Shape.{Sized}
 use Rattle.build.specs.Scratch.{edges-at, used}
 use Rattle.codec.specs.Ranks.{tier-unit}
-use Rattle.renewal.specs.Edges.{edge-with, edge-of, Lined, at-map, edge-tier}
+use Rattle.renewal.specs.Edges.{edge-with, edge-of, Lined, edge-tier}
 
 -- the n keys from word 1 on
 abbrev pub keys-at : ℕ → List ℕ → List ℕ
@@ -30,50 +31,7 @@ put-in r s n at key edge scratch = opened (opened scratch (at + 1) (n + 1) key) 
 abbrev pub taken-out : (r s n at : ℕ) → List ℕ → List ℕ
 taken-out r s n at scratch = closed (closed scratch (at + 1) (n + 1)) (edges-at r s + at) (edges-at r s + n)
 
--- The laws. First of columns that begin at m: what is before them stays, and all are as long as before.
-opened-length : (s : List ℕ) (i n word : ℕ) → i ≤ n → n < length s → length (opened s i n word) ≡ length s
-unfolding opened
-opened-length s i n word l m = simp (length-append, length-take, length-drop) (omega arith)
-
-closed-length : (s : List ℕ) (i n : ℕ) → i < n → n ≤ length s → length (closed s i n) ≡ length s
-unfolding closed
-closed-length s i n l m = simp (length-append, length-take, length-drop) (omega arith)
-
-module _ (s : List ℕ) (m i n : ℕ) (fit : m ≤ length s) where
-  front-long : length (take m s) ≡ m
-  front-long = length-take-le m s fit
-
-  abbrev A : List ℕ
-  A = take m s
-
-  abbrev B : List ℕ
-  B = drop m s
-
-  parted : s ≡ A ++ B
-  parted = sym (take-append-drop m s)
-
-  opened-behind : (word : ℕ) → opened s (m + i) (m + n) word ≡ A ++ opened B i n word
-  unfolding opened
-  opened-behind word =
-      let e : m + n + 1 ≡ length A + (n + 1) = omega (arith, front-long) in
-      let f : m + i ≡ length A + i = omega (arith, front-long) in
-      let g : m + n ≡ length A + n = omega (arith, front-long) in
-      ap (λ (x : List ℕ). take (m + i) x ++ (word ∷ (drop (m + i) (take (m + n) x) ++ drop (m + n + 1) x))) parted
-      ∙ (rw (e, f, g, take-append-add A B i, take-append-add A B n, drop-append-add A (take n B) i, drop-append-add A B (n + 1))
-      (append-assoc A (take i B) (word ∷ (drop i (take n B) ++ drop (n + 1) B))))
-
-  closed-behind : 1 ≤ n → closed s (m + i) (m + n) ≡ A ++ closed B i n
-  unfolding closed
-  closed-behind some =
-      let e : m + n - 1 ≡ length A + (n - 1) = omega (arith, front-long) in
-      let h : m + i + 1 ≡ length A + (i + 1) = omega (arith, front-long) in
-      let f : m + i ≡ length A + i = omega (arith, front-long) in
-      let g : m + n ≡ length A + n = omega (arith, front-long) in
-      ap (λ (x : List ℕ). take (m + i) x ++ (drop (m + i + 1) (take (m + n) x) ++ drop (m + n - 1) x)) parted
-      ∙ (rw (e, h, f, g, take-append-add A B i, take-append-add A B n, drop-append-add A (take n B) (i + 1), drop-append-add A B (n - 1))
-      (append-assoc A (take i B) (drop (i + 1) (take n B) ++ drop (n - 1) B)))
-
--- Where a key stands among n keys: they are lent to the search, and what stands at its rank says whether it is there.
+-- The laws. Where a key stands among n keys: they are lent to the search, and what stands at its rank says whether it is there.
 module _ (scratch : List ℕ) (n : ℕ) (long : n < length scratch) where
   pub keys-lent : {e : ℕ} → e ≡ n + 1 → take (e - 1) (drop 1 scratch) ≡ keys-at n scratch
   keys-lent {e} q = let k : e - 1 ≡ n = omega arith in rw k
@@ -111,20 +69,6 @@ lined-moved {P} {u} {S} mid column few room front edges =
       keys = take-append-le (length S + 1) (take to mid) column (omega arith) ∙ take-take (length S + 1) to mid (omega arith) ∙ front;
       edges = ap (take (length S)) (drop-at (take to mid) column to long) ∙ edges;
     }
-
-map-same : (f g : ℕ → ℕ) (S : List ℕ) → ((c : ℕ) → In c S → f c ≡ g c) → map f S ≡ map g S
-map-same f g [] h = refl
-map-same f g (c ∷ S) h = rw (h c (here refl), map-same f g S (λ d i. h d (there i)))
-
-map-take : (f : ℕ → ℕ) (i : ℕ) (S : List ℕ) → map f (take i S) ≡ take i (map f S)
-map-take f zero S = refl
-map-take f (suc i) [] = refl
-map-take f (suc i) (c ∷ S) = ap (λ (X : List ℕ). f c ∷ X) (map-take f i S)
-
-map-drop : (f : ℕ → ℕ) (i : ℕ) (S : List ℕ) → map f (drop i S) ≡ drop i (map f S)
-map-drop f zero S = refl
-map-drop f (suc i) [] = refl
-map-drop f (suc i) (c ∷ S) = map-drop f i S
 
 -- A set that stands in scratch.
 module _ {P : Params} {t : ℕ → ℕ} {S scratch : List ℕ} (D : Lined P t S scratch) where

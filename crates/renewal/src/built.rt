@@ -13,8 +13,8 @@ use parts::next_start;
 use parts::stashed_start;
 use words::wide;
 
-// The parts of scratch that the image is made of: what the slots hold with the edges, the next of each rank, the stash. The
-// keys by rank are the first words of scratch.
+// The parts of scratch that the image is made of: what the slots hold with the edges, the next of each rank, the stash.
+// The keys by rank are the first words of scratch.
 fn graph_part(scratch: &[u32], r: u32, s: u32, n: usize) -> &[u32]
     requires { ⌜ Readable r s n (now scratch) ⌝ }
     ensures { λ p. ⌜ now p ≡ parts r s n (now (scratch .entry)) .graph ⌝ }

@@ -1,5 +1,5 @@
-// The edges of keys: each key is hashed here, once, and found in the words, once. One word then has all that the build and
-// `codec` need of it: first slot, second slot, tier.
+// The edges of keys: each key is hashed here, once, and found in the words, once. One word then has all that the build
+// and `codec` need of it: first slot, second slot, tier.
 ghost use mathlib.Core.Path.{_≡_};
 ghost use Prim.Native.Nat.{_/_, _≤_, _<_};
 ghost use lib.ListN.{length};

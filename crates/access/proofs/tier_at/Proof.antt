@@ -47,14 +47,5 @@ returns-2 c =
 
 pub tier-at-spec : {M : Type 1} → statement M
 tier-at-spec =
-    tie.close
-    (tie.spec
-    in-slot-requires
-    in-slot-requires-2
-    slot-tier-requires
-    slot-tier-requires-2
-    chosen-requires
-    returns
-    in-stash-requires
-    tier-of-requires
-    returns-2)
+    tie.close (tie.spec in-slot-requires in-slot-requires-2 slot-tier-requires slot-tier-requires-2 chosen-requires returns in-stash-requires
+    tier-of-requires returns-2)

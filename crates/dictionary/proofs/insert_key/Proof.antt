@@ -7,7 +7,8 @@ use Rattle.layout.specs.Entries.{max-tier}
 use Rattle.layout.specs.Layout.{slots-of, places-of}
 use Rattle.layout.specs.Shape.{shape}
 use Rattle.build.specs.Scratch.{used}
-use Rattle.dictionary.specs.Core.{searchable, in-range, at-le, at-lt, insert-large, insert-other, insert-present, insert-crowded, insert-buildable, insert-renewed}
+use Rattle.dictionary.specs.Core.{searchable, in-range, at-le, at-lt}
+use Rattle.dictionary.specs.Core.{insert-large, insert-other, insert-present, insert-crowded, insert-buildable, insert-renewed}
 use borrow.Author.Needs.{needs}
 use Rattle.dictionary.proofs.insert_key.Statement.{statement}
 use Rattle.dictionary.proofs.insert_key.Tie as tie
@@ -170,4 +171,7 @@ returns-5 c =
     (h .read-header .ensures .1 .0) (few o) (k .put-key .ensures) (k .put-key .kept .1 .0) (w .renew .ensures)
 
 pub insert-key-spec : {M : Type 1} → statement M
-insert-key-spec = tie.close (tie.spec returns read-header-requires place-of-requires is-at-requires tier-at-requires same-length same-length-2 returns-2 same-length-3 same-length-4 returns-3 mul-wide add-wide wide-requires same-length-5 same-length-6 returns-4 put-key-requires add-renew renew-requires same-length-7 same-length-8 returns-5)
+insert-key-spec =
+    tie.close (tie.spec returns read-header-requires place-of-requires is-at-requires tier-at-requires same-length same-length-2 returns-2
+    same-length-3 same-length-4 returns-3 mul-wide add-wide wide-requires same-length-5 same-length-6 returns-4 put-key-requires add-renew
+    renew-requires same-length-7 same-length-8 returns-5)

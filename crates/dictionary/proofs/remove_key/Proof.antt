@@ -64,8 +64,8 @@ renew-requires c κs =
     let e = k .before .before in
     let p = placed (e .before) in
     let h = headed p in
-    remove-buildable (start h .pre) (p .place-of .ensures) (e .before .is-at .ensures) (not-false _ (e .if1 .left)) (h .read-header .ensures .0) (h .read-header .ensures .1 .0)
-    (k .take-key .ensures) (k .take-key .kept .0)
+    remove-buildable (start h .pre) (p .place-of .ensures) (e .before .is-at .ensures) (not-false _ (e .if1 .left)) (h .read-header .ensures .0)
+    (h .read-header .ensures .1 .0) (k .take-key .ensures) (k .take-key .kept .0)
 
 same-length-3 : tie.Need-same-length-3
 same-length-3 c = search needs
@@ -80,8 +80,10 @@ returns-2 c =
     let e = k .before .before in
     let p = placed (e .before) in
     let h = headed p in
-    remove-renewed (start h .pre) (p .place-of .ensures) (e .before .is-at .ensures) (not-false _ (e .if1 .left)) (h .read-header .ensures .0) (h .read-header .ensures .1 .0)
-    (k .take-key .ensures) (k .take-key .kept .0) (w .renew .ensures)
+    remove-renewed (start h .pre) (p .place-of .ensures) (e .before .is-at .ensures) (not-false _ (e .if1 .left)) (h .read-header .ensures .0)
+    (h .read-header .ensures .1 .0) (k .take-key .ensures) (k .take-key .kept .0) (w .renew .ensures)
 
 pub remove-key-spec : {M : Type 1} → statement M
-remove-key-spec = tie.close (tie.spec read-header-requires place-of-requires is-at-requires same-length same-length-2 returns take-key-requires sub-renew renew-requires same-length-3 same-length-4 returns-2)
+remove-key-spec =
+    tie.close (tie.spec read-header-requires place-of-requires is-at-requires same-length same-length-2 returns take-key-requires sub-renew
+    renew-requires same-length-3 same-length-4 returns-2)

@@ -110,4 +110,6 @@ returns-3 c =
     (m .matches-built .ensures) (c .if1 .left)
 
 pub read-set-spec : {M : Type 1} → statement M
-read-set-spec = tie.close (tie.spec read-header-requires collect-keys-requires write-edges-requires build-requires enum-known-count enum-told same-length returns matches-built-requires same-length-2 returns-2 same-length-3 returns-3)
+read-set-spec =
+    tie.close (tie.spec read-header-requires collect-keys-requires write-edges-requires build-requires enum-known-count enum-told same-length returns
+    matches-built-requires same-length-2 returns-2 same-length-3 returns-3)

@@ -71,4 +71,6 @@ returns-2 c =
     renew-made (h .0) (h .1 .0) (p .1) (p .0) (b .build .kept .0) (b .build .ensures) (q .count .given .1) (w .write-built .ensures)
 
 pub renew-spec : {M : Type 1} → statement M
-renew-spec = tie.close (tie.spec read-header-requires build-requires enum-known-count enum-told same-length same-length-2 returns cast-t14 write-built-requires same-length-3 same-length-4 returns-2)
+renew-spec =
+    tie.close (tie.spec read-header-requires build-requires enum-known-count enum-told same-length same-length-2 returns cast-t14 write-built-requires
+    same-length-3 same-length-4 returns-2)

@@ -36,4 +36,5 @@ returns c =
     part-lent (d .scratch .now) (held-at (d .r) (d .s)) (2 * d .r + d .n) (h .held-start .ensures) (omega (arith, c .before .edges-start .ensures))
 
 pub graph-part-spec : {M : Type 1} → statement M
-graph-part-spec = tie.close (tie.spec held-start-requires edges-start-requires add-end mul-result sub-result part-result-start part-result-end returns)
+graph-part-spec =
+    tie.close (tie.spec held-start-requires edges-start-requires add-end mul-result sub-result part-result-start part-result-end returns)

@@ -32,4 +32,5 @@ returns c =
     rw (g .graph-part .ensures, n .next-part .ensures, s .stash-part .ensures) at (c .matches .ensures)
 
 pub matches-built-spec : {M : Type 1} → statement M
-matches-built-spec = tie.close (tie.spec graph-part-requires next-part-requires stash-part-requires matches-requires returns)
+matches-built-spec =
+    tie.close (tie.spec graph-part-requires next-part-requires stash-part-requires matches-requires returns)

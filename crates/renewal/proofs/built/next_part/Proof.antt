@@ -37,4 +37,5 @@ returns c =
     (omega (arith, h .next-start .ensures, c .before .held-start .ensures))
 
 pub next-part-spec : {M : Type 1} → statement M
-next-part-spec = tie.close (tie.spec next-start-requires held-start-requires add-end mul-result sub-result part-result-start part-result-end returns)
+next-part-spec =
+    tie.close (tie.spec next-start-requires held-start-requires add-end mul-result sub-result part-result-start part-result-end returns)

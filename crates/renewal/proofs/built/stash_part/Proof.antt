@@ -35,4 +35,5 @@ returns c =
     part-lent (d .scratch .now) (stashed-at (d .r) (d .s)) (d .s) (h .stashed-start .ensures) (omega (arith, h .stashed-start .ensures, c .before .wide .ensures))
 
 pub stash-part-spec : {M : Type 1} → statement M
-stash-part-spec = tie.close (tie.spec stashed-start-requires wide-requires add-end mul-result sub-result part-result-start part-result-end returns)
+stash-part-spec =
+    tie.close (tie.spec stashed-start-requires wide-requires add-end mul-result sub-result part-result-start part-result-end returns)

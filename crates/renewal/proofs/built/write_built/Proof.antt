@@ -46,4 +46,5 @@ returns c =
     rw (g .graph-part .ensures, n .next-part .ensures, s .stash-part .ensures, g .before .wide .ensures) at (i .write-image .ensures)
 
 pub write-built-spec : {M : Type 1} → statement M
-write-built-spec = tie.close (tie.spec wide-requires graph-part-requires next-part-requires stash-part-requires write-image-requires same-length returns)
+write-built-spec =
+    tie.close (tie.spec wide-requires graph-part-requires next-part-requires stash-part-requires write-image-requires same-length returns)

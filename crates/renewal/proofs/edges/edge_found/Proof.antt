@@ -43,8 +43,9 @@ returns c =
     let f = c .before in
     let s = f .before .before in
     let d = start s in
-    edge-made (d .args .tabulation .now) (d .args .words .now) (d .args .key) (d .pre .1 .1) (s .before .first-slot .ensures) (s .second-slot .ensures) (f .before .tier-at .ensures)
-    (f .fitting .ensures) (c .pack .ensures)
+    edge-made (d .args .tabulation .now) (d .args .words .now) (d .args .key) (d .pre .1 .1) (s .before .first-slot .ensures) (s .second-slot .ensures)
+    (f .before .tier-at .ensures) (f .fitting .ensures) (c .pack .ensures)
 
 pub edge-found-spec : {M : Type 1} → statement M
-edge-found-spec = tie.close (tie.spec first-slot-requires second-slot-requires tier-at-requires fitting-requires pack-requires returns)
+edge-found-spec =
+    tie.close (tie.spec first-slot-requires second-slot-requires tier-at-requires fitting-requires pack-requires returns)

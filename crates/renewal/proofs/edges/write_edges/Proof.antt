@@ -76,4 +76,6 @@ returns c =
     collected-listed (start l .pre) (began l .edges-start .ensures) (rw e at (l .loop .inv .1))
 
 pub write-edges-spec : {M : Type 1} → statement M
-write-edges-spec = tie.close (tie.spec Inv-loop μ-loop edges-start-requires loop-holds add-key mul-key slice-read-key edge-found-requires add-scratch mul-scratch slice-write-scratch add-i loop-less loop-again same-length returns)
+write-edges-spec =
+    tie.close (tie.spec Inv-loop μ-loop edges-start-requires loop-holds add-key mul-key slice-read-key edge-found-requires add-scratch mul-scratch
+    slice-write-scratch add-i loop-less loop-again same-length returns)

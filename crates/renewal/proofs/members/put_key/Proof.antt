@@ -37,7 +37,10 @@ returns c =
     let a = b .before .before .before .before in
     let h = a .before .before in
     let d = h .before .before .before .before .args in
-    put-both (d .r) (d .s) (d .n) (d .at) (d .scratch .now) (h .edges-start .ensures) (d .key) (h .before .edge-given .ensures) (a .open-at .ensures) (b .open-at2 .ensures)
+    put-both (d .r) (d .s) (d .n) (d .at) (d .scratch .now) (h .edges-start .ensures) (d .key) (h .before .edge-given .ensures)
+    (a .open-at .ensures) (b .open-at2 .ensures)
 
 pub put-key-spec : {M : Type 1} → statement M
-put-key-spec = tie.close (tie.spec edge-given-requires edges-start-requires add-open-at add-open-at-2 open-at-requires add-open-at-3 add-open-at-4 open-at-requires-2 same-length returns)
+put-key-spec =
+    tie.close (tie.spec edge-given-requires edges-start-requires add-open-at add-open-at-2 open-at-requires add-open-at-3 add-open-at-4
+    open-at-requires-2 same-length returns)

@@ -37,4 +37,6 @@ returns c =
     taken-both (d .r) (d .s) (d .n) (d .at) (d .scratch .now) (h .edges-start .ensures) (a .close-at .ensures) (b .close-at2 .ensures)
 
 pub take-key-spec : {M : Type 1} → statement M
-take-key-spec = tie.close (tie.spec edges-start-requires add-close-at add-close-at-2 close-at-requires add-close-at-3 add-close-at-4 close-at-requires-2 same-length returns)
+take-key-spec =
+    tie.close (tie.spec edges-start-requires add-close-at add-close-at-2 close-at-requires add-close-at-3 add-close-at-4 close-at-requires-2
+    same-length returns)

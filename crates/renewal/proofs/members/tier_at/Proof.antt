@@ -22,4 +22,5 @@ returns : tie.Need-returns
 returns c = rw (c .before .before .edges-start .ensures) at (c .edge-tier .ensures)
 
 pub tier-at-spec : {M : Type 1} → statement M
-tier-at-spec = tie.close (tie.spec edges-start-requires add-edge-tier mul-edge-tier shared-slice-read-edge-tier edge-tier-requires returns)
+tier-at-spec =
+    tie.close (tie.spec edges-start-requires add-edge-tier mul-edge-tier shared-slice-read-edge-tier edge-tier-requires returns)
