@@ -1,10 +1,10 @@
 -- What a pass asks of scratch, and the parts of scratch as code reads, writes and lends them. Each law says that the parts are as they were but for one,
 -- so that the passes are followed part by part. Assumes nothing.
 use Prim.Native.Nat.{ℕ, suc, _+_, _*_, _-_, _≤_, _<_}
-use mathlib.Core.Path.{_≡_, refl, sym, _∙_, ap}
+use mathlib.Core.Path.{_≡_, _∙_, ap}
 use mathlib.Core.List.{List, _++_, append-assoc}
 use native.Mathlib.Omega.{arith}
-use lib.ListN.{length, getD, set, take, drop, length-set, length-append, length-take, length-drop, take-append-drop}
+use lib.ListN.{length, getD, set, drop, length-set, length-append, length-take, length-drop, take-append-drop}
 use borrow.Rule.Slice.PartMut.{midOf, putMid}
 use Rattle.forest.specs.Edges.{edge-at}
 use Rattle.forest.specs.Graph.{held-in, edges-in, with-held, edges-length, edge-word}

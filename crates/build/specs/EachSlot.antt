@@ -45,10 +45,6 @@ each-slot-at f (suc n) v words u l k fit =
       | inr ne ↦ each-slot-at f n (suc v) (set words v x) u (omega arith) (omega arith) (omega arith) ∙ ap (f u) (getD-set-other words v u x 0 ne)
     ]
 
--- all slots, 0 to m − 1
-pub all-slots-at : (f : ℕ → ℕ → ℕ) (m : ℕ) (words : List ℕ) → length words ≡ m → (u : ℕ) → u < m → getD (each-slot f m 0 words) u 0 ≡ f u (getD words u 0)
-all-slots-at f m words sz u l = each-slot-at f m 0 words u (omega arith) (omega arith) (omega arith)
-
 -- f v, f (v + 1), ..: n of them
 unfoldable pub listed : (ℕ → ℕ) → ℕ → ℕ → List ℕ
 listed f zero v = []
@@ -65,7 +61,7 @@ listed-at f zero v i l = absurd (omega arith)
 listed-at f (suc n) v zero l = let e : v + 0 ≡ v = omega arith in rw e
 listed-at f (suc n) v (suc i) l = let e : v + suc i ≡ suc v + i = omega arith in rw e (listed-at f n (suc v) i (omega arith))
 
-pub listed-slot : (f : ℕ → ℕ) (m v : ℕ) → v < m → getD (listed f m 0) v 0 ≡ f v
+listed-slot : (f : ℕ → ℕ) (m v : ℕ) → v < m → getD (listed f m 0) v 0 ≡ f v
 listed-slot f m v l = let e : 0 + v ≡ v = omega arith in rw (listed-at f m 0 v l, e)
 
 -- a list of m words is the list of what they are

@@ -19,7 +19,7 @@ use Rattle.cuckoo.specs.Seating.{Ends, occupant-from}
 use Rattle.forest.specs.Oriented.{OrientedForest, Oriented, end-near, recast}
 use Rattle.forest.specs.Finish.{Finished, Spanned, TreeComponent, CycleComponent, finish-tree, finish-cycle, finishes-tree, finishes-cycle}
 use Rattle.build.specs.Labels.{Labels, Words, label-fit, same-label}
-use Rattle.build.specs.Notes.{pair, Noting, Going, Seen, none-yet, one-seen, Lows, Smallest, empty, rank, smallest-of, split-pair}
+use Rattle.build.specs.Notes.{pair, Noting, Going, none-yet, one-seen, Lows, Smallest, empty, rank, smallest-of, split-pair}
 
 -- the m held words are the occupants of the slots
 pub record Occupied (a b : ℕ → ℕ) (T : List ℕ) (m : ℕ) (held : List ℕ) : Type 0 where

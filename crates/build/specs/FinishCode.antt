@@ -1,18 +1,16 @@
 -- Step 5 over the parts of scratch: what the functions of seating/src/finish.rt leave there, and why each call and each turn of their loop is one step of the
 -- pass on lists (Finish). Assumes nothing.
-use Prim.Native.Nat.{ℕ, zero, suc, _*_, _+_, _%_, _/_, _<_, _≤_}
+use Prim.Native.Nat.{ℕ, zero, suc, _*_, _%_, _/_, _<_, _≤_}
 use mathlib.Core.Path.{_≡_, refl, sym, _∙_, ap}
 use mathlib.Core.List.{List, [], _∷_, _++_}
 use mathlib.Core.Logic.{inl, inr}
-use mathlib.Core.Bool.{Bool, true, false, cond}
 use native.Mathlib.Omega.{arith}
 use lib.Dec.{eqb, ltb}
-use lib.ListN.{length, getD, set, length-set}
-use borrow.Author.Tests.{eq-eqb, ne-eqb, lt-ltb, le-ltb, ltb-true, le-ltb}
-use Rattle.basics.specs.Tests.{test, eq?, le?}
+use lib.ListN.{length, getD}
+use borrow.Author.Tests.{eq-eqb, ne-eqb, lt-ltb, le-ltb, le-ltb}
+use Rattle.basics.specs.Tests.{test, le?}
 use Rattle.cuckoo.specs.Renaming.{from, ranks, ranks-more}
 use Rattle.forest.specs.Edges.{end-0, end-1, other-end}
-use Rattle.forest.specs.Reroot.{reroot}
 use Rattle.forest.specs.Finish.{finish-tree, finish-cycle, exchange, length-finish-tree, length-finish-cycle}
 use Rattle.forest.specs.Graph.{Graph, Fit, held-in, edges-in, with-held, fit-set, fit-reroot, held-long, held-with, drop-with, edges-with, graph-with, with-own}
 use Rattle.forest.specs.Graph.{finished-tree, finished-cycle}

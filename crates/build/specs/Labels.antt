@@ -1,6 +1,6 @@
 -- Step 2 of the build: to the word of each rank the label of its component is added, the representative of its slot in table 0. So the word of a rank of
 -- the forest is its label, and that of any other m more. Assumes nothing.
-use Prim.Native.Nat.{ℕ, suc, _+_, _<_, _≤_}
+use Prim.Native.Nat.{ℕ, _+_, _<_, _≤_}
 use mathlib.Core.Path.{_≡_}
 use mathlib.Core.List.{List, List·Memᴰ as In}
 use native.Mathlib.Omega.{arith}

@@ -1,19 +1,19 @@
 -- Steps 1 and 2 over the parts of scratch: what the functions of linking/src/lib.rt leave there, and why each call and each turn of their loops is one step of
 -- the passes on lists (Link, Labels). Assumes nothing.
-use Prim.Native.Nat.{ℕ, zero, suc, _*_, _+_, _-_, _<_, _≤_}
+use Prim.Native.Nat.{ℕ, suc, _*_, _+_, _-_, _<_, _≤_}
 use mathlib.Core.Path.{_≡_, refl, sym, _∙_, ap}
 use mathlib.Core.List.{List, [], _∷_, _++_, List·Memᴰ as In, List·Memᴰ·head as here, List·Memᴰ·tail as there}
 use mathlib.Core.Logic.{inl, inr}
 use mathlib.Core.Bool.{cond}
 use native.Mathlib.Omega.{arith}
 use lib.Dec.{eqb, ltb}
-use lib.ListN.{length, getD, replicate, drop, length-replicate, length-append, set}
-use lib.Seq.{take-at, drop-at, getD-set-other}
+use lib.ListN.{length, getD, replicate, length-replicate, length-append, set}
+use lib.Seq.{getD-set-other}
 use borrow.Author.Tests.{eq-eqb, ne-eqb}
 use Rattle.basics.specs.Tests.{test}
 use Rattle.cuckoo.specs.Renaming.{from, ranks, ranks-more, from-in}
-use Rattle.forest.specs.Edges.{Edges, edge-at, first-of, second-of, end-0, end-1, other-end, ends-fit, ends-turn}
-use Rattle.forest.specs.Graph.{Graph, Fit, held-in, edges-in, with-held, rerooted, fit-set, fit-reroot, held-with, drop-with, edges-with, edges-length, graph-with, with-own}
+use Rattle.forest.specs.Edges.{Edges, end-0, end-1, other-end, ends-fit, ends-turn}
+use Rattle.forest.specs.Graph.{Graph, Fit, held-in, edges-in, with-held, rerooted, fit-reroot, held-with, drop-with, edges-with, edges-length, graph-with, with-own}
 use Rattle.forest.specs.Link.{getD-zeros}
 use Rattle.partition.specs.Words.{Representative, Mergeable, rep-of, size-of, united, singletons-of}
 use Rattle.partition.specs.Partition.{rep-marked, mergeable}

@@ -6,10 +6,10 @@ use mathlib.Core.Bool.{cond}
 use mathlib.Core.Logic.{inl, inr}
 use mathlib.Core.List.{List, [], _∷_, List·Memᴰ as In, List·Memᴰ·head as here, List·Memᴰ·tail as there}
 use native.Mathlib.Omega.{arith}
-use lib.Dec.{eqb, ltb}
+use lib.Dec.{ltb}
 use lib.ListN.{length, getD, set, length-set}
 use lib.Seq.{getD-set-same, getD-set-other}
-use borrow.Author.Tests.{eq-eqb, ne-eqb, lt-ltb, le-ltb}
+use borrow.Author.Tests.{ne-eqb, lt-ltb, le-ltb}
 use Rattle.cuckoo.specs.Graph.{seated, occupant, next, slot-key, slot-next}
 use Rattle.basics.specs.Tests.{eq?, le?}
 use Rattle.basics.specs.Sets.{in?, Sub, Asc, some}
@@ -17,7 +17,7 @@ use Rattle.cuckoo.specs.Settling.{seated-asc, seated-sub, seated-forest}
 use Rattle.cuckoo.specs.Seating.{occupant-from}
 use Rattle.cuckoo.specs.Next.{larger, around, next-is}
 use Rattle.build.specs.Labels.{Labels, label-fit, same-label, label-joined}
-use Rattle.build.specs.Notes.{pair, lows, lows-length, lows-least, found, none-of, Placed, Smallest, empty, rank}
+use Rattle.build.specs.Notes.{pair, lows, lows-least, found, none-of, Placed, Smallest, empty, rank}
 use Rattle.build.specs.Finish.{Occupied, down, raise}
 
 -- the notes, and the words of the ranks, each a label or already a next rank

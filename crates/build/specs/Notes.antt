@@ -6,14 +6,14 @@ use mathlib.Core.Bool.{Bool, true, false, cond, not}
 use mathlib.Core.Logic.{inl, inr}
 use mathlib.Core.List.{List, [], _∷_, _++_, List·Memᴰ as In, List·Memᴰ·head as here, List·Memᴰ·tail as there}
 use native.Mathlib.Omega.{arith}
-use lib.Dec.{eqb, ltb}
+use lib.Dec.{ltb}
 use lib.ListN.{length, getD, set, length-set, drop, replicate, length-replicate}
 use lib.Seq.{sets, sets-eq, getD-set-same, getD-set-other}
 use borrow.Author.Tests.{lt-ltb, le-ltb}
 use Rattle.basics.specs.Sets.{member, keep}
 use Rattle.cuckoo.specs.Graph.{seated, stash}
 use Rattle.basics.specs.Tests.{eq?, le?}
-use Rattle.basics.specs.Sets.{in?, Sub, Asc, some, in-member, no-member, below, below-in, below-lt, out-sub, out-in}
+use Rattle.basics.specs.Sets.{in?, Sub, Asc, some, in-member, no-member, below, below-in, below-lt, out-sub}
 use Rattle.cuckoo.specs.Joined.{Joined, jsym, jrefl, mono}
 use Rattle.cuckoo.specs.Forest.{forest, forest-in, spans-key, acyclic}
 use Rattle.cuckoo.specs.Settling.{seated-forest, seated-is, is-seated, tree, smallest}

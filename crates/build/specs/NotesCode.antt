@@ -1,6 +1,6 @@
 -- Steps 3 and 4 over the parts of scratch: what the functions of noting/src/lib.rt leave there, and why each call and each turn of their loops is one step of
 -- the passes on lists (Notes). Assumes nothing.
-use Prim.Native.Nat.{ℕ, zero, suc, _*_, _+_, _-_, _<_, _≤_}
+use Prim.Native.Nat.{ℕ, suc, _*_, _+_, _-_, _<_, _≤_}
 use mathlib.Core.Path.{_≡_, refl, sym, _∙_, ap}
 use mathlib.Core.List.{List, [], _∷_, _++_}
 use mathlib.Core.Logic.{inl, inr}

@@ -1,25 +1,23 @@
 -- The whole build over the parts of scratch: the passes one after the other, what has to hold before each, and that they leave what Build.antt says.
 -- Assumes nothing.
-use Prim.Native.Nat.{ℕ, suc, _*_, _+_, _-_, _/_, _<_, _≤_}
+use Prim.Native.Nat.{ℕ, suc, _*_, _-_, _<_, _≤_}
 use mathlib.Core.Path.{_≡_, refl, sym, _∙_, ap, subst}
 use mathlib.Core.List.{List, [], _∷_, _++_}
-use mathlib.Core.Bool.{Bool, true, false, cond}
-use mathlib.Core.Logic.{inl, inr}
+use mathlib.Core.Bool.{true, false, cond}
 use native.Mathlib.Omega.{arith}
 use lib.ListN.{length, getD, replicate}
 use Rattle.basics.specs.Tests.{zero-one}
 use Rattle.cuckoo.specs.Graph.{stash, slot-key, slot-next}
-use Rattle.cuckoo.specs.Renaming.{from, ranks}
+use Rattle.cuckoo.specs.Renaming.{ranks}
 use Rattle.forest.specs.Edges.{Edges, end-0, end-1, other-end, ends-fit, ends-turn, ends-apart}
-use Rattle.forest.specs.Graph.{Graph, held-in, edges-in, with-held, held-with, edges-with, edges-length}
-use Rattle.refusals.specs.Refusal.{done, stash-full}
+use Rattle.forest.specs.Graph.{Graph, held-in, edges-in, held-with, edges-with, edges-length}
 use Rattle.build.specs.EachSlot.{listed}
 use Rattle.build.specs.Link.{Linking}
-use Rattle.build.specs.Notes.{Noting, noted, nothing-noted, pair}
+use Rattle.build.specs.Notes.{Noting, pair}
 use Rattle.build.specs.Built as Built
-use Rattle.build.specs.Scratch.{Parts, parts, PartsSized, with-stash, with-sets, with-next, with-graph}
-use Rattle.build.specs.Access.{Enough, parts-fit, edges-count}
-use Rattle.build.specs.LinkCode.{Linkable, Marks, linked-parts, labelled-parts, ranks-linked, unlinked-parts, start-linkable, start-all, start-edges, after-linkable}
+use Rattle.build.specs.Scratch.{Parts, parts, PartsSized}
+use Rattle.build.specs.Access.{Enough, parts-fit}
+use Rattle.build.specs.LinkCode.{Marks, linked-parts, labelled-parts, unlinked-parts, start-linkable, start-all, start-edges, after-linkable}
 use Rattle.build.specs.NotesCode.{cleared-parts, smallest-parts, Labelled, with-noting, ranks-noted, answer, ranks-told, overflow-told}
 use Rattle.build.specs.FinishCode.{Finishable, ranks-finished, finished-edges, finished-held}
 use Rattle.build.specs.NextCode.{chained-parts}

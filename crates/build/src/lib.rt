@@ -1,6 +1,6 @@
-// From ascending keys to the canonical image, as definitions and theorems: the passes on lists, that they give what
-// `cuckoo` defines, and how they lie in scratch. The code is in `linking` (steps 1 and 2), `noting` (step 3) and
-// `seating` (steps 4 and 5, and the whole).
+// From ranks and their edges to the canonical image, as definitions and theorems: the passes on lists, that they give
+// what `cuckoo` defines, and how they lie in scratch. The code is in `parts` (the words of scratch), `linking` (steps 1
+// and 2), `noting` (steps 3 and 4) and `seating` (steps 5 and 6, and the whole).
 
 // How many ranks the stash has, or that there is no room for one more.
 pub enum StashCount {

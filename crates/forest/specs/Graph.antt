@@ -3,18 +3,15 @@
 -- Assumes nothing.
 use Prim.Native.Nat.{ℕ, zero, suc, _+_, _*_, _-_, _<_, _≤_}
 use mathlib.Core.Path.{_≡_, refl, sym, _∙_, ap}
-use mathlib.Core.Bool.{cond}
 use mathlib.Core.Logic.{inl, inr}
 use mathlib.Core.List.{List, [], _∷_, _++_}
 use native.Mathlib.Omega.{arith}
-use lib.Dec.{ltb}
-use lib.ListN.{length, getD, set, take, drop, length-append, length-take, length-drop, length-set, List·getD-append, take-append-drop}
+use lib.ListN.{length, getD, set, take, drop, length-append, length-take, length-drop, length-set, take-append-drop}
 use lib.Seq.{getD-take, getD-drop, getD-set-same, getD-set-other, set-out, take-at, drop-at, take-set-lt, drop-set-lt, length-front}
-use borrow.Author.Tests.{lt-ltb, le-ltb}
-use Rattle.basics.specs.Tests.{test, eq?, le?}
-use Rattle.forest.specs.Edges.{Edges, edge-at, edge-read, end-0, end-1, other-end, ends-fit}
+use Rattle.basics.specs.Tests.{eq?, le?}
+use Rattle.forest.specs.Edges.{Edges, edge-at, edge-read, end-0, end-1, other-end}
 use Rattle.forest.specs.Reroot.{reroot, reroot-none, reroot-stop, reroot-step, length-reroot}
-use Rattle.forest.specs.Way.{lowest-slot, lowest-none, lowest-stop, lowest-step}
+use Rattle.forest.specs.Way.{lowest-slot}
 use Rattle.forest.specs.Finish.{finish-tree, exchange, finish-cycle}
 
 -- what the slots hold
@@ -194,14 +191,6 @@ module _ {r : ℕ} {before : List ℕ} (G : Graph r before) where
     -- words with these held words
     pub kept-with : {h : List ℕ} → held-in r after ≡ h → after ≡ with-held r before h
     kept-with {h} e = sym (take-append-drop (2 * r) after) ∙ (rw (e, K .same))
-
-  -- the same for words that are told by their held words
-  pub with-kept : (h : List ℕ) → length h ≡ 2 * r → Fit (length (edges-in r before)) h → Kept r before (with-held r before h)
-  with-kept h size F = record {
-    size = length-front before h (2 * r) (size ∙ sym (held-long G));
-    same = drop-with r before h size;
-    fit = rw (held-with r before h size) F;
-  }
 
 -- The calls of `exchange` and of `finish_cycle`, one after the other.
 module _ {r : ℕ} {g : List ℕ} (G : Graph r g) (rank : ℕ) (some : rank < length (edges-in r g)) where

@@ -10,14 +10,12 @@
 -- It is a forest with parent pointers, where a key is the pointer, since a key knows its two slots. Assumes nothing.
 use Prim.Native.Nat.{ℕ, zero, suc, _<_, _≤_}
 use mathlib.Core.Path.{_≡_, refl, sym, _∙_, ap}
-use mathlib.Core.Bool.{Bool, true, false, _||_, or-true}
+use mathlib.Core.Bool.{_||_}
 use mathlib.Core.Logic.{_⊎_, inl, inr}
 use mathlib.Core.List.{List, _∷_, List·Memᴰ as In, List·Memᴰ·head as here, List·Memᴰ·tail as there}
 use native.Mathlib.Omega.{arith}
-use lib.Dec.{eqb}
 use lib.ListN.{length, getD, set, List·getD-eq-default}
 use lib.Seq.{getD-set-same, getD-set-other, set-out}
-use borrow.Author.Tests.{eq-eqb, ne-eqb}
 use Rattle.basics.specs.Tests.{eq?, le?}
 use Rattle.basics.specs.Sets.{without, Sub, out-in, in-out, out-ne, around, out-sub, out-shorter, in-length}
 use Rattle.cuckoo.specs.Joined.{Joined, past, along, back, jrefl, jsym, jtrans, edge, mono, split, confine}
@@ -67,10 +65,6 @@ module _ (a b : ℕ → ℕ) where
   pub record OrientedForest (F h : List ℕ) : Type 0 where
     pub forest : Forest F
     pub each : (p : ℕ) → Oriented F h p
-
-  -- whether a key stands in one of its slots
-  unfoldable pub standing : List ℕ → ℕ → Bool
-  standing h c = eqb (getD h (a c) 0) c || eqb (getD h (b c) 0) c
 
   -- The key c of F stands in slot v and leads to w: without c these two are apart, and c stands in no other slot of the tree.
   pub record Leads (F h : List ℕ) (c v : ℕ) : Type 0 where
@@ -339,19 +333,3 @@ module _ {a b : ℕ → ℕ} where
     | inl e ↦ e
     | inr n ↦ absurd (omega (arith, in-length (o .own v (getD h v 0) jrefl refl n .mem)))
   ]
-
-  -- `standing` tells the keys of the forest
-  pub standing-true : {F h : List ℕ} {c : ℕ} → OrientedForest a b F h → In c F → standing a b h c ≡ true
-  unfolding standing
-  standing-true {F} {h} {c} W i =
-      let s = W .each (a c) .stands c i jrefl in
-      elim (s .ends) [
-        | from-a p q ↦ rw (eq-eqb (getD h (a c) 0) c (rw p at (s .at)))
-        | from-b p q ↦ rw (eq-eqb (getD h (b c) 0) c (rw p at (s .at)), or-true)
-      ]
-
-  pub standing-false : {F h : List ℕ} {c : ℕ} → OrientedForest a b F h → (c ≡ 0 → ⊥) → (In c F → ⊥) → standing a b h c ≡ false
-  unfolding standing
-  standing-false {F} {h} {c} W nz n =
-      let no-at : (v : ℕ) → getD h v 0 ≡ c → ⊥ = λ v e. n (W .each v .own v c jrefl e nz .mem) in
-      rw (ne-eqb (getD h (a c) 0) c (no-at (a c)), ne-eqb (getD h (b c) 0) c (no-at (b c)))

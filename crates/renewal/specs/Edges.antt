@@ -1,6 +1,6 @@
 -- The edge of a key: one word with its two slots and its tier, as the build and `codec` read it. And a set in scratch: its keys, each at its rank, and their
 -- edges. The definitions come first; the laws say that such a set can be built, and that its ranks have the slots of its keys. Assumes nothing.
-use Prim.Native.Nat.{ℕ, zero, suc, _+_, _*_, _-_, _/_, _≤_, _<_}
+use Prim.Native.Nat.{ℕ, zero, suc, _+_, _*_, _/_, _≤_, _<_}
 use mathlib.Core.Path.{_≡_, refl, sym, _∙_, ap}
 use mathlib.Core.Bool.{cond}
 use mathlib.Core.Logic.{inl, inr}

@@ -1,5 +1,4 @@
 -- `forest::exchange` meets its contract: the two calls one after the other, over edges that stay.
-use native.Mathlib.Omega.{arith}
 use mathlib.Core.Path.{_∙_}
 use Rattle.forest.specs.Graph.{Kept, kept-start, kept-graph, kept-rank, kept-edges, turned, taken, exchange-done}
 use borrow.Author.Needs.{needs}

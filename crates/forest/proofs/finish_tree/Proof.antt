@@ -1,5 +1,4 @@
 -- `forest::finish_tree` meets its contract, which is that of the one call.
-use native.Mathlib.Omega.{arith}
 use Rattle.forest.specs.Finish.{finish-tree}
 use borrow.Author.Needs.{needs}
 use Rattle.forest.proofs.finish_tree.Statement.{statement}

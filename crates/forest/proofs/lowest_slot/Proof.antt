@@ -6,10 +6,10 @@ use mathlib.Core.Logic.{inl, inr}
 use mathlib.Core.Path.{_≡_, refl, _∙_, sym, ap}
 use native.Mathlib.Numerals.{add-one}
 use lib.Dec.{ltb}
-use lib.ListN.{length, getD}
+use lib.ListN.{getD}
 use borrow.Author.Tests.{lt-ltb, le-ltb}
 use Rattle.forest.specs.Way.{lowest-slot, lowest-none, lowest-stop, lowest-step}
-use Rattle.forest.specs.Graph.{lowest, held-in, edges-in, other-slot, held-word, kept-start, kept-rank}
+use Rattle.forest.specs.Graph.{lowest, held-in, other-slot, held-word, kept-start, kept-rank}
 use borrow.Author.Needs.{needs}
 use Rattle.forest.proofs.lowest_slot.Statement.{statement}
 use Rattle.forest.proofs.lowest_slot.Tie as tie

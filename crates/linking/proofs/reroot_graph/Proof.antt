@@ -1,5 +1,4 @@
 -- `linking::reroot_graph` meets its contract: the graph is lent whole, and comes back re-rooted.
-use native.Mathlib.Omega.{arith}
 use Prim.Native.Nat.{ℕ, _+_}
 use mathlib.Core.Path.{ap}
 use Rattle.forest.specs.Graph.{rerooted}

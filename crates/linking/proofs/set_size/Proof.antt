@@ -1,5 +1,4 @@
 -- `linking::set_size` meets its contract: the sets are lent whole.
-use native.Mathlib.Omega.{arith}
 use Rattle.build.specs.Access.{sets-part, part-lent}
 use borrow.Author.Needs.{needs}
 use Rattle.linking.proofs.set_size.Statement.{statement}

@@ -1,5 +1,4 @@
 -- `linking::unite_sets` meets its contract: the sets are lent whole, and come back united.
-use native.Mathlib.Omega.{arith}
 use Rattle.partition.specs.Words.{united}
 use Rattle.build.specs.Access.{sets-part, part-lent, part-renewed}
 use borrow.Author.Needs.{needs}

@@ -1,6 +1,6 @@
 -- `linking::unlink` meets its contract: the held words are lent and filled, then the sets.
 use native.Mathlib.Omega.{arith}
-use Prim.Native.Nat.{ℕ, _-_}
+use Prim.Native.Nat.{_-_}
 use lib.ListN.{length, replicate}
 use borrow.Rule.Slice.PartMut.{putMid}
 use Rattle.partition.specs.Words.{singletons-of}

@@ -1,6 +1,6 @@
 -- `noting::clear_notes` meets its contract: the sets are lent and filled, then the stash.
 use native.Mathlib.Omega.{arith}
-use Prim.Native.Nat.{ℕ, _-_}
+use Prim.Native.Nat.{_-_}
 use lib.ListN.{length, replicate}
 use borrow.Rule.Slice.PartMut.{putMid}
 use Rattle.build.specs.Access.{Enough, enough-kept, stash-part, sets-part, part-renewed}

@@ -1,7 +1,7 @@
 -- `noting::note_rank` meets its contract: the tests are those of the definition.
 use native.Mathlib.Omega.{arith}
 use Prim.Native.Nat.{ℕ, _+_, _-_, _*_, _<_}
-use mathlib.Core.Path.{_≡_, refl, _∙_, ap}
+use mathlib.Core.Path.{_≡_, refl, _∙_}
 use native.Mathlib.Numerals.{add-one}
 use lib.ListN.{getD, set}
 use Rattle.build.specs.Scratch.{Parts, parts, with-stash, with-sets, with-next}

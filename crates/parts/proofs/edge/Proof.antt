@@ -1,5 +1,4 @@
 -- `parts::edge` meets its contract: the edges stand in the graph, behind the held words.
-use native.Mathlib.Omega.{arith}
 use Rattle.build.specs.Access.{edge-at-word}
 use borrow.Author.Needs.{needs}
 use Rattle.parts.proofs.edge.Statement.{statement}

@@ -1,5 +1,4 @@
 -- `seating::build` meets its contract: the two halves, by the theorem about the whole.
-use native.Mathlib.Omega.{arith}
 use mathlib.Core.Path.{sym, _∙_}
 use Rattle.build.specs.Access.{enough-kept}
 use Rattle.build.specs.Whole.{enough, full-built, mid-finishable, made-built}

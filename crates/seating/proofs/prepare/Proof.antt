@@ -1,5 +1,4 @@
 -- `seating::prepare` meets its contract: the passes one after the other.
-use native.Mathlib.Omega.{arith}
 use mathlib.Core.Path.{_≡_}
 use Rattle.build.specs.Scratch.{Parts, parts}
 use Rattle.build.specs.Access.{enough-kept, parts-fit}

@@ -1,5 +1,4 @@
 -- `seating::seat` meets its contract: one pass after the other.
-use native.Mathlib.Omega.{arith}
 use mathlib.Core.Path.{_∙_, ap}
 use Rattle.build.specs.NextCode.{chained-parts}
 use borrow.Author.Needs.{needs}

@@ -1,5 +1,4 @@
 -- `seating::finish::finish_cycle` meets its contract: the graph is lent whole, and comes back finished.
-use native.Mathlib.Omega.{arith}
 use Prim.Native.Nat.{ℕ, _+_}
 use mathlib.Core.Path.{ap}
 use Rattle.forest.specs.Graph.{finished-cycle}

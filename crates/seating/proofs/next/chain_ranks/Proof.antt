@@ -1,6 +1,6 @@
 -- `seating::next::chain_ranks` meets its contract: the ranks above the present one have their next.
 use native.Mathlib.Omega.{arith}
-use Prim.Native.Nat.{ℕ, _≤_}
+use Prim.Native.Nat.{_≤_}
 use mathlib.Core.Path.{_≡_, _∙_, ap}
 use mathlib.Core.Logic.{inl, inr}
 use lib.ListN.{length}
