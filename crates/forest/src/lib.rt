@@ -1,7 +1,7 @@
-// The oriented forest of ranks, in one lent stretch of words: first a word for each of the 2r slots, the rank that stands
-// there or 0, then the edges of the ranks 1, 2, .. (specs/Graph.antt). Each rank leads from where it stands to its other
-// slot, towards the root of its tree, which is bare (specs/Oriented.antt). The tree of a slot is re-rooted there, and a
-// component is finished: afterwards each of its slots holds its occupant in the canonical image.
+// The oriented forest of ranks, in one lent stretch of words: first a word for each of the 2r slots, the rank that
+// stands there or 0, then the edges of the ranks 1, 2, .. (specs/Graph.antt). Each rank leads from where it stands to
+// its other slot, towards the root of its tree, which is bare (specs/Oriented.antt). The tree of a slot is re-rooted
+// there, and a component is finished: afterwards each of its slots holds its occupant in the canonical image.
 ghost use mathlib.Core.Path.{_≡_};
 ghost use Prim.Native.Nat.{_*_, _<_};
 ghost use lib.ListN.{length};
@@ -118,8 +118,8 @@ fn exchange(graph: &mut [u32], r: u32, rank: u32, low: u32)
     reroot(&mut *graph, r, first, smallest);
 }
 
-// Finishes a component with a cycle, whose one rank outside the forest is `rank`: that comes in for the smallest rank on
-// the cycle.
+// Finishes a component with a cycle, whose one rank outside the forest is `rank`: that comes in for the smallest rank
+// on the cycle.
 pub fn finish_cycle(graph: &mut [u32], r: u32, rank: u32)
     requires { ⌜ Graph r (now graph) × (0 < rank) × (rank < length (edges-in r (now graph))) ⌝ }
     ensures { λ _. ⌜ now (graph .exit) ≡ finished-cycle r (now (graph .entry)) rank ⌝ }

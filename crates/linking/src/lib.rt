@@ -1,5 +1,5 @@
-// Steps 1 and 2 of the build: the ranks are linked into Kruskal's forest, ascending, in the graph and the sets, and each
-// rank gets its label. Every function takes the whole of scratch and lends one part of it.
+// Steps 1 and 2 of the build: the ranks are linked into Kruskal's forest, ascending, in the graph and the sets, and
+// each rank gets its label. Every function takes the whole of scratch and lends one part of it.
 ghost use mathlib.Core.Path.{_≡_};
 ghost use mathlib.Core.Bool.{cond};
 ghost use Prim.Native.Nat.{_*_, _≤_, _<_};

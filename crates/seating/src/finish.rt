@@ -1,5 +1,5 @@
-// Step 5: each component is brought to its seats once, at its smallest rank: a tree by that rank, a cycle by the rank that
-// closes it, which is noted there too.
+// Step 5: each component is brought to its seats once, at its smallest rank: a tree by that rank, a cycle by the rank
+// that closes it, which is noted there too.
 ghost use mathlib.Core.Path.{_≡_};
 ghost use Prim.Native.Nat.{_≤_, _<_};
 ghost use lib.ListN.{length};

@@ -1,5 +1,5 @@
-// Step 6: next ranks, by rank, in one pass. The note of a label is the rank of that label last seen, and at the start the
-// smallest, so that the largest gets the smallest, and each smaller rank the one before it.
+// Step 6: next ranks, by rank, in one pass. The note of a label is the rank of that label last seen, and at the start
+// the smallest, so that the largest gets the smallest, and each smaller rank the one before it.
 ghost use mathlib.Core.Path.{_≡_};
 ghost use Rattle.build.specs.Scratch.{parts};
 ghost use Rattle.build.specs.Access.{Enough};
