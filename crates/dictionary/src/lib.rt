@@ -6,6 +6,7 @@ ghost use Rattle.dictionary.specs.Core.{Settable, Decided, Left};
 ghost use Rattle.outcome.specs.Outcome.{change-outcome, check-outcome};
 ghost use Rattle.outcome.specs.declared.Change.the-variants.{Insert, Remove};
 use access::MAX_TIER;
+use layout::Found;
 use outcome::Change;
 use refusals::BLANK_KEY;
 use refusals::KEY_ABSENT;
@@ -18,6 +19,7 @@ use renewal::Reading;
 use renewal::clear;
 use renewal::early;
 use renewal::members::is_at;
+use renewal::members::look;
 use renewal::members::place_of;
 use renewal::members::put_key;
 use renewal::members::take_key;
@@ -64,11 +66,14 @@ fn remove_key(tabulation: &[u16], words: &mut [u32], scratch: &mut [u32], n: usi
     ensures { λ a. ⌜ Decided Remove (now (tabulation .entry)) (now (words .entry)) key a (now (words .exit)) ⌝ }
 {
     let header = access::read_header(&*words);
+    let r = header.slots;
+    let s = header.places;
     let at = place_of(&*scratch, n, key);
-    if !is_at(&*scratch, n, at, key) {
+    let found = look(&*scratch, r, s, n, at, key);
+    let Found::Listed(_) = found else {
         return KEY_ABSENT;
-    }
-    take_key(&mut *scratch, header.slots, header.places, n, at);
+    };
+    take_key(&mut *scratch, r, s, n, at);
     renew(&mut *words, &mut *scratch, n - 1)
 }
 

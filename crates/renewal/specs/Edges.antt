@@ -24,7 +24,7 @@ use Rattle.build.specs.Build.{edges-of, Built, Buildable}
 use Rattle.build.specs.declared.StashCount.{StashCount}
 use Rattle.codec.specs.Ranks.{tier-unit}
 
--- A tier above 7 does not fit into an edge. 0 stands for it: the words have the large one, so that they are never the image with 0.
+-- No set has a tier above 7. In an edge 0 stands for it: the words have the large one, so that they are never the image with 0.
 abbrev pub small-tier : ℕ → ℕ
 small-tier tier = cond (ltb max-tier tier) 0 tier
 

@@ -1,21 +1,26 @@
 -- A set in scratch, its keys and their edges: two columns that move together. Where a key stands in it, its tier, and the set with a key put in or taken out. The
 -- definitions come first: contracts cite them. Assumes nothing.
 use Prim.Native.Nat.{ℕ, _+_, _*_, _-_, _/_, _≤_, _<_}
-use mathlib.Core.Path.{_≡_, sym, _∙_, ap}
-use mathlib.Core.Bool.{false}
-use mathlib.Core.List.{List, _∷_, _++_, map, map-append, List·Memᴰ as In}
+use mathlib.Core.Path.{_≡_, refl, sym, _∙_, ap}
+use mathlib.Core.Bool.{Bool, true, false, cond}
+use mathlib.Core.Logic.{inl, inr}
+use mathlib.Core.List.{List, [], _∷_, _++_, map, map-append, List·Memᴰ as In}
 use native.Mathlib.Omega.{arith}
 use native.Mathlib.Numerals.{add-one}
 use lib.Dec.{eqb}
 use lib.ListN.{length, getD, take, drop, length-take, length-drop}
 use lib.Seq.{take-take, drop-drop, drop-at, take-add, take-append-le, getD-take, getD-drop, length-take-le}
-use Rattle.basics.specs.Sets.{member, Asc, without}
+use Rattle.basics.specs.Tests.{test, zero-one}
+use Rattle.basics.specs.Sets.{member, member-in, first, Asc, without}
 use Rattle.basics.specs.Lists.{at-map, map-same, map-take, map-drop}
 use Rattle.ordered.specs.Keys.{rank-of, with-key}
 use Rattle.ordered.specs.Place.{rank-le, rank-found, member-at, member-past, with-parts, without-parts, length-with, length-without}
 use Rattle.ordered.specs.Shift.{opened, closed, opened-column, closed-column, opened-length, closed-length, opened-behind, closed-behind}
 use Rattle.layout.specs.Layout.{Params, family}
 use Rattle.layout.specs.Shape.{Sized}
+use Rattle.layout.specs.Answers.{values}
+use Rattle.layout.specs.declared.Found.{Found}
+use Rattle.layout.specs.declared.Found.the-variants.{Listed, Absent, Refused}
 use Rattle.build.specs.Scratch.{edges-at, used}
 use Rattle.codec.specs.Ranks.{tier-unit}
 use Rattle.renewal.specs.Edges.{edge-with, edge-of, Lined, edge-tier}
@@ -23,6 +28,10 @@ use Rattle.renewal.specs.Edges.{edge-with, edge-of, Lined, edge-tier}
 -- the n keys from word 1 on
 abbrev pub keys-at : ℕ → List ℕ → List ℕ
 keys-at n scratch = take n (drop 1 scratch)
+
+-- what a lookup gives of a key whose place is `at`: 1 and the tier, which stands in its edge, or 0
+abbrev pub looked-in : (r s n at key : ℕ) → List ℕ → List ℕ
+looked-in r s n at key scratch = cond (member key (keys-at n scratch)) (1 ∷ getD scratch (edges-at r s + at) 0 / tier-unit ∷ []) (0 ∷ [])
 
 -- n keys and their edges, with a key and its edge put in at a place, and with those at a place taken out
 abbrev pub put-in : (r s n at key edge : ℕ) → List ℕ → List ℕ
@@ -160,3 +169,24 @@ module _ {P : Params} {t : ℕ → ℕ} {S scratch : List ℕ} (D : Lined P t S 
           (sym (map-append (f t) (take at S) (drop (at + 1) S)) ∙ ap (map (f t)) (without-parts key S asc i))) in
           rw (closed-behind mid to at n (omega arith) (omega arith))
           (lined-moved mid (closed (drop to mid) at n) (omega arith) (omega arith) (rw (m, e) keys) (rw m edges))
+
+-- the place of a key that is one of the n
+pub place-lt : (scratch : List ℕ) (n key at : ℕ) → n < length scratch → Asc (keys-at n scratch) → at ≡ rank-of (keys-at n scratch) key
+    → member key (keys-at n scratch) ≡ true → at < n
+place-lt scratch n key at long asc q t = omega (arith, rank-found key (keys-at n scratch) asc (member-in key (keys-at n scratch) t) .1, keys-length scratch n long)
+
+-- What is told of a key says whether it is one of the n.
+module _ (r s n at key : ℕ) (scratch : List ℕ) (f : Found) (told : values f ≡ looked-in r s n at key scratch) where
+  pub looked-listed : {t : ℕ} → f ≡ Listed t → member key (keys-at n scratch) ≡ true
+  looked-listed e = elim (test (member key (keys-at n scratch))) [
+    | inl t ↦ t
+    | inr t ↦ let q = sym (ap values e) ∙ told in let z = rw t at q in absurd (zero-one (sym (ap first z)))
+  ]
+
+  pub looked-absent : ((t : ℕ) → f ≡ Listed t → ⊥) → member key (keys-at n scratch) ≡ false
+  looked-absent no′ = elim (test (member key (keys-at n scratch))) [ inl t ↦ absurd (missed f no′ (rw t at told)) | inr t ↦ t ]
+    where
+      missed : (f : Found) → ((t : ℕ) → f ≡ Listed t → ⊥) → {t : ℕ} → values f ≡ 1 ∷ t ∷ [] → ⊥
+      missed (Listed t) n e = n t refl
+      missed Absent n e = zero-one (ap first e)
+      missed (Refused k) n e = zero-one (ap first e)

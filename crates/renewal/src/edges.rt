@@ -34,7 +34,7 @@ pub fn edge_tier(edge: u32) -> u32
     edge / TIER_UNIT
 }
 
-// A tier that does not fit into an edge counts as 0. Then the words are not canonical, and the comparison will say so.
+// A tier above 7, which no set has, counts as 0. Then the words are not canonical, and the comparison will say so.
 fn fitting(tier: u32) -> u32
     ensures { λ t. ⌜ t ≡ small-tier tier ⌝ }
 {

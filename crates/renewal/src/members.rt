@@ -6,13 +6,16 @@ ghost use lib.ListN.{length, getD};
 ghost use Rattle.basics.specs.Sets.{member, Asc};
 ghost use Rattle.ordered.specs.Keys.{rank-of};
 ghost use Rattle.tabulation.specs.Hash.{tables, Hashing};
+ghost use Rattle.refusals.specs.Refusal.{done};
 ghost use Rattle.layout.specs.Entries.{max-tier};
+ghost use Rattle.layout.specs.Answers.{number, values};
 ghost use Rattle.build.specs.Scratch.{edges-at, used};
 ghost use Rattle.codec.specs.Ranks.{tier-unit};
 ghost use Rattle.renewal.specs.Edges.{edge-with};
-ghost use Rattle.renewal.specs.Members.{keys-at, put-in, taken-out};
+ghost use Rattle.renewal.specs.Members.{keys-at, looked-in, put-in, taken-out};
 use crate::edges::edge_given;
 use crate::edges::edge_tier;
+use layout::Found;
 use ordered::close_at;
 use ordered::open_at;
 use ordered::rank;
@@ -47,6 +50,20 @@ pub fn tier_at(scratch: &[u32], r: u32, s: u32, at: usize) -> u32
 {
     let start = edges_start(r, s);
     edge_tier(scratch[start + at])
+}
+
+// What a lookup says of a key, by the set in scratch: its tier, or that it is not there; `at` is its place.
+pub fn look(scratch: &[u32], r: u32, s: u32, n: usize, at: usize, key: u32) -> Found
+    requires { ⌜ (((n < length (now scratch)) × Asc (keys-at n (now scratch)))
+        × (at ≡ rank-of (keys-at n (now scratch)) key))
+        × (((r ≤ 1024) × (s ≤ 64)) × (edges-at r s + n ≤ length (now scratch))) ⌝ }
+    ensures numbered { λ f. ⌜ number f ≡ done ⌝ }
+    ensures valued { λ f. ⌜ values f ≡ looked-in r s n at key (now (scratch .entry)) ⌝ }
+{
+    if is_at(scratch, n, at, key) {
+        return Found::Listed(tier_at(scratch, r, s, at));
+    }
+    Found::Absent
 }
 
 // A key and its edge come to place `at` of n keys.
