@@ -17,7 +17,7 @@ use layout::Header;
 use words::wide;
 
 // The tier stands above the two slots in an edge.
-const TIER_UNIT: u32 = 4_194_304;
+pub const TIER_UNIT: u32 = 4_194_304;
 
 // The tier of a rank. Before the first edge stands the last held rank, which is small: so 0 has tier 0.
 fn tier_of(r: usize, graph: &[u32], rank: usize) -> u32

@@ -11,20 +11,17 @@ ghost use Rattle.codec.specs.Ranks.{tier-unit};
 ghost use Rattle.renewal.specs.Edges.{packed, small-tier, tier-found, edge-with, edge-of};
 ghost use Rattle.renewal.specs.Reading.{Collected, Listed};
 use access::MAX_TIER;
+use codec::image::TIER_UNIT;
+use forest::SLOTS;
 use parts::edges_start;
 use tabulation::first_slot;
 use tabulation::second_slot;
-
-// What a second slot and a tier count in an edge.
-const SLOT_UNIT: u32 = 2048;
-
-const TIER_UNIT: u32 = 4194304;
 
 fn pack(first: u32, second: u32, tier: u32) -> u32
     requires { ⌜ (first < 2048) × ((second < 2048) × (tier ≤ max-tier)) ⌝ }
     ensures { λ e. ⌜ e ≡ packed first second tier ⌝ }
 {
-    first + SLOT_UNIT * second + TIER_UNIT * tier
+    first + SLOTS * second + TIER_UNIT * tier
 }
 
 // The tier in an edge.
