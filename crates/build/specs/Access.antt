@@ -122,6 +122,18 @@ module _ {r s n at end k : ℕ} {xs X : List ℕ} {new : List ℕ → Parts} (Q 
     part-renewed f {ys} is l =
         rw (count, start, ← Q .whole, place-put (Q .place) X k (Q .size) ys) (parts-glue (Q .sized ys (l ∙ part-long))) ∙ ap new (is ∙ ap f part-lent)
 
+-- the graph, lent whole: from where the held words begin to n words behind where the edges begin
+module _ {r s n : ℕ} {xs : List ℕ} (E : Enough r s n xs) {a e : ℕ} (start : a ≡ held-at r s) (edges : e ≡ edges-at r s) where
+  stop : e + n ≡ edges-at r s + n
+  stop = ap (λ (k : ℕ). k + n) edges
+
+  pub graph-lent : midOf a (e + n - a) xs ≡ parts r s n xs .graph
+  graph-lent = part-lent (graph-part E) start stop
+
+  pub graph-renewed : (f : List ℕ → List ℕ) {ys : List ℕ} → ys ≡ f (midOf a (e + n - a) xs) → length ys ≡ length (midOf a (e + n - a) xs)
+      → parts r s n (putMid a (e + n - a) xs ys) ≡ with-graph (parts r s n xs) (f (parts r s n xs .graph))
+  graph-renewed f = part-renewed (graph-part E) start stop f
+
 -- the edge of a rank, read at i
 module _ {r s n : ℕ} {xs : List ℕ} (E : Enough r s n xs) where
   pub edges-count : length (edges-in r (parts r s n xs .graph)) ≡ suc n

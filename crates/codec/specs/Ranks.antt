@@ -9,15 +9,12 @@ use lib.ListN.{length, getD, take, drop}
 use lib.Seq.{getD-take, length-take-le}
 use Rattle.layout.specs.Layout.{header-length, header-words, slot-width, place-width, slots-of, stash-at}
 use Rattle.layout.specs.declared.Header.{Header}
+use Rattle.forest.specs.Graph.{held-in}
 use Rattle.codec.specs.Image.{slots-alike, places-alike, slots-put, places-put, alike, written}
 
 -- the tier stands above the two slots in an edge
 abbrev pub tier-unit : ℕ
 tier-unit = 4194304
-
--- what the slots hold
-abbrev pub slots-held : ℕ → List ℕ → List ℕ
-slots-held r graph = take (2 * r) graph
 
 -- The tier of a rank. Before the first edge stands the last held word, a rank, which has nothing above: so 0, which is no key, has tier 0.
 abbrev pub tier-by : ℕ → List ℕ → ℕ → ℕ
@@ -61,13 +58,13 @@ ranked-places-put ws start r keys graph ranks = places-put ws start (key-column 
 abbrev pub ranks-alike : (ws : List ℕ) (count stashed : ℕ) (keys graph next stash : List ℕ) → Bool
 ranks-alike ws count stashed keys graph next stash =
     let r = slots-of ws in
-    let held = slots-held r graph in
+    let held = held-in r graph in
     alike ws count stashed (key-column keys held) (next-column keys next held) (tier-column r graph held) (key-column keys stash) (tier-column r graph stash)
 
 abbrev pub ranks-written : (ws : List ℕ) (h : Header) (keys graph next stash : List ℕ) → List ℕ
 ranks-written ws h keys graph next stash =
     let r = h .slots in
-    let held = slots-held r graph in
+    let held = held-in r graph in
     written ws h (key-column keys held) (next-column keys next held) (tier-column r graph held) (key-column keys stash) (tier-column r graph stash)
 
 -- a rank that has its key and its edge,
@@ -96,10 +93,10 @@ module _ {r n : ℕ} {keys graph next stash : List ℕ} (R : Ranked r n keys gra
   known-to : (rank : ℕ) → rank ≤ n → Known q keys graph rank
   known-to rank l = record { some = omega (arith, R .some); key = omega (arith, R .keys-long); edge = omega (arith, R .graph-long) }
 
-  pub held-length : length (slots-held q graph) ≡ 2 * q
+  pub held-length : length (held-in q graph) ≡ 2 * q
   held-length = length-take-le (2 * q) graph (omega (arith, R .graph-long))
 
-  pub slot-ranks : (ws : List ℕ) → header-length + slot-width * (2 * r) ≤ length ws → SlotRanks ws q keys graph next (slots-held q graph)
+  pub slot-ranks : (ws : List ℕ) → header-length + slot-width * (2 * r) ≤ length ws → SlotRanks ws q keys graph next (held-in q graph)
   slot-ranks ws l = record {
     fits = rw held-length (rw e l);
     known = λ i m. let b : i < 2 * q = omega (arith, held-length) in
@@ -116,6 +113,6 @@ module _ {r n : ℕ} {keys graph next stash : List ℕ} (R : Ranked r n keys gra
 -- heading, slots and stash, one after the other, are the writing of the image
 module _ (ws : List ℕ) (h : Header) (keys graph next stash : List ℕ) {q start : ℕ} {headed slots all : List ℕ} where
   pub written-by-parts : q ≡ h .slots → start ≡ stash-at (h .slots) → headed ≡ header-words h ++ drop header-length ws
-      → slots ≡ ranked-slots-put headed header-length q keys graph next (slots-held q graph) → all ≡ ranked-places-put slots start q keys graph stash
+      → slots ≡ ranked-slots-put headed header-length q keys graph next (held-in q graph) → all ≡ ranked-places-put slots start q keys graph stash
       → all ≡ ranks-written ws h keys graph next stash
   written-by-parts size at first second third = rw (third, second, first, size, at)

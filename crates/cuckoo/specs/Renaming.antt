@@ -278,9 +278,6 @@ module _ {K : List ℕ} (asc : Asc K) (solid : In 0 K → ⊥) where
     at-1 = at-rank K b b′ e1;
   }
 
-  pub ranked-own : (a b : ℕ → ℕ) → Renames (ranked K) a b (λ i. a (ranked K i)) (λ i. b (ranked K i)) (ranks (length K))
-  ranked-own a b = ranked-renames (λ i l. refl) (λ i l. refl)
-
 -- So the image of K is that of its ranks, with the key put in for each rank.
 module _ {a b a′ b′ : ℕ → ℕ} (K : List ℕ) (g : Renames (ranked K) a b a′ b′ (ranks (length K))) where
   pub ranked-seated : seated a b K ≡ map (ranked K) (seated a′ b′ (ranks (length K)))

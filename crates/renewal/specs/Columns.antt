@@ -20,7 +20,7 @@ use Rattle.cuckoo.specs.Filled.{stash-sub}
 use Rattle.cuckoo.specs.Renaming.{ranks, from-in, from-asc, ranked, Renames, ranked-renames, ranked-stash, ranked-slot-key, ranked-slot-next}
 use Rattle.tabulation.specs.Slots.{slot-0, slot-1}
 use Rattle.forest.specs.Edges.{end-0, end-1}
-use Rattle.forest.specs.Graph.{edges-in}
+use Rattle.forest.specs.Graph.{held-in, edges-in}
 use Rattle.layout.specs.Entries.{Entry, tier-of, tiered, keys-tiered, tier-tiered, tier-absent}
 use Rattle.layout.specs.Layout.{Params, ValidKeys, family, stash-of}
 use Rattle.layout.specs.Shape.{Sized}
@@ -30,14 +30,14 @@ use Rattle.layout.specs.declared.Header.{Header}
 use Rattle.build.specs.EachSlot.{listed-at}
 use Rattle.build.specs.Scratch.{Parts, parts, used, PartsSized, parts-sized}
 use Rattle.build.specs.Build.{edges-of, stash-ranks, slot-rank, next-rank, Standing}
-use Rattle.codec.specs.Ranks.{tier-unit, slots-held, tier-by, key-column, next-column, tier-column, ranks-alike, ranks-written, Ranked}
+use Rattle.codec.specs.Ranks.{tier-unit, tier-by, key-column, next-column, tier-column, ranks-alike, ranks-written, Ranked}
 use Rattle.codec.specs.Image.{ImageColumns}
 use Rattle.renewal.specs.Edges.{edge-of, Lined, edge-tier, lined-at, lined-first, lined-second}
 
 -- the columns that `codec` reads: r slots to a table, the keys by rank are the first words of scratch, G are its parts
 module _ (r : ℕ) (scratch : List ℕ) (G : Parts) where
   abbrev pub ranks-held : List ℕ
-  ranks-held = slots-held r (G .graph)
+  ranks-held = held-in r (G .graph)
 
   -- the columns that the image of a set has
   abbrev pub SetColumns : Params → List Entry → Type 0

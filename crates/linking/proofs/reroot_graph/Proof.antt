@@ -1,8 +1,6 @@
 -- `linking::reroot_graph` meets its contract: the graph is lent whole, and comes back re-rooted.
-use Prim.Native.Nat.{ℕ, _+_}
-use mathlib.Core.Path.{ap}
 use Rattle.forest.specs.Graph.{rerooted}
-use Rattle.build.specs.Access.{graph-part, part-lent, part-renewed}
+use Rattle.build.specs.Access.{graph-lent, graph-renewed}
 use borrow.Author.Needs.{needs}
 use Rattle.linking.proofs.reroot_graph.Statement.{statement}
 use Rattle.linking.proofs.reroot_graph.Tie as tie
@@ -32,8 +30,7 @@ reroot-requires : tie.Need-reroot-requires
 reroot-requires c κs =
     let d = c .before in
     let p = d .before .before .before in
-    let stop = ap (λ (k : ℕ). k + p .args .n) (d .edges-start .ensures) in
-    let e = part-lent (graph-part (p .pre .0)) (d .before .held-start .ensures) stop in
+    let e = graph-lent (p .pre .0) (d .before .held-start .ensures) (d .edges-start .ensures) in
     (rw e (p .pre .1), p .pre .2, rw e (p .pre .3))
 
 same-length : tie.Need-same-length
@@ -43,8 +40,7 @@ returns : tie.Need-returns
 returns c =
     let d = c .before .before .before .before in
     let p = d .before .before .before in
-    let stop = ap (λ (k : ℕ). k + p .args .n) (d .edges-start .ensures) in
-    part-renewed (graph-part (p .pre .0)) (d .before .held-start .ensures) stop
+    graph-renewed (p .pre .0) (d .before .held-start .ensures) (d .edges-start .ensures)
     (λ graph. rerooted (p .args .r) graph (p .args .carry) (p .args .slot)) (c .before .before .reroot .ensures) (c .before .before .reroot .kept .0)
 
 pub reroot-graph-spec : {M : Type 1} → statement M

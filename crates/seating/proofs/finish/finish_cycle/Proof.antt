@@ -1,8 +1,6 @@
 -- `seating::finish::finish_cycle` meets its contract: the graph is lent whole, and comes back finished.
-use Prim.Native.Nat.{ℕ, _+_}
-use mathlib.Core.Path.{ap}
 use Rattle.forest.specs.Graph.{finished-cycle}
-use Rattle.build.specs.Access.{graph-part, part-lent, part-renewed}
+use Rattle.build.specs.Access.{graph-lent, graph-renewed}
 use borrow.Author.Needs.{needs}
 use Rattle.seating.proofs.finish.finish_cycle.Statement.{statement}
 use Rattle.seating.proofs.finish.finish_cycle.Tie as tie
@@ -32,8 +30,7 @@ finish-cycle-requires : tie.Need-finish-cycle-requires
 finish-cycle-requires c κs =
     let d = c .before in
     let p = d .before .before .before in
-    let stop = ap (λ (k : ℕ). k + p .args .n) (d .edges-start .ensures) in
-    let e = part-lent (graph-part (p .pre .0)) (d .before .held-start .ensures) stop in
+    let e = graph-lent (p .pre .0) (d .before .held-start .ensures) (d .edges-start .ensures) in
     (rw e (p .pre .1), p .pre .2, rw e (p .pre .3))
 
 same-length : tie.Need-same-length
@@ -43,8 +40,7 @@ returns : tie.Need-returns
 returns c =
     let d = c .before .before .before .before in
     let p = d .before .before .before in
-    let stop = ap (λ (k : ℕ). k + p .args .n) (d .edges-start .ensures) in
-    part-renewed (graph-part (p .pre .0)) (d .before .held-start .ensures) stop
+    graph-renewed (p .pre .0) (d .before .held-start .ensures) (d .edges-start .ensures)
     (λ graph. finished-cycle (p .args .r) graph (p .args .rank)) (c .before .before .finish-cycle .ensures) (c .before .before .finish-cycle .kept .0)
 
 pub finish-cycle-spec : {M : Type 1} → statement M

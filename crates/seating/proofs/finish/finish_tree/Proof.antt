@@ -1,8 +1,6 @@
 -- `seating::finish::finish_tree` meets its contract: the graph is lent whole, and comes back finished.
-use Prim.Native.Nat.{ℕ, _+_}
-use mathlib.Core.Path.{ap}
 use Rattle.forest.specs.Graph.{finished-tree}
-use Rattle.build.specs.Access.{graph-part, part-lent, part-renewed}
+use Rattle.build.specs.Access.{graph-lent, graph-renewed}
 use borrow.Author.Needs.{needs}
 use Rattle.seating.proofs.finish.finish_tree.Statement.{statement}
 use Rattle.seating.proofs.finish.finish_tree.Tie as tie
@@ -32,8 +30,7 @@ finish-tree-requires : tie.Need-finish-tree-requires
 finish-tree-requires c κs =
     let d = c .before in
     let p = d .before .before .before in
-    let stop = ap (λ (k : ℕ). k + p .args .n) (d .edges-start .ensures) in
-    let e = part-lent (graph-part (p .pre .0)) (d .before .held-start .ensures) stop in
+    let e = graph-lent (p .pre .0) (d .before .held-start .ensures) (d .edges-start .ensures) in
     (rw e (p .pre .1), rw e (p .pre .2))
 
 same-length : tie.Need-same-length
@@ -43,8 +40,7 @@ returns : tie.Need-returns
 returns c =
     let d = c .before .before .before .before in
     let p = d .before .before .before in
-    let stop = ap (λ (k : ℕ). k + p .args .n) (d .edges-start .ensures) in
-    part-renewed (graph-part (p .pre .0)) (d .before .held-start .ensures) stop
+    graph-renewed (p .pre .0) (d .before .held-start .ensures) (d .edges-start .ensures)
     (λ graph. finished-tree (p .args .r) graph (p .args .rank)) (c .before .before .finish-tree .ensures) (c .before .before .finish-tree .kept .0)
 
 pub finish-tree-spec : {M : Type 1} → statement M
