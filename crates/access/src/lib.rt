@@ -157,12 +157,20 @@ pub fn is_shaped(words: &[u32]) -> bool
     words.len() == length_for(r, s)
 }
 
-// Whether the key stands in a slot. There are never as many as 4,096, so that the index fits.
+// The key in a slot. There are never as many as 4,096 slots, so that the index fits.
+pub fn key_in(words: &[u32], slot: u32) -> u32
+    requires { ⌜ (key-at slot < length (now words)) × (slot < 4096) ⌝ }
+    ensures { λ c. ⌜ c ≡ slot-entry (now (words .entry)) slot .key ⌝ }
+{
+    words[HEADER_LENGTH + SLOT_WIDTH * wide(slot)]
+}
+
+// Whether the key stands in a slot.
 fn in_slot(words: &[u32], slot: u32, key: u32) -> bool
     requires { ⌜ (key-at slot < length (now words)) × (slot < 4096) ⌝ }
     ensures { λ b. ⌜ b ≡ eqb key (slot-entry (now (words .entry)) slot .key) ⌝ }
 {
-    key == words[HEADER_LENGTH + SLOT_WIDTH * wide(slot)]
+    key == key_in(words, slot)
 }
 
 // The tier word of a slot.

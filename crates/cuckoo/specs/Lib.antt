@@ -23,3 +23,5 @@ pub mod Locality
 pub mod Placement
 pub mod Renaming
 pub mod Agree
+pub mod Trail
+pub mod Round

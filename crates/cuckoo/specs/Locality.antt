@@ -111,7 +111,7 @@ module _ (a b : ℕ → ℕ) where
         bool-ext (onCycle a b S c) (onCycle a b C c) (λ e. true-onCycle (l .0 (onCycle-true e))) (λ e. true-onCycle (l .1 (onCycle-true e)))
 
     -- the key that decides how the component sits is decided by the component
-    root-component : {u : ℕ} → Joined a b S v u → root a b S u ≡ root a b C u
+    pub root-component : {u : ℕ} → Joined a b S v u → root a b S u ≡ root a b C u
     unfolding root
     root-component {u} k =
         let e = keep-ext (onCycle a b S) (onCycle a b C) (component a b S u) (λ d i. onCycle-component (jtrans k (component-near a b S u i))) in
@@ -131,7 +131,7 @@ module _ (a b : ℕ → ℕ) where
         ])
 
     -- its slots hold what they would hold
-    occupant-component : {u : ℕ} → Joined a b S v u → occupant a b S u ≡ occupant a b C u
+    pub occupant-component : {u : ℕ} → Joined a b S v u → occupant a b S u ≡ occupant a b C u
     unfolding occupant component
     occupant-component {u} k = ap first (keep-both (λ c. (eqb u (a c) || eqb u (b c)) && sits a b C u c) (λ c. joined a b S v (a c))
         (λ c. (eqb u (a c) || eqb u (b c)) && sits a b S u c) S

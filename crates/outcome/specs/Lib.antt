@@ -5,3 +5,4 @@ pub mod Laws
 pub mod Held
 pub mod Demands
 pub mod Board
+pub mod Trail

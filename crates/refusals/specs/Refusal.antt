@@ -52,6 +52,10 @@ wrong-tier = 9
 abbrev pub other-tier : ℕ
 other-tier = 10
 
+-- 11, "trail sheet shorter than the trail"
+abbrev pub short-trail : ℕ
+short-trail = 11
+
 -- the number of the first refusal whose test holds, or done
 abbrev pub first-refusal : List (ℕ × Bool) → ℕ
 first-refusal [] = done

@@ -30,3 +30,6 @@ pub const WRONG_TIER: u32 = 9;
 
 // Insert of a key that is in the set, with another tier.
 pub const OTHER_TIER: u32 = 10;
+
+// The words that are lent for a trail are fewer than it has keys.
+pub const SHORT_TRAIL: u32 = 11;

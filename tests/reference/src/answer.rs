@@ -1,12 +1,12 @@
 //! What a call gives back: accepted, one of the refusals of document 01's table (with those that
-//! request One adds to it), or what a lookup found.
+//! requests One and Two add to it), or what a lookup found.
 //! Every other module names refusals by this enum; the paper's numbers stand only here.
 
 /// Why a call was refused.
 ///
 /// Paper: the table under "What a call gives back". "They are tried in this order, and none is
-/// given otherwise." Request One puts 9 and 10 between 5 and 6; the variants stand in the order in
-/// which they are tried.
+/// given otherwise." Request One puts 9 and 10 between 5 and 6, request Two 11 after 7; the
+/// variants stand in the order in which they are tried.
 #[derive(Clone, Copy, Debug, PartialEq, Eq, PartialOrd, Ord, Hash)]
 pub enum Refusal {
     /// Paper: 1, "wrong book": "book not 2,048 long".
@@ -28,8 +28,11 @@ pub enum Refusal {
     OtherTier = 10,
     /// Paper: 6, "listed": "add of a card in the set".
     Listed = 6,
-    /// Paper: 7, "not listed": "withdrawal of a card outside the set".
+    /// Paper: 7, "not listed": "withdrawal of a card outside the set". Request Two asks the same of
+    /// a trail: "Checks run as for withdraw".
     NotListed = 7,
+    /// Request Two: "11 (trail sheet shorter than the trail) after 7".
+    ShortTrailSheet = 11,
     /// Paper: 8, "full drawer": "the new set's canonical drawer would have more than s cards".
     FullStash = 8,
 }

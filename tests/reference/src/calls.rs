@@ -1,6 +1,6 @@
-//! The calls on a list: init, insert, remove, lookup, check and the stash view. All are total:
-//! tabulation, words and scratch may have any length and content. The engine given says how images
-//! are worked out.
+//! The calls on a list: init, insert, remove, lookup, check, the stash view and the trail. All are
+//! total: tabulation, words, scratch and trail sheet may have any length and content. The engine
+//! given says how images and trails are worked out.
 
 use crate::answer::{Answer, Found, Refusal};
 use crate::counters::Counters;
@@ -124,6 +124,29 @@ fn stash_part(words: &[u32]) -> Result<&[u32], Refusal> {
     Ok(&words[shape.stash_at()..][..PLACE_LEN * filled as usize])
 }
 
+/// Writes the trail of a key to the trail sheet and says how many keys it has.
+///
+/// Request Two: "Its card numbers are written to a lent sheet, rest zeros, and the call tells how
+/// many; a drawer card's trail is empty. [..] Checks run as for withdraw, and the borrowed work
+/// sheet is zeroed. Answers: 11 (trail sheet shorter than the trail) after 7; every refusal leaves
+/// the trail sheet unchanged." So it can give 1 to 5, 7 and 11. It counts nowhere and changes no
+/// word of the list.
+pub fn trail(
+    engine: &impl Engine,
+    tabulation: &[u16],
+    words: &[u32],
+    scratch: &mut [u32],
+    key: u32,
+    trail_sheet: &mut [u32],
+) -> Result<usize, Refusal> {
+    let trail = trail_of(engine, tabulation, words, scratch.len(), key, trail_sheet.len());
+    scratch.fill(0);
+    let trail = trail?;
+    trail_sheet.fill(0);
+    trail_sheet[..trail.len()].copy_from_slice(&trail);
+    Ok(trail.len())
+}
+
 /// The set whose image the words are; or 1, 2, 3 or 4, in this order.
 ///
 /// Every key of a set stands in the set's image, in a slot or in the stash, with its tier beside
@@ -148,6 +171,24 @@ fn listed_set(
         return Err(Refusal::NotCanonical);
     }
     set(&members).ok_or(Refusal::NotCanonical)
+}
+
+/// The set whose image the words are, with the key in it; or 1, 2, 3, 4, 5 or 7, in this order.
+fn set_with_listed(
+    engine: &impl Engine,
+    tabulation: &[u16],
+    words: &[u32],
+    scratch_len: usize,
+    key: u32,
+) -> Result<Set, Refusal> {
+    let set = listed_set(engine, tabulation, words, scratch_len)?;
+    if key == 0 {
+        return Err(Refusal::BlankKey);
+    }
+    if !set.contains_key(&key) {
+        return Err(Refusal::NotListed);
+    }
+    Ok(set)
 }
 
 /// The words after an insert, or its refusal.
@@ -182,15 +223,28 @@ fn without_key(
     scratch_len: usize,
     key: u32,
 ) -> Result<Vec<u32>, Refusal> {
-    let mut set = listed_set(engine, tabulation, words, scratch_len)?;
-    if key == 0 {
-        return Err(Refusal::BlankKey);
-    }
-    if set.remove(&key).is_none() {
-        return Err(Refusal::NotListed);
-    }
+    let mut set = set_with_listed(engine, tabulation, words, scratch_len, key)?;
+    set.remove(&key);
     let image = engine.image(tabulation, words[0], words[1], &members(&set));
     Ok(image.expect("a smaller set needs no more stash places"))
+}
+
+/// The keys of a trail, or its refusal.
+fn trail_of(
+    engine: &impl Engine,
+    tabulation: &[u16],
+    words: &[u32],
+    scratch_len: usize,
+    key: u32,
+    trail_sheet_len: usize,
+) -> Result<Vec<u32>, Refusal> {
+    let set = set_with_listed(engine, tabulation, words, scratch_len, key)?;
+    let trail = engine.trail(tabulation, words[0], words[1], &members(&set), key);
+    let trail = trail.expect("a listed key has a trail");
+    if trail_sheet_len < trail.len() {
+        return Err(Refusal::ShortTrailSheet);
+    }
+    Ok(trail)
 }
 
 /// Ends an insert or remove: new words if accepted, zeros on the scratch, one count more.

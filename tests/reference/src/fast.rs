@@ -1,6 +1,6 @@
-//! The canonical image another way, for lists of any allowed size: a spanning forest instead of
-//! listed cycles, and peeling instead of trying. Near n log n; the tests hold it against the slow
-//! definition.
+//! The canonical image and trails another way, for lists of any allowed size: a spanning forest
+//! instead of listed cycles, and peeling instead of trying. The image is near n log n; the tests
+//! hold it and the trails against the slow definitions.
 
 use crate::answer::{Found, Refusal};
 use crate::hash::TABULATION_LEN;
@@ -8,13 +8,24 @@ use crate::image::Engine;
 use crate::layout::{Shape, HEADER_LEN, PLACE_LEN, SLOT_LEN};
 use crate::set::{Member, MAX_TIER};
 
-/// The engine that works by [`image`] of this module.
+/// The engine that works by [`image`] and [`trail`] of this module.
 #[derive(Clone, Copy, Debug, Default)]
 pub struct Fast;
 
 impl Engine for Fast {
     fn image(&self, tabulation: &[u16], r: u32, s: u32, members: &[Member]) -> Option<Vec<u32>> {
         image(tabulation, r, s, members)
+    }
+
+    fn trail(
+        &self,
+        tabulation: &[u16],
+        r: u32,
+        s: u32,
+        members: &[Member],
+        key: u32,
+    ) -> Option<Vec<u32>> {
+        trail(tabulation, r, s, members, key)
     }
 }
 
@@ -53,6 +64,30 @@ pub fn image(tabulation: &[u16], r: u32, s: u32, members: &[Member]) -> Option<V
         place.copy_from_slice(&[keys[i], tiers[i]]);
     }
     Some(words)
+}
+
+/// The trail of a key in the canonical image of a set; the same as [`crate::trail::trail`].
+///
+/// Request Two: "The trail starts with a seated card; each next one is the card sitting in the last
+/// one's other pocket. It ends with the root".
+pub fn trail(tabulation: &[u16], r: u32, s: u32, members: &[Member], key: u32) -> Option<Vec<u32>> {
+    let words = image(tabulation, r, s, members)?;
+    let stored = Stored { tabulation: tabulation.try_into().ok()?, r, words };
+    if !members.iter().any(|&(listed, _)| listed == key) {
+        return None;
+    }
+    if stored.slot_of(key).is_none() {
+        return Some(Vec::new());
+    }
+    let root = stored.root(&stored.component(key));
+    let mut trail = vec![key];
+    let mut last = key;
+    while last != root {
+        last = stored.step(last);
+        trail.push(last);
+        assert!(trail.len() <= 2 * r as usize, "a trail ends without a repeated key");
+    }
+    Some(trail)
 }
 
 /// Says whether a key stands in the words, and with which tier; the same as
@@ -284,4 +319,79 @@ fn next_keys(keys: &[u32], parts: &Parts) -> Vec<u32> {
         latest[component] = i as u32;
     }
     next
+}
+
+/// The tables of an image, for a trail through them. Slots are numbered as by [`ends`].
+struct Stored<'a> {
+    tabulation: &'a [u16; TABULATION_LEN],
+    r: u32,
+    words: Vec<u32>,
+}
+
+impl Stored<'_> {
+    fn ends(&self, key: u32) -> [u32; 2] {
+        ends(self.tabulation, self.r, key)
+    }
+
+    /// The words of a slot: key, next and tier.
+    fn slot(&self, slot: u32) -> &[u32] {
+        &self.words[HEADER_LEN + SLOT_LEN * slot as usize..][..SLOT_LEN]
+    }
+
+    /// The slot that holds a key, the one in table 0 if both do; `None` for a key in the stash.
+    fn slot_of(&self, key: u32) -> Option<u32> {
+        self.ends(key).into_iter().find(|&slot| self.slot(slot)[0] == key)
+    }
+
+    /// The stored keys of a stored key's component, by their next numbers.
+    ///
+    /// Paper: "The next number of a seated card is the next larger seated card of its group; the
+    /// largest points to the smallest; a lone card points to itself."
+    fn component(&self, key: u32) -> Vec<u32> {
+        let next = |&key: &u32| self.slot_of(key).map(|slot| self.slot(slot)[1]);
+        let further = std::iter::successors(next(&key), next).take_while(|&other| other != key);
+        std::iter::once(key).chain(further).collect()
+    }
+
+    /// The root of a component, given as its stored keys.
+    ///
+    /// Request Two: "the smallest of a group without a loop, otherwise the smallest on the one loop
+    /// that its seated cards form". Without a loop there are only seated cards.
+    fn root(&self, component: &[u32]) -> u32 {
+        let smallest = self.cycle(component).into_iter().min().or(component.iter().copied().min());
+        smallest.expect("a component has keys")
+    }
+
+    /// The keys on the cycle that a component's stored keys form; none when they form no cycle.
+    ///
+    /// A key that alone touches one of its slots lies on no cycle. Such keys are taken away, and
+    /// again, until there is none; with at most one cycle, what is left is that cycle.
+    fn cycle(&self, component: &[u32]) -> Vec<u32> {
+        let mut touching = vec![0; 2 * self.r as usize];
+        for slot in component.iter().flat_map(|&key| self.ends(key)) {
+            touching[slot as usize] += 1;
+        }
+        let mut left = component.to_vec();
+        loop {
+            let before = left.len();
+            left.retain(|&key| {
+                let ends = self.ends(key).map(|slot| slot as usize);
+                let alone = ends.iter().any(|&slot| touching[slot] == 1);
+                if alone {
+                    ends.iter().for_each(|&slot| touching[slot] -= 1);
+                }
+                !alone
+            });
+            if left.len() == before {
+                return left;
+            }
+        }
+    }
+
+    /// The key in the other slot of a key that sits in one of its slots alone.
+    fn step(&self, key: u32) -> u32 {
+        let [end0, end1] = self.ends(key);
+        let other = if self.slot(end0)[0] == key { end1 } else { end0 };
+        self.slot(other)[0]
+    }
 }

@@ -8,15 +8,27 @@ use crate::answer::Refusal;
 use crate::graph::{components, edges, simple_cycles, Edge};
 use crate::layout::{Contents, Entry, Shape, Slot};
 use crate::set::{set, Member, Set};
+use crate::trail::trail;
 
-/// A way to work out canonical images. [`Slow`] is the definition, [`crate::fast::Fast`] another
-/// way; the calls, the reference model and the console take either.
+/// A way to work out canonical images and trails. [`Slow`] is the definition, [`crate::fast::Fast`]
+/// another way; the calls, the reference model and the console take either.
 pub trait Engine {
     /// The words of the canonical image of a set, its members (key, tier) given in any order (a
     /// repeated one counts once). `None` when there is none: the stash would need more than `s`
     /// places, or the tabulation, `r`, `s`, a key or a tier is one that no list has, or a key
     /// stands with two tiers.
     fn image(&self, tabulation: &[u16], r: u32, s: u32, members: &[Member]) -> Option<Vec<u32>>;
+
+    /// The trail of a key in the canonical image of a set, first key first; empty for a key in the
+    /// stash. `None` when the key is not in the set, or the set has no image.
+    fn trail(
+        &self,
+        tabulation: &[u16],
+        r: u32,
+        s: u32,
+        members: &[Member],
+        key: u32,
+    ) -> Option<Vec<u32>>;
 }
 
 /// Lets a borrowed engine, also one behind `dyn`, stand where an engine is asked for.
@@ -24,15 +36,37 @@ impl<E: Engine + ?Sized> Engine for &E {
     fn image(&self, tabulation: &[u16], r: u32, s: u32, members: &[Member]) -> Option<Vec<u32>> {
         (**self).image(tabulation, r, s, members)
     }
+
+    fn trail(
+        &self,
+        tabulation: &[u16],
+        r: u32,
+        s: u32,
+        members: &[Member],
+        key: u32,
+    ) -> Option<Vec<u32>> {
+        (**self).trail(tabulation, r, s, members, key)
+    }
 }
 
-/// The engine that works by the definition: [`image`].
+/// The engine that works by the definitions: [`image`] and [`trail`].
 #[derive(Clone, Copy, Debug, Default)]
 pub struct Slow;
 
 impl Engine for Slow {
     fn image(&self, tabulation: &[u16], r: u32, s: u32, members: &[Member]) -> Option<Vec<u32>> {
         image(tabulation, r, s, members)
+    }
+
+    fn trail(
+        &self,
+        tabulation: &[u16],
+        r: u32,
+        s: u32,
+        members: &[Member],
+        key: u32,
+    ) -> Option<Vec<u32>> {
+        trail(tabulation, r, s, members, key)
     }
 }
 

@@ -51,6 +51,19 @@ pub enum Call {
     },
     /// The paper's "view".
     Stash,
+    /// Request Two's trail. By the paper's letter it stands in a sequence only when it is refused,
+    /// and could be fed as a call of another kind; it changes no word either way, so the model
+    /// answers it in full.
+    Trail {
+        /// Length of the borrowed tabulation.
+        tabulation_len: usize,
+        /// Length of the borrowed scratch.
+        scratch_len: usize,
+        /// The key whose trail is asked for.
+        key: u32,
+        /// Length of the borrowed trail sheet.
+        trail_sheet_len: usize,
+    },
     /// Paper: "any other call on it may stand there if it is refused".
     Other {
         /// The refusal the call gave.
@@ -68,6 +81,8 @@ pub enum Reply {
     /// To a stash view, which is never refused in a sequence (its number is 0): key and tier of
     /// each filled place.
     Stash(Vec<u32>),
+    /// To a trail: its keys, first key first.
+    Trail(Result<Vec<u32>, Refusal>),
 }
 
 /// The reference model.
@@ -131,6 +146,9 @@ impl<E: Engine> Model<E> {
                 Reply::Answer(self.refuse_lengths(tabulation_len, scratch_len))
             }
             Call::Stash => Reply::Stash(self.stash()),
+            Call::Trail { tabulation_len, scratch_len, key, trail_sheet_len } => {
+                Reply::Trail(self.try_trail(tabulation_len, scratch_len, key, trail_sheet_len))
+            }
             // Paper: "For a call of another kind nothing is tried: the register is fed the refusal,
             // answers it, and the set stays."
             Call::Other { refusal } => Reply::Answer(Err(refusal)),
@@ -179,6 +197,25 @@ impl<E: Engine> Model<E> {
         let start = HEADER_LEN + 6 * self.shape.r() as usize;
         let filled = words[start..].chunks(2).filter(|place| place[0] != 0);
         filled.flatten().copied().collect()
+    }
+
+    /// Request Two: "Checks run as for withdraw [..]. Answers: 11 (trail sheet shorter than the
+    /// trail) after 7".
+    fn try_trail(
+        &self,
+        tabulation_len: usize,
+        scratch_len: usize,
+        key: u32,
+        trail_sheet_len: usize,
+    ) -> Result<Vec<u32>, Refusal> {
+        self.try_remove(tabulation_len, scratch_len, key)?;
+        let (r, s) = (self.shape.r(), self.shape.s());
+        let trail = self.engine.trail(&self.tabulation, r, s, &members(&self.set), key);
+        let trail = trail.expect("a listed key has a trail");
+        if trail_sheet_len < trail.len() {
+            return Err(Refusal::ShortTrailSheet);
+        }
+        Ok(trail)
     }
 
     fn image(&self, set: &Set) -> Option<Vec<u32>> {

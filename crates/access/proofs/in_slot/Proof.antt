@@ -3,25 +3,11 @@ use borrow.Author.Needs.{needs}
 use Rattle.access.proofs.in_slot.Statement.{statement}
 use Rattle.access.proofs.in_slot.Tie as tie
 
-wide-requires : tie.Need-wide-requires
-wide-requires c κs = search needs
-
-mul-result : tie.Need-mul-result
-mul-result c = search needs
-
-add-result : tie.Need-add-result
-add-result c = search needs
-
-mul-result-2 : tie.Need-mul-result-2
-mul-result-2 c = search needs
-
-shared-slice-read-result : tie.Need-shared-slice-read-result
-shared-slice-read-result c = search needs
+key-in-requires : tie.Need-key-in-requires
+key-in-requires c κs = search needs
 
 returns : tie.Need-returns
-returns c = rw (c .before .wide .ensures)
+returns c = rw (c .key-in .ensures)
 
 pub in-slot-spec : {M : Type 1} → statement M
-in-slot-spec =
-    tie.close
-    (tie.spec wide-requires mul-result add-result mul-result-2 shared-slice-read-result returns)
+in-slot-spec = tie.close (tie.spec key-in-requires returns)

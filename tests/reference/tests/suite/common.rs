@@ -1,13 +1,15 @@
 //! What the tests share: the two engines, lists written out by hand, a list with everything that
 //! its calls borrow, and tallies that must not stay at zero.
 
-use std::collections::BTreeMap;
+use std::collections::{BTreeMap, BTreeSet};
 
-use reference::answer::Answer;
+use reference::answer::{Answer, Refusal};
 use reference::calls;
 use reference::counters::Counters;
 use reference::fast::Fast;
+use reference::graph::{reachable, Edge};
 use reference::image::{Engine, Slow};
+use reference::rng::Rng;
 use reference::set::Member;
 
 /// Both engines with their names.
@@ -83,6 +85,29 @@ impl<'a> Harness<'a> {
         answer
     }
 
+    /// The keys that a trail writes to a trail sheet of this length, which held something else
+    /// before. A refusal leaves the trail sheet; accepted, its rest ends as zeros.
+    pub fn trail(&self, key: u32, trail_sheet_len: usize) -> Result<Vec<u32>, Refusal> {
+        let mut scratch = vec![5; self.scratch_len];
+        let before: Vec<u32> = (1..=trail_sheet_len as u32).collect();
+        let mut trail_sheet = before.clone();
+        let count = calls::trail(
+            &self.engine,
+            &self.tabulation,
+            &self.words,
+            &mut scratch,
+            key,
+            &mut trail_sheet,
+        );
+        assert!(scratch.iter().all(|&word| word == 0), "the scratch ends as zeros");
+        if count.is_err() {
+            assert_eq!(trail_sheet, before, "a refusal leaves the trail sheet");
+        }
+        let rest = trail_sheet.split_off(count?);
+        assert!(rest.iter().all(|&word| word == 0), "the rest is zeros");
+        Ok(trail_sheet)
+    }
+
     fn change(
         &mut self,
         call: impl Fn(&dyn Engine, &[u16], &mut [u32], &mut [u32], &mut Counters) -> Answer,
@@ -126,6 +151,23 @@ impl Tally {
             assert!(self.0.get(what).is_some_and(|&times| times > 0), "{title}: no {what}");
         }
     }
+}
+
+/// Whether a key lies on a cycle: its slots hang together without it.
+pub fn on_cycle(edges: &[Edge], edge: &Edge) -> bool {
+    let others: Vec<Edge> = edges.iter().filter(|other| other.key != edge.key).copied().collect();
+    reachable(&others, edge.slots[0]).contains(&edge.slots[1])
+}
+
+/// Distinct random keys in random order.
+pub fn many_keys(rng: &mut Rng, count: usize) -> Vec<u32> {
+    let mut keys = BTreeSet::new();
+    while keys.len() < count {
+        keys.insert(rng.next_u32().max(1));
+    }
+    let mut keys: Vec<u32> = keys.into_iter().collect();
+    rng.shuffle(&mut keys);
+    keys
 }
 
 /// All orders of the items.

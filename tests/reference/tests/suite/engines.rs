@@ -6,7 +6,7 @@ use std::collections::{BTreeMap, BTreeSet};
 use reference::answer::Found;
 use reference::calls::{check, lookup};
 use reference::fast::{self, Fast};
-use reference::graph::{components, edges, reachable, simple_cycles, Edge};
+use reference::graph::{components, edges, simple_cycles, Edge};
 use reference::hash::hashes;
 use reference::house::HOUSE;
 use reference::image::{next_keys, Engine, Slow};
@@ -16,7 +16,7 @@ use reference::samples::{
 };
 use reference::set::{members, set, Member, Set};
 
-use crate::common::{Harness, Tally};
+use crate::common::{many_keys, on_cycle, Harness, Tally};
 
 /// Compares the engines for one set and says what kinds of board it was.
 fn compare(tabulation: &[u16], r: u32, s: u32, members: &[Member], tally: &mut Tally) {
@@ -133,12 +133,6 @@ fn engines_give_no_image_where_no_list_is() {
     }
 }
 
-/// Whether a key lies on a cycle: its slots hang together without it.
-fn on_cycle(edges: &[Edge], edge: &Edge) -> bool {
-    let others: Vec<Edge> = edges.iter().filter(|other| other.key != edge.key).copied().collect();
-    reachable(&others, edge.slots[0]).contains(&edge.slots[1])
-}
-
 /// Edges less slots plus one: the number of independent cycles of a component.
 fn cycle_rank(component: &[Edge]) -> usize {
     let slots: BTreeSet<_> = component.iter().flat_map(|edge| edge.slots).collect();
@@ -230,17 +224,6 @@ fn images_obey_the_rule_checked_a_third_way() {
         tally.add("boards");
     }
     tally.report("third way", &["boards", "trees", "one cycle", "stash keys"]);
-}
-
-/// Distinct random keys in random order.
-fn many_keys(rng: &mut Rng, count: usize) -> Vec<u32> {
-    let mut keys = BTreeSet::new();
-    while keys.len() < count {
-        keys.insert(rng.next_u32().max(1));
-    }
-    let mut keys: Vec<u32> = keys.into_iter().collect();
-    rng.shuffle(&mut keys);
-    keys
 }
 
 #[test]

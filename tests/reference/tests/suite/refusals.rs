@@ -3,7 +3,7 @@
 //! in no set (5 with 6, 7, 8 or 10), and a listed key leaves the set as it is (6 or 10 with 8).
 
 use reference::answer::{number, Answer, Found};
-use reference::calls::{check, insert, lookup, remove, stash, stash_answer};
+use reference::calls::{check, insert, lookup, remove, stash, stash_answer, trail};
 use reference::counters::Counters;
 use reference::fast;
 use reference::image::Engine;
@@ -166,6 +166,48 @@ fn remove_refuses_in_order() {
     }
     let wanted =
         ["remove 0", "remove 1", "remove 2", "remove 3", "remove 4", "remove 5", "remove 7"];
+    tally.report("order of refusals", &wanted);
+}
+
+/// Makes a trail and checks that a refusal leaves everything as it should.
+///
+/// Without a defect of the key, it is 65, whose trail is 65, 1; a trail sheet of one word is too
+/// short for it (11), and one of no word for any key in a slot.
+fn trail_answer(engine: &dyn Engine, defects: Defects, way: usize) -> Answer {
+    let (tabulation, words, mut scratch) =
+        (input_tabulation(defects, way), input_words(defects, way), input_scratch(defects));
+    let key = if input_key(defects) == 2 { 65 } else { input_key(defects) };
+    let before = if defects.has(11) { vec![8; way % 2] } else { vec![8; 2 + way] };
+    let mut trail_sheet = before.clone();
+    let count = trail(&engine, &tabulation, &words, &mut scratch, key, &mut trail_sheet);
+    assert!(scratch.iter().all(|&word| word == 0));
+    match count {
+        Err(_) => assert_eq!(trail_sheet, before),
+        Ok(count) => {
+            assert_eq!((count, &trail_sheet[..2]), (2, &[65, 1][..]));
+            assert!(trail_sheet[2..].iter().all(|&word| word == 0));
+        }
+    }
+    count.map(|_| ())
+}
+
+#[test]
+fn trail_refuses_in_order() {
+    // Request Two: "Checks run as for withdraw [..]. Answers: 11 (trail sheet shorter than the
+    // trail) after 7".
+    const POSSIBLE: &[u32] = &[1, 2, 3, 4, 5, 7, 11];
+    let mut tally = Tally::default();
+    for (_, engine) in engines() {
+        for defects in Defects::all(POSSIBLE) {
+            for way in 0..WRONG_SHAPES {
+                let answer = number(trail_answer(engine, defects, way));
+                assert_eq!(answer, defects.first(POSSIBLE), "{:b}", defects.0);
+                tally.add(format!("trail {answer}"));
+            }
+        }
+    }
+    let wanted =
+        ["trail 0", "trail 1", "trail 2", "trail 3", "trail 4", "trail 5", "trail 7", "trail 11"];
     tally.report("order of refusals", &wanted);
 }
 

@@ -1,8 +1,9 @@
 //! Random sequences of calls on borrowed words against the reference model: every answer, the words
-//! after every call, the scratch and the counters. Then calls on arbitrary borrowed memory.
+//! after every call, the scratch, the trail sheet and the counters. Then calls on arbitrary
+//! borrowed memory.
 
 use reference::answer::{number, Answer, Found, Refusal};
-use reference::calls::{check, init, insert, lookup, remove, stash, stash_answer};
+use reference::calls::{check, init, insert, lookup, remove, stash, stash_answer, trail};
 use reference::counters::Counters;
 use reference::fast::{self, Fast};
 use reference::image::{Engine, Slow};
@@ -21,6 +22,25 @@ fn input_tier(rng: &mut Rng) -> u32 {
         2 => rng.below(8) as u32,
         _ => rng.pick(&[0, 1, 7]),
     }
+}
+
+/// What a trail call gives, with its keys; checks what it leaves on the trail sheet.
+fn trail_keys(
+    engine: &dyn Engine,
+    tabulation: &[u16],
+    words: &[u32],
+    scratch: &mut [u32],
+    key: u32,
+    trail_sheet: &[u32],
+) -> Result<Vec<u32>, Refusal> {
+    let mut written = trail_sheet.to_vec();
+    let count = trail(&engine, tabulation, words, scratch, key, &mut written);
+    if count.is_err() {
+        assert_eq!(written, trail_sheet, "a refusal leaves the trail sheet");
+    }
+    let rest = written.split_off(count?);
+    assert!(rest.iter().all(|&word| word == 0), "the rest is zeros");
+    Ok(written)
 }
 
 /// One sequence in the making.
@@ -68,13 +88,19 @@ impl<'a> Sequence<'a> {
         (0..len).map(|_| rng.next_u32()).collect()
     }
 
+    /// A trail sheet of some length and content, now and then too short.
+    fn input_trail_sheet(&self, rng: &mut Rng) -> Vec<u32> {
+        let len = rng.below(2 * self.r as usize + 3);
+        (0..len).map(|_| rng.next_u32()).collect()
+    }
+
     /// Makes one random call on the words and returns what the model is to be fed, and the reply.
     fn call(&mut self, rng: &mut Rng) -> (Call, Reply) {
         let (tabulation, mut scratch) = (self.input_tabulation(rng), self.input_scratch(rng));
         let (tabulation_len, scratch_len) = (tabulation.len(), scratch.len());
-        let key = rng.below(10) as u32;
+        let (key, trail_sheet) = (rng.below(10) as u32, self.input_trail_sheet(rng));
         let (words, counters) = (&mut self.words, &mut self.counters);
-        let (call, reply) = match rng.below(12) {
+        let (call, reply) = match rng.below(14) {
             0..=4 => {
                 let tier = input_tier(rng);
                 let answer =
@@ -97,6 +123,13 @@ impl<'a> Sequence<'a> {
             10 => {
                 assert_eq!(stash_answer(words), Ok(()));
                 return (Call::Stash, Reply::Stash(stash(words).to_vec()));
+            }
+            11 | 12 => {
+                let keys =
+                    trail_keys(self.engine, &tabulation, words, &mut scratch, key, &trail_sheet);
+                let trail_sheet_len = trail_sheet.len();
+                let call = Call::Trail { tabulation_len, scratch_len, key, trail_sheet_len };
+                (call, Reply::Trail(keys))
             }
             _ => {
                 // A call of another kind that is refused: an init with another shape.
@@ -124,6 +157,7 @@ fn label(call: &Call, reply: &Reply) -> String {
         Call::Lookup { .. } => "lookup",
         Call::Check { .. } => "check",
         Call::Stash => "stash",
+        Call::Trail { .. } => "trail",
         Call::Other { .. } => "other",
     };
     match reply {
@@ -133,6 +167,8 @@ fn label(call: &Call, reply: &Reply) -> String {
         Reply::Lookup(Err(refusal)) => format!("{kind} {}", refusal.number()),
         Reply::Stash(view) if view.is_empty() => format!("{kind} empty"),
         Reply::Stash(_) => format!("{kind} filled"),
+        Reply::Trail(Ok(keys)) => format!("{kind} of {}", keys.len().min(3)),
+        Reply::Trail(Err(refusal)) => format!("{kind} {}", refusal.number()),
     }
 }
 
@@ -190,6 +226,15 @@ fn sequences_answer_as_the_reference_model() {
         "check 3",
         "stash empty",
         "stash filled",
+        "trail of 0",
+        "trail of 1",
+        "trail of 2",
+        "trail of 3",
+        "trail 1",
+        "trail 3",
+        "trail 5",
+        "trail 7",
+        "trail 11",
         "other 2",
     ];
     tally.report("sequences", &wanted);
@@ -278,6 +323,18 @@ fn calls_are_total_and_the_engines_agree_on_any_memory() {
             }
             tally.add(format!("{name} {}", number(answer)));
         }
+        let trail_sheet: Vec<u32> = vec![8; rng.below(7)];
+        let checked = outcome(&Fast, 2).0;
+        let [slow, fast] = engines().map(|(_, engine)| {
+            let mut scratch = scratch.clone();
+            let keys = trail_keys(engine, &tabulation, &words, &mut scratch, key, &trail_sheet);
+            assert!(scratch.iter().all(|&word| word == 0));
+            keys
+        });
+        assert_eq!(slow, fast);
+        let answer = slow.map(|_| ());
+        assert!(checked.is_ok() || answer == checked, "1 to 4 as a check gives them");
+        tally.add(format!("trail {}", number(answer)));
         assert_eq!(lookup(&tabulation, &words, key), fast::lookup(&tabulation, &words, key));
         tally.add(format!("stash {}", number(stash_answer(&words))));
         assert!(stash_answer(&words).is_ok() || stash(&words).is_empty());
@@ -308,6 +365,14 @@ fn calls_are_total_and_the_engines_agree_on_any_memory() {
         "stash 0",
         "stash 2",
         "stash 4",
+        "trail 0",
+        "trail 1",
+        "trail 2",
+        "trail 3",
+        "trail 4",
+        "trail 5",
+        "trail 7",
+        "trail 11",
     ];
     tally.report("any memory", &wanted);
 }

@@ -1,0 +1,2 @@
+// The trail of a key: why it sits where it sits.
+mod walk;
