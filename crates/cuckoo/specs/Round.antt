@@ -37,21 +37,21 @@ module _ (g : ℕ → ℕ) where
   path-step v zero = refl
   path-step v (suc n) = path-step (g v) n
 
-  path-add : (v m n : ℕ) → path (path v m) n ≡ path v (m + n)
+  pub path-shift : (v m n : ℕ) → path (path v m) n ≡ path v (m + n)
   unfolding path
-  path-add v zero n = let e : 0 + n ≡ n = omega arith in rw e
-  path-add v (suc m) n = let e : suc m + n ≡ suc (m + n) = omega arith in rw e (path-add (g v) m n)
+  path-shift v zero n = let e : 0 + n ≡ n = omega arith in rw e
+  path-shift v (suc m) n = let e : suc m + n ≡ suc (m + n) = omega arith in rw e (path-shift (g v) m n)
 
   -- a walk that is back after m steps is after i more where it was after i
   module _ (v m : ℕ) (back : path v m ≡ v) where
     path-round : (i : ℕ) → path v (m + i) ≡ path v i
-    path-round i = sym (path-add v m i) ∙ ap (λ (u : ℕ). path u i) back
+    path-round i = sym (path-shift v m i) ∙ ap (λ (u : ℕ). path u i) back
 
     -- from each of its slots it comes to each
     path-on : (q i : ℕ) → q < m → (e : ℕ) × (path (path v q) e ≡ path v i)
     path-on q i l = elim (le? q i) [
-      | inl k ↦ (i - q, path-add v q (i - q) ∙ ap (path v) (omega arith))
-      | inr k ↦ (m - q + i, path-add v q (m - q + i) ∙ ap (path v) (omega arith) ∙ path-round i)
+      | inl k ↦ (i - q, path-shift v q (i - q) ∙ ap (path v) (omega arith))
+      | inr k ↦ (m - q + i, path-shift v q (m - q + i) ∙ ap (path v) (omega arith) ∙ path-round i)
     ]
 
 module _ (a b : ℕ → ℕ) {T : List ℕ} (asc : Asc T) (stop : Settled a b T) where
@@ -84,7 +84,7 @@ module _ (a b : ℕ → ℕ) {T : List ℕ} (asc : Asc T) (stop : Settled a b T)
         let S : Seat a b T (g v) (held (g v)) = rw (seat-occupant a b (r .1)) (r .1) in
         record { key = S; of = sym (root-same a b T (jtrans (jsym near) (seat-near a b S))) ∙ U .of }
 
-    under-path : {z v : ℕ} → Under z v → (n : ℕ) → Under z (path g v n)
+    pub under-path : {z v : ℕ} → Under z v → (n : ℕ) → Under z (path g v n)
     unfolding path
     under-path U zero = U
     under-path U (suc n) = under-path (under-next U) n

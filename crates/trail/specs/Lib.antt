@@ -1,2 +1,3 @@
--- How code finds the trail of a key (Walk): the walk through the words that closes on itself.
+-- How code finds the trail of a key: the walk through the words that closes on itself (Walk), and where its keys are cut off (Cut).
 pub mod Walk
+pub mod Cut
