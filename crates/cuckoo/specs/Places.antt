@@ -101,7 +101,7 @@ module _ (a b : ℕ → ℕ) where
     pub place : PlaceOf T (root a b T (a c)) v c
 
   -- a key sits in one of its two slots
-  seat-ends : {T : List ℕ} {v c : ℕ} → Seat T v c → (w : ℕ) × Ends a b c v w
+  pub seat-ends : {T : List ℕ} {v c : ℕ} → Seat T v c → (w : ℕ) × Ends a b c v w
   seat-ends {T} {v} {c} S = place-ends T (root a b T (a c)) (S .place)
 
   -- a key's slot, and which of the two it is

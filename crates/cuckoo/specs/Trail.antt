@@ -13,8 +13,8 @@ use borrow.Author.Tests.{eqb-true, eqb-false, eq-eqb, ne-eqb}
 use lib.Dec.{eqb, T}
 use lib.ListN.{length, getD}
 use Rattle.basics.specs.Tests.{test, eq?}
-use Rattle.basics.specs.Sets.{member, keep, without, last, Sub, in?, keep-in, keep-test, in-keep, in-member, no-member, in-out, out-shorter, length-keep, length-drop, Asc}
-use Rattle.basics.specs.Lists.{same, keep-both, pigeonhole, upto, length-upto, in-upto}
+use Rattle.basics.specs.Sets.{member, keep, without, first, last, Sub, in?, keep-in, keep-test, in-keep, in-member, no-member, in-out, out-shorter, length-keep, length-drop, Asc}
+use Rattle.basics.specs.Lists.{same, keep-both, Picked, picked, pigeonhole, upto, length-upto, in-upto}
 use Rattle.cuckoo.specs.Graph.{label, joined, component, onCycle, cyclic, spare, settle, seated, stash, root, sits, occupant}
 use Rattle.cuckoo.specs.Joined.{Joined, jrefl, jsym, jtrans, true-joined, no-joined}
 use Rattle.cuckoo.specs.Settling.{Settled, spare-mono, seated-stops, seated-joined}
@@ -79,6 +79,10 @@ module _ (a b : ℕ → ℕ) {T : List ℕ} where
   whole-only (ends q) (hands-on n t) = absurd (n q)
   whole-only (hands-on n t) (ends q) = absurd (n q)
   whole-only {c} (hands-on n t) (hands-on m s) = ap (λ (L : List ℕ). c ∷ L) (whole-only t s)
+
+  whole-first : {c : ℕ} {L : List ℕ} → Trail a b T c L → first L ≡ c
+  whole-first (ends q) = refl
+  whole-first (hands-on n t) = refl
 
   whole-next : {c : ℕ} {L : List ℕ} (k : ℕ) → Trail a b T c L → suc k < length L → getD L (suc k) 0 ≡ occupant a b T (other a b T (getD L k 0))
   whole-next k (ends q) l = absurd (omega arith)
@@ -173,7 +177,7 @@ module _ (a b : ℕ → ℕ) {T : List ℕ} (stop : Settled a b T) where
         | inr e ↦ rw e (elim (look a b T stop c i) [ inl q ↦ absurd (eqb-false (occupant a b T (a c)) c e q) | inr q ↦ q ])
       ]
 
-  sits-seat : {c : ℕ} → In c T → Seat a b T (seat a b T c) c
+  pub sits-seat : {c : ℕ} → In c T → Seat a b T (seat a b T c) c
   sits-seat {c} i = sits-at i (ends-near (seat-other a b T c) i) (seat-holds i)
 
   -- and if it is not the root, nowhere else.
@@ -251,9 +255,18 @@ module _ (a b : ℕ → ℕ) {T : List ℕ} (stop : Settled a b T) where
   pub trail-whole : {c : ℕ} → In c T → Trail a b T c (trail a b T c)
   trail-whole i = followed i .whole
 
+  -- "The trail starts with a seated card",
+  pub trail-first : {c : ℕ} → In c T → first (trail a b T c) ≡ c
+  trail-first i = whole-first a b (trail-whole i)
+
   -- "It ends with the root",
   pub trail-last : {c : ℕ} → In c T → last (trail a b T c) ≡ root a b T (a c)
   trail-last i = whole-last i (trail-whole i)
+
+  -- and that is "the smallest of a group without a loop, otherwise the smallest on the one loop that its seated cards form";
+  pub trail-ends : {c : ℕ} → Asc T → In c T → Picked (onCycle a b T) (component a b T (a c)) (last (trail a b T c))
+  unfolding root
+  trail-ends {c} asc i = rw (trail-last i) (picked (onCycle a b T) (asc-component a b T (a c) asc) (in-component a b T (a c) i jrefl))
 
   -- "without a repeated card",
   pub trail-once : {c : ℕ} → In c T → Distinct (trail a b T c)

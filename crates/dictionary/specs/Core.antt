@@ -98,6 +98,10 @@ module _ {tabulation ws scratch : List ℕ} {n key : ℕ} (Z : Settable tabulati
   pub searchable : (n < length scratch) × Asc (keys-at n scratch)
   searchable = (omega (arith, key-count, room), rw keys-stand (valid .asc))
 
+  -- a key that stands there is one of the set
+  pub stands-listed : {t : Bool} → t ≡ member key (keys-at n scratch) → t ≡ member key (keys-of (set-in tabulation ws))
+  stands-listed e = e ∙ ap (member key) (keys-stand ∙ sym set-keys)
+
   pub in-range : {r s : ℕ} → r ≡ slots-of ws → s ≡ places-of ws → Hashing tabulation r × ((s ≤ 64) × ((n ≤ 2 * r + s) × (used r s ≤ length scratch)))
   in-range e f = (
     rw e (record { full-length = Z .ready .full-length; has-slots = sizes .sizes .has-slots; slots-bound = sizes .sizes .slots-bound }),

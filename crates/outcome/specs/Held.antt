@@ -41,19 +41,19 @@ module _ {P : Params} {L : List Entry} {ws : List ℕ} (h : Holds P L ws) where
   held-some = sized (P .slots) (P .places) (h .range) .has-slots
 
   -- such words say r and s, and their set
-  held-params : params-of (P .tabulation) ws ≡ P
+  pub held-params : params-of (P .tabulation) ws ≡ P
   held-params = image-of-params (h .is)
 
-  held-set-in : set-in (P .tabulation) ws ≡ L
+  pub held-set-in : set-in (P .tabulation) ws ≡ L
   held-set-in = image-of-set (h .is) held-some
 
   pub held-shaped : shaped ws ≡ true
   held-shaped = rw (h .is .is) (image-shaped P L (h .range) (h .is .fit))
 
-  held-canonical : canonical (P .tabulation) ws ≡ true
+  pub held-canonical : canonical (P .tabulation) ws ≡ true
   held-canonical = rw (h .is .is) (image-canonical P L (h .range) (h .is .valid) (h .is .fit))
 
-  held-scratch : scratch-length (slots-of ws) (places-of ws) ≡ scratch-length (P .slots) (P .places)
+  pub held-scratch : scratch-length (slots-of ws) (places-of ws) ≡ scratch-length (P .slots) (P .places)
   held-scratch = ap (λ (Q : Params). scratch-length (Q .slots) (Q .places)) held-params
 
 -- Words that pass hold the set of the keys that stand in them.

@@ -101,7 +101,7 @@ module _ (tabulation ws scratch scratch′ : List ℕ) (same : length scratch �
 abbrev pub Late : ℕ → Type 0
 Late n = (n ≡ done) ⊎ (not-canonical < n)
 
-late-other : {n : ℕ} → Late n → member n (wrong-tabulation ∷ wrong-shape ∷ short-scratch ∷ not-canonical ∷ []) ≡ false
+pub late-other : {n : ℕ} → Late n → member n (wrong-tabulation ∷ wrong-shape ∷ short-scratch ∷ not-canonical ∷ []) ≡ false
 late-other (inl e) = rw e
 late-other {n} (inr l) = rw (ne-eqb n 1 (omega arith), ne-eqb n 2 (omega arith), ne-eqb n 3 (omega arith), ne-eqb n 4 (omega arith))
 
@@ -127,30 +127,30 @@ module _ (tabulation ws scratch : List ℕ) where
 
   -- 1 to 3, and what comes after them, where `rest` comes after 4
   module _ (rest : List (ℕ × Bool)) where
-    abbrev head : ℕ
+    abbrev pub head : ℕ
     head = first-refusal (first-refusals tabulation ws scratch ++ rest)
 
-    head-tabulation : (length tabulation ≡ tabulation-length → ⊥) → head ≡ wrong-tabulation
+    pub head-tabulation : (length tabulation ≡ tabulation-length → ⊥) → head ≡ wrong-tabulation
     head-tabulation n = rw (ne-eqb (length tabulation) tabulation-length n)
 
-    head-shape : length tabulation ≡ tabulation-length → shaped ws ≡ false → head ≡ wrong-shape
+    pub head-shape : length tabulation ≡ tabulation-length → shaped ws ≡ false → head ≡ wrong-shape
     head-shape e f = rw (eq-eqb (length tabulation) tabulation-length e, f)
 
-    head-scratch : length tabulation ≡ tabulation-length → shaped ws ≡ true → length scratch < scratch-length (slots-of ws) (places-of ws)
+    pub head-scratch : length tabulation ≡ tabulation-length → shaped ws ≡ true → length scratch < scratch-length (slots-of ws) (places-of ws)
         → head ≡ short-scratch
     head-scratch e f l =
         rw (eq-eqb (length tabulation) tabulation-length e, f, lt-ltb (length scratch) (scratch-length (slots-of ws) (places-of ws)) l)
 
-    head-ready : Ready → head ≡ first-refusal ((not-canonical, not (canonical tabulation ws)) ∷ rest)
+    pub head-ready : Ready → head ≡ first-refusal ((not-canonical, not (canonical tabulation ws)) ∷ rest)
     head-ready h =
         front-passes (early-refusals tabulation ws (length scratch)) ((not-canonical, not (canonical tabulation ws)) ∷ rest) (ready-none h)
 
     -- where none of 1 to 4 is given, none of them applies
-    head-passed : Late head → Ready × (canonical tabulation ws ≡ true)
+    pub head-passed : Late head → Ready × (canonical tabulation ws ≡ true)
     head-passed late = none-canonical (front-none (first-refusals tabulation ws scratch) rest refl (late-other late))
 
 -- none of 1 to 4 is among the refusals of a change that come after them
-late-first : (rs : List (ℕ × Bool)) → ((n : ℕ) → In n (numbers rs) → not-canonical < n) → Late (first-refusal rs)
+pub late-first : (rs : List (ℕ × Bool)) → ((n : ℕ) → In n (numbers rs) → not-canonical < n) → Late (first-refusal rs)
 late-first rs f = elim (first-refusal-in rs) [ here q ↦ inl q | there i ↦ inr (f (first-refusal rs) i) ]
 
 rest-late : (kind : Change) (P : Params) (key : ℕ) (L : List Entry) → Late (first-refusal ((blank-key, blank key) ∷ set-refusals kind P key L))

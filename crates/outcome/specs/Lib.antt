@@ -6,3 +6,4 @@ pub mod Held
 pub mod Demands
 pub mod Board
 pub mod Trail
+pub mod TrailLaws

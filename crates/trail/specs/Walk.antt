@@ -185,7 +185,7 @@ module _ {tabulation ws : List ℕ} {r : ℕ} (A : Readable tabulation ws r) {v 
   unfolding across
   out-1 l e = let t = le-ltb v (slots-of ws) (omega (arith, A .slots)) in e ∙ (rw (A .slots, held, t))
 
-across-lt : {tabulation ws : List ℕ} {r : ℕ} → Readable tabulation ws r → (v : ℕ) → across tabulation ws v < r + r
+pub across-lt : {tabulation ws : List ℕ} {r : ℕ} → Readable tabulation ws r → (v : ℕ) → across tabulation ws v < r + r
 unfolding across
 across-lt {tabulation} {ws} A v =
     let F = tables tabulation (slots-of ws) in

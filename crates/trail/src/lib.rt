@@ -1,3 +1,141 @@
-// The trail of a key: why it sits where it sits.
+// The trail of a key: why it sits where it sits. It starts with the key; each next one is the key in the last one's
+// other slot; it ends with the root of the component. The words are read as remove reads them, then a walk through them
+// finds the root and the keys on the way to it.
+ghost use mathlib.Core.Path.{_≡_};
+ghost use mathlib.Core.List.{[], _∷_};
+ghost use lib.Dec.{ltb};
+ghost use lib.ListN.{length};
+ghost use Rattle.refusals.specs.Refusal.{short-trail, first-refusal};
+ghost use Rattle.layout.specs.Layout.{params-of, keys-in};
+ghost use Rattle.dictionary.specs.Core.{Settable};
+ghost use Rattle.outcome.specs.Trail.{number, values, trail-of, trail-outcome};
+ghost use Rattle.trail.specs.Walk.{Readable};
+ghost use Rattle.trail.specs.Traced.{seat-in, Traceable, Told, Decided, Answered};
+use access::key_in;
+use cut::cut;
+use cut::met;
+use cut::write_keys;
+use outcome::Traced;
+use refusals::BLANK_KEY;
+use refusals::KEY_ABSENT;
+use refusals::NOT_CANONICAL;
+use refusals::SHORT_TRAIL;
+use renewal::Reading;
+use renewal::clear;
+use renewal::early;
+use renewal::members::is_at;
+use renewal::members::place_of;
+use renewal::read_set;
+use tabulation::first_slot;
+use tabulation::second_slot;
+use walk::walk;
+use words::fill;
+
 mod cut;
 mod walk;
+
+// The slot in which a key sits, if it is seated: that of table 0, if it stands there, or else that of table 1.
+fn seat_of(tabulation: &[u16], words: &[u32], r: u32, key: u32) -> u32
+    requires { ⌜ Readable (now tabulation) (now words) r ⌝ }
+    ensures { λ v. ⌜ v ≡ seat-in (now (tabulation .entry)) (now (words .entry)) key ⌝ }
+{
+    let first = first_slot(tabulation, r, key);
+    if key_in(words, first) == key {
+        return first;
+    }
+    second_slot(tabulation, r, key)
+}
+
+// The trail of a key of the set: 11, or how many keys it has, and they are written. A stashed key has none.
+fn trace(
+    tabulation: &[u16],
+    words: &[u32],
+    scratch: &mut [u32],
+    r: u32,
+    key: u32,
+    trail: &mut [u32],
+) -> Traced
+    requires { ⌜ Traceable (now tabulation) (now words) (now scratch) r key ⌝ }
+    ensures { λ t. ⌜ Told (first-refusal ((short-trail, ltb (length (now (trail .entry)))
+        (length (trail-of (params-of (now (tabulation .entry)) (now (words .entry))) (keys-in (now (words .entry))) key)))
+        ∷ [])) (trail-of (params-of (now (tabulation .entry)) (now (words .entry))) (keys-in (now (words .entry))) key)
+        (now (trail .entry)) t (now (trail .exit)) ⌝ }
+{
+    let slot = seat_of(tabulation, words, r, key);
+    if key_in(words, slot) != key {
+        fill(&mut *trail, 0);
+        return Traced::Length(0);
+    }
+    clear(&mut *scratch);
+    let at = walk(tabulation, words, &mut *scratch, r, slot);
+    let count = cut(&*scratch, r, at.slot, at.steps);
+    if trail.len() < count {
+        return Traced::Refused(SHORT_TRAIL);
+    }
+    let keys = met(&*scratch, r, at.steps);
+    write_keys(&mut *trail, &keys[0..count]);
+    Traced::Length(count as u32)
+}
+
+// The set of the words stands in scratch, n keys, and the key is not blank: 7, or the trail of the key.
+fn trace_listed(
+    tabulation: &[u16],
+    words: &[u32],
+    scratch: &mut [u32],
+    n: usize,
+    key: u32,
+    trail: &mut [u32],
+) -> Traced
+    requires { ⌜ Settable (now tabulation) (now words) (now scratch) n key ⌝ }
+    ensures { λ t. ⌜ Decided (now (tabulation .entry)) (now (words .entry)) (now (scratch .entry)) key
+        (now (trail .entry)) t (now (trail .exit)) ⌝ }
+{
+    let header = access::read_header(words);
+    let at = place_of(&*scratch, n, key);
+    if !is_at(&*scratch, n, at, key) {
+        return Traced::Refused(KEY_ABSENT);
+    }
+    trace(tabulation, words, &mut *scratch, header.slots, key, &mut *trail)
+}
+
+// The whole call but for the clearing of scratch.
+fn trail_words(
+    tabulation: &[u16],
+    words: &[u32],
+    scratch: &mut [u32],
+    key: u32,
+    trail: &mut [u32],
+) -> Traced
+    ensures { λ t. ⌜ Answered (now (tabulation .entry)) (now (words .entry)) (now (scratch .entry)) key
+        (now (trail .entry)) t (now (trail .exit)) ⌝ }
+{
+    let refusal = early(tabulation, words, scratch.len());
+    if refusal != 0 {
+        return Traced::Refused(refusal);
+    }
+    let reading = read_set(tabulation, words, &mut *scratch);
+    let Reading::Keys(n) = reading else {
+        return Traced::Refused(NOT_CANONICAL);
+    };
+    if tabulation::is_blank(key) {
+        return Traced::Refused(BLANK_KEY);
+    }
+    trace_listed(tabulation, words, &mut *scratch, n, key, &mut *trail)
+}
+
+// The trail of a key: its whole outcome. The words are only read.
+pub fn trail(
+    tabulation: &[u16],
+    words: &[u32],
+    scratch: &mut [u32],
+    key: u32,
+    trail: &mut [u32],
+) -> Traced
+    ensures { λ t. ⌜ record { number = number t; values = values t; words = now (words .entry);
+        scratch = now (scratch .exit); trail = now (trail .exit) }
+        ≡ trail-outcome (now (tabulation .entry)) (now (words .entry)) (now (scratch .entry)) key (now (trail .entry)) ⌝ }
+{
+    let answer = trail_words(tabulation, words, &mut *scratch, key, &mut *trail);
+    clear(&mut *scratch);
+    answer
+}
