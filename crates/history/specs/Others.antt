@@ -1,9 +1,9 @@
 -- Calls of another kind in a sequence: where one may stand it agrees with the model, and like ones answer and leave the
--- same. Then two that exist today: init, which may stand where it is refused, and the hashes of a key, which may stand
--- anywhere, as any call that only reads the words. Assumes nothing.
+-- same. Then three that exist today: init, which may stand where it is refused; the hashes and the trail of a key, which
+-- may stand anywhere, as any call that only reads the words. Assumes nothing.
 use Prim.Native.Nat.{ℕ}
 use mathlib.Core.Path.{_≡_, refl}
-use mathlib.Core.List.{List, []}
+use mathlib.Core.List.{List, [], _++_}
 use borrow.Author.Tests.{ne-eqb}
 use lib.ListN.{length}
 use Rattle.refusals.specs.Refusal.{done}
@@ -13,6 +13,8 @@ use Rattle.layout.specs.Entries.{Entry}
 use Rattle.layout.specs.Layout.{Params}
 use Rattle.layout.specs.Answers.{fresh-refusal, fresh-words}
 use Rattle.outcome.specs.Held.{Holds}
+use Rattle.outcome.specs.Trail.{trail-outcome}
+use Rattle.outcome.specs.TrailLaws.{trail-words}
 use Rattle.history.specs.Calls.{Answer, Other, Call, step, OtherStands, refused, unchanged}
 use Rattle.history.specs.Model.{Request, reply}
 use Rattle.history.specs.Agrees.{Agrees}
@@ -59,3 +61,18 @@ reads-stands answer ws = unchanged refl
 -- The hashes of a key, for any tabulation and r: the call is not even lent the words.
 abbrev pub hashes : Family → ℕ → Other
 hashes F key = reads (λ ws. record { number = hashes-refusal F key; values = hashes-values F key })
+
+-- The trail of a key, with any tabulation, scratch and lent trail. Its values are how many keys the trail has, none if it is refused, and the words that are
+-- lent for it, as they are afterwards.
+abbrev pub trail : (tabulation scratch : List ℕ) (key : ℕ) (sheet : List ℕ) → Other
+trail tabulation scratch key sheet = record {
+  answer = λ ws.
+      let o = trail-outcome tabulation ws scratch key sheet in
+      record { number = o .number; values = o .values ++ o .trail };
+  words = λ ws. trail-outcome tabulation ws scratch key sheet .words;
+  leaves = λ ws n. trail-words tabulation ws scratch key sheet;
+}
+
+-- It may stand on any words, too.
+pub trail-stands : (tabulation ws scratch : List ℕ) (key : ℕ) (sheet : List ℕ) → OtherStands ws (trail tabulation scratch key sheet)
+trail-stands tabulation ws scratch key sheet = unchanged (trail-words tabulation ws scratch key sheet)

@@ -1,7 +1,7 @@
 -- What the out-parameters of the exported calls hold afterwards. The documents decide the values of an accepted call; what a refusal leaves, and the tier of a
 -- key that is not listed, are ours to say: lookup leaves what stood there, the view gives an empty stretch.
 use Prim.Native.Nat.{ℕ, _*_}
-use mathlib.Core.Path.{_≡_, refl, ap}
+use mathlib.Core.Path.{_≡_, refl, sym, _∙_, ap}
 use mathlib.Core.Bool.{Bool, cond, true, false}
 use mathlib.Core.List.{List, []}
 use lib.Dec.{eqb}
@@ -9,6 +9,8 @@ use lib.ListN.{getD, take, drop}
 use Rattle.refusals.specs.Refusal.{done}
 use Rattle.layout.specs.Layout.{slots-of, stash-count, stash-at, place-width}
 use Rattle.layout.specs.Answers.{lookup-values, view-refusal, view-of}
+use Rattle.outcome.specs.declared.Traced.{Traced}
+use Rattle.outcome.specs.Trail.{number, values, TrailOutcome, trail-outcome}
 
 -- the values of a lookup, 1 and the tier or 0, each in its place; where there is none, what stood there before
 unfoldable pub listed-out : List ℕ → List ℕ → ℕ → ℕ → ℕ
@@ -23,6 +25,10 @@ offset-out ws = cond (eqb (view-refusal ws) done) (stash-at (slots-of ws)) 0
 
 unfoldable pub length-out : List ℕ → ℕ
 length-out ws = cond (eqb (view-refusal ws) done) (place-width * stash-count ws) 0
+
+-- how many keys a trail has; refused, what stood there before
+unfoldable pub count-out : List ℕ → List ℕ → List ℕ → ℕ → List ℕ → ℕ → ℕ
+count-out tabulation ws scratch key sheet old = getD (trail-outcome tabulation ws scratch key sheet .values) 0 old
 
 -- The laws: offset and length name the very words that the view is
 pub stretch : (ws : List ℕ) → take (length-out ws) (drop (offset-out ws) ws) ≡ view-of ws
@@ -43,3 +49,15 @@ module _ (tabulation ws : List ℕ) (key old : ℕ) {vs : List ℕ} (e : vs ≡ 
   pub tier-value : getD vs 1 old ≡ tier-out tabulation ws key old
   unfolding tier-out
   tier-value = ap (λ (l : List ℕ). getD l 1 old) e
+
+-- what is handed on of a trail's answer f, which was found to be g
+pub handed-trail : (tabulation ws scratch : List ℕ) (key : ℕ) (sheet : List ℕ) (old : ℕ) {us left new : List ℕ} {f g : Traced} → f ≡ g
+    → record { number = number f; values = values f; words = us; scratch = left; trail = new } ≡ trail-outcome tabulation ws scratch key sheet
+    → let o = trail-outcome tabulation ws scratch key sheet in
+    (number g ≡ o .number)
+    × ((left ≡ o .scratch) × ((new ≡ o .trail) × (getD (values g) 0 old ≡ count-out tabulation ws scratch key sheet old)))
+unfolding count-out
+handed-trail tabulation ws scratch key sheet old q e = (
+  ap number (sym q) ∙ ap (λ (o : TrailOutcome). o .number) e,
+  (ap (λ (o : TrailOutcome). o .scratch) e, (ap (λ (o : TrailOutcome). o .trail) e, ap (λ (t : Traced). getD (values t) 0 old) (sym q) ∙ ap (λ (o : TrailOutcome). getD (o .values) 0 old) e)),
+)

@@ -7,13 +7,15 @@ ghost use Rattle.tabulation.specs.Hash.{tables};
 ghost use Rattle.tabulation.specs.Answer.{hashes-refusal, written};
 ghost use Rattle.layout.specs.Answers.{lookup-refusal, view-refusal, fresh-refusal, fresh-words};
 ghost use Rattle.outcome.specs.Outcome.{change-outcome, check-outcome};
+ghost use Rattle.outcome.specs.Trail.{trail-outcome};
 ghost use Rattle.counters.specs.Counters.{counted};
 ghost use Rattle.pinorange.specs.House.{house-answer, housed};
-ghost use Rattle.pinorange.specs.Out.{listed-out, tier-out, offset-out, length-out};
+ghost use Rattle.pinorange.specs.Out.{listed-out, tier-out, offset-out, length-out, count-out};
 use access::PLACE_WIDTH;
 use counters::Counters;
 use layout::Found;
 use outcome::Change;
+use outcome::Traced;
 use refusals::WRONG_TABULATION;
 use tabulation::TABULATION_LENGTH;
 use words::wide;
@@ -131,6 +133,36 @@ pub extern "C" fn pinorange_check(tabulation: &[u16], words: &[u32], scratch: &m
         ≡ check-outcome (now (tabulation .entry)) (now (words .entry)) (now (scratch .entry)) ⌝ }
 {
     dictionary::check(tabulation, words, scratch)
+}
+
+// The trail of a key: document 02's number. Done, `count` is how many keys it has, and they stand in the lent trail, zeros
+// behind them; refused, both stay. The words are only read; the scratch is zero over its full length afterwards.
+#[no_mangle]
+pub extern "C" fn pinorange_trail(
+    tabulation: &[u16],
+    words: &[u32],
+    scratch: &mut [u32],
+    key: u32,
+    trail: &mut [u32],
+    count: &mut u32,
+) -> u32
+    ensures numbered { λ n. ⌜ n ≡ trail-outcome (now (tabulation .entry)) (now (words .entry)) (now (scratch .entry)) key
+        (now (trail .entry)) .number ⌝ }
+    ensures cleared { λ n. ⌜ now (scratch .exit) ≡ trail-outcome (now (tabulation .entry)) (now (words .entry))
+        (now (scratch .entry)) key (now (trail .entry)) .scratch ⌝ }
+    ensures traced { λ n. ⌜ now (trail .exit) ≡ trail-outcome (now (tabulation .entry)) (now (words .entry))
+        (now (scratch .entry)) key (now (trail .entry)) .trail ⌝ }
+    ensures counted { λ n. ⌜ now (count .exit) ≡ count-out (now (tabulation .entry)) (now (words .entry))
+        (now (scratch .entry)) key (now (trail .entry)) (now (count .entry)) ⌝ }
+{
+    let traced = trail::trail(tabulation, words, scratch, key, trail);
+    match traced {
+        Traced::Length(n) => {
+            *count = n;
+            0
+        }
+        Traced::Refused(n) => n,
+    }
 }
 
 // The house tabulation, written into a lent one; 1 if that is not of the right length, and it stays.

@@ -56,8 +56,11 @@ fn trace(
     trail: &mut [u32],
 ) -> Traced
     requires { ⌜ Traceable (now tabulation) (now words) (now scratch) r key ⌝ }
-    ensures { λ t. ⌜ Told (first-refusal ((short-trail, ltb (length (now (trail .entry)))
-        (length (trail-of (params-of (now (tabulation .entry)) (now (words .entry))) (keys-in (now (words .entry))) key)))
+    ensures { λ t. ⌜ Told (first-refusal ((
+      short-trail,
+      ltb (length (now (trail .entry)))
+          (length (trail-of (params-of (now (tabulation .entry)) (now (words .entry))) (keys-in (now (words .entry))) key)),
+    )
         ∷ [])) (trail-of (params-of (now (tabulation .entry)) (now (words .entry))) (keys-in (now (words .entry))) key)
         (now (trail .entry)) t (now (trail .exit)) ⌝ }
 {
@@ -95,7 +98,14 @@ fn trace_listed(
     if !is_at(&*scratch, n, at, key) {
         return Traced::Refused(KEY_ABSENT);
     }
-    trace(tabulation, words, &mut *scratch, header.slots, key, &mut *trail)
+    trace(
+        tabulation,
+        words,
+        &mut *scratch,
+        header.slots,
+        key,
+        &mut *trail,
+    )
 }
 
 // The whole call but for the clearing of scratch.
@@ -131,8 +141,13 @@ pub fn trail(
     key: u32,
     trail: &mut [u32],
 ) -> Traced
-    ensures { λ t. ⌜ record { number = number t; values = values t; words = now (words .entry);
-        scratch = now (scratch .exit); trail = now (trail .exit) }
+    ensures { λ t. ⌜ record {
+      number = number t;
+      values = values t;
+      words = now (words .entry);
+      scratch = now (scratch .exit);
+      trail = now (trail .exit);
+    }
         ≡ trail-outcome (now (tabulation .entry)) (now (words .entry)) (now (scratch .entry)) key (now (trail .entry)) ⌝ }
 {
     let answer = trail_words(tabulation, words, &mut *scratch, key, &mut *trail);

@@ -32,4 +32,3 @@ returns-2 c =
 
 pub seat-of-spec : {M : Type 1} → statement M
 seat-of-spec = tie.close (tie.spec first-slot-requires key-in-requires returns second-slot-requires returns-2)
-

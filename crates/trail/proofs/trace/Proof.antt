@@ -126,4 +126,3 @@ returns-3 c =
 
 pub trace-spec : {M : Type 1} → statement M
 trace-spec = tie.close (tie.spec seat-of-requires key-in-requires fill-requires same-length returns clear-requires walk-requires cut-requires same-length-2 returns-2 met-requires sub-write-keys part-write-keys-start part-write-keys-end write-keys-requires cast-t11 same-length-3 same-length-4 returns-3)
-

@@ -54,4 +54,3 @@ returns-2 c =
 
 pub trace-listed-spec : {M : Type 1} → statement M
 trace-listed-spec = tie.close (tie.spec read-header-requires place-of-requires is-at-requires same-length returns trace-requires same-length-2 same-length-3 returns-2)
-

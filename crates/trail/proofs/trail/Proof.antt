@@ -27,4 +27,3 @@ returns c =
 
 pub trail-spec : {M : Type 1} → statement M
 trail-spec = tie.close (tie.spec trail-words-requires clear-requires same-length same-length-2 returns)
-

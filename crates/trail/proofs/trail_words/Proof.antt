@@ -87,4 +87,3 @@ returns-4 c =
 
 pub trail-words-spec : {M : Type 1} → statement M
 trail-words-spec = tie.close (tie.spec early-requires returns read-set-requires enum-known-reading enum-told same-length returns-2 is-blank-requires same-length-2 returns-3 trace-listed-requires same-length-3 same-length-4 returns-4)
-

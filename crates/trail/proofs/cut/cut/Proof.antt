@@ -64,4 +64,3 @@ returns c =
 
 pub cut-spec : {M : Type 1} → statement M
 cut-spec = tie.close (tie.spec met-requires wide-requires mul-wide shared-slice-read-wide wide-requires-2 sub-back mul-smallest sub-smallest part-smallest-start part-smallest-end smallest-requires find-requires add-result returns)
-

@@ -36,4 +36,3 @@ returns c =
 
 pub met-spec : {M : Type 1} → statement M
 met-spec = tie.close (tie.spec wide-requires mul-start wide-requires-2 add-end mul-result sub-result part-result-start part-result-end returns)
-

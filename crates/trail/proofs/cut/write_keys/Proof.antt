@@ -30,4 +30,3 @@ returns c =
 
 pub write-keys-spec : {M : Type 1} → statement M
 write-keys-spec = tie.close (tie.spec fill-requires copy-requires same-length returns)
-

@@ -21,4 +21,3 @@ returns-2 c = on-here (c .before .before .before .before .args .scratch .now) _ 
 
 pub goes-on-spec : {M : Type 1} → statement M
 goes-on-spec = tie.close (tie.spec wide-requires mul-if1 shared-slice-read-if1 returns returns-2)
-

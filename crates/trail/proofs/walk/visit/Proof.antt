@@ -53,4 +53,3 @@ returns c =
 
 pub visit-spec : {M : Type 1} → statement M
 visit-spec = tie.close (tie.spec key-in-requires add-scratch wide-requires mul-scratch slice-write-scratch wide-requires-2 mul-scratch-2 wide-requires-3 add-scratch-2 mul-scratch-3 slice-write-scratch-2 same-length returns)
-
