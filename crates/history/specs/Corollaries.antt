@@ -1,14 +1,18 @@
 -- What else follows from the theorem about whole sequences: the answers alone; which runs are sequences; a lookup tells
--- the set; a refused call of another kind leaves words and set; a removal undoes an insert. Assumes nothing.
-use Prim.Native.Nat.{ℕ, _≤_}
+-- the set; a refused call of another kind leaves words and set; a removal undoes an insert; what a trail answers. Assumes
+-- nothing.
+use Prim.Native.Nat.{ℕ, _-_, _≤_}
 use mathlib.Core.Path.{_≡_, refl, sym, _∙_, ap}
+use mathlib.Core.Bool.{not}
 use mathlib.Core.Logic.{_↔_}
-use mathlib.Core.List.{List, [], _∷_, map, map-map, List·Memᴰ as In, List·Memᴰ·head as here, List·Memᴰ·tail as there}
+use mathlib.Core.List.{List, [], _∷_, _++_, map, map-map, List·Memᴰ as In, List·Memᴰ·head as here, List·Memᴰ·tail as there}
 use native.Mathlib.Omega.{arith}
 use borrow.Author.Tests.{eq-eqb}
-use lib.ListN.{length}
-use Rattle.basics.specs.Sets.{Asc}
-use Rattle.refusals.specs.Refusal.{done, first-refusal}
+use lib.Dec.{ltb}
+use lib.ListN.{length, replicate}
+use Rattle.basics.specs.Sets.{member, Asc}
+use Rattle.refusals.specs.Refusal.{done, short-scratch, blank-key, key-absent, short-trail, first-refusal}
+use Rattle.tabulation.specs.Hash.{blank}
 use Rattle.layout.specs.Entries.{Entry, keys-of}
 use Rattle.layout.specs.Layout.{Params, scratch-length}
 use Rattle.layout.specs.Canonical.{image-of-keys}
@@ -17,6 +21,8 @@ use Rattle.layout.specs.Look.{looked-entry, looked-none}
 use Rattle.outcome.specs.declared.Change.the-variants.{Insert, Remove}
 use Rattle.counters.specs.declared.Counters.{Counters}
 use Rattle.outcome.specs.Laws.{change-tabulation}
+use Rattle.outcome.specs.Trail.{trail-of, trail-outcome}
+use Rattle.outcome.specs.TrailLaws.{trail-done, held-asked, held-trail}
 use Rattle.outcome.specs.Held.{held-some, held-undone, insert-kept}
 use Rattle.history.specs.Calls.{Lent, own, wrong, lent-of, Other, Call, Answer, Step, step, run, words-left}
 use Rattle.history.specs.Calls.{MayStand, Allowed, none, more, Sequence}
@@ -123,3 +129,22 @@ module _ {P : Params} {ws : List ℕ} {cs : List Call} (q : Sequence P ws cs) wh
   unfolding step
   undone own scratch scratch′ counters counters′ key tier e room = held-undone (history q .final) (q .full-length) scratch scratch′ tier key e room
   undone (wrong u n) scratch scratch′ counters counters′ key tier e room = absurd (omega (arith, change-tabulation u W scratch (Insert tier) key n))
+
+-- What a trail answers at the end of a sequence: it tries its refusals as the register would, "the set" being the register's, and shows the trail of that set. So
+-- two sequences that end in one set show the same trails.
+module _ {P : Params} {ws : List ℕ} {cs : List Call} (q : Sequence P ws cs) (key : ℕ) where
+  pub trail-number : (scratch sheet : List ℕ)
+      → trail-outcome (P .tabulation) (words-left P ws cs) scratch key sheet .number
+      ≡ first-refusal
+      ((short-scratch, ltb (length scratch) (scratch-length (P .slots) (P .places))) ∷ (blank-key, blank key)
+      ∷ (key-absent, not (member key (keys-of (set-left P ws cs))))
+      ∷ (short-trail, ltb (length sheet) (length (trail-of P (keys-of (set-left P ws cs)) key))) ∷ [])
+  unfolding trail-outcome
+  trail-number scratch sheet = held-trail (history q .final) key (q .full-length) scratch (length sheet)
+
+  pub trail-shown : (scratch sheet : List ℕ) → trail-outcome (P .tabulation) (words-left P ws cs) scratch key sheet .number ≡ done
+      → let L = trail-of P (keys-of (set-left P ws cs)) key in
+      trail-outcome (P .tabulation) (words-left P ws cs) scratch key sheet .trail ≡ L ++ replicate (length sheet - length L) 0
+  trail-shown scratch sheet e =
+      trail-done (P .tabulation) (words-left P ws cs) scratch key sheet e .1
+      ∙ ap (λ (L : List ℕ). L ++ replicate (length sheet - length L) 0) (held-asked (history q .final) key)

@@ -33,15 +33,20 @@ trail-of P S key =
     let b = slot-1 (family P) in
     trail a b (seated a b S) key
 
--- "Checks run as for withdraw"; "11 (trail sheet shorter than the trail) after 7", where n words are lent for the trail
-unfoldable pub trail-refusal : List ℕ → List ℕ → List ℕ → ℕ → ℕ → ℕ
-trail-refusal tabulation ws scratch key n =
-    first-refusal
-    (first-refusals tabulation ws scratch
-    ++ ((blank-key, blank key)
+-- the trail of a key in the words: among the keys that stand in them
+abbrev pub trail-in : List ℕ → List ℕ → ℕ → List ℕ
+trail-in tabulation ws key = trail-of (params-of tabulation ws) (keys-in ws) key
+
+-- "Checks run as for withdraw": these after 4; "11 (trail sheet shorter than the trail) after 7", where n words are lent for the trail
+abbrev pub trail-refusals : List ℕ → List ℕ → ℕ → ℕ → List (ℕ × Bool)
+trail-refusals tabulation ws key n =
+    (blank-key, blank key)
     ∷ (key-absent, not (member key (keys-of (set-in tabulation ws))))
-    ∷ (short-trail, ltb n (length (trail-of (params-of tabulation ws) (keys-in ws) key)))
-    ∷ []))
+    ∷ (short-trail, ltb n (length (trail-in tabulation ws key)))
+    ∷ []
+
+unfoldable pub trail-refusal : List ℕ → List ℕ → List ℕ → ℕ → ℕ → ℕ
+trail-refusal tabulation ws scratch key n = first-refusal (first-refusals tabulation ws scratch ++ trail-refusals tabulation ws key n)
 
 pub record TrailOutcome : Type 0 where
   pub number : ℕ
@@ -55,7 +60,7 @@ pub record TrailOutcome : Type 0 where
 unfoldable pub trail-outcome : List ℕ → List ℕ → List ℕ → ℕ → List ℕ → TrailOutcome
 trail-outcome tabulation ws scratch key sheet =
     let n = trail-refusal tabulation ws scratch key (length sheet) in
-    let L = trail-of (params-of tabulation ws) (keys-in ws) key in
+    let L = trail-in tabulation ws key in
     record {
       number = n;
       values = cond (eqb n done) (length L ∷ []) [];

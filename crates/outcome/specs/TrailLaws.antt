@@ -26,28 +26,20 @@ use Rattle.outcome.specs.Outcome.{first-refusals, change-refusal, change
 use Rattle.outcome.specs.Laws.{Ready, Tampered, head-tabulation, head-shape, head-scratch, head-ready, later-refusals}
 use Rattle.outcome.specs.Held.{Holds, held-some, held-params, held-set-in, held-shaped, held-canonical, held-scratch}
 use Rattle.outcome.specs.Demands.{Harmless}
-use Rattle.outcome.specs.Trail.{trail-of, trail-refusal, TrailOutcome, trail-outcome}
+use Rattle.outcome.specs.Trail.{trail-of, trail-in, trail-refusals, trail-refusal, TrailOutcome, trail-outcome}
 
 -- "1 2 3 4 5 7, then 11": the numbers
 abbrev pub trail-answers : List ℕ
 trail-answers = 0 ∷ 1 ∷ 2 ∷ 3 ∷ 4 ∷ 5 ∷ 7 ∷ 11 ∷ []
 
 module _ (tabulation ws scratch : List ℕ) (key : ℕ) where
-  -- the trail that is asked for, and the refusals after 4, where n words are lent for it
-  abbrev pub asked : List ℕ
-  asked = trail-of (params-of tabulation ws) (keys-in ws) key
-
-  abbrev pub trail-rest : ℕ → List (ℕ × Bool)
-  trail-rest n =
-      (blank-key, blank key) ∷ (key-absent, not (member key (keys-of (set-in tabulation ws)))) ∷ (short-trail, ltb n (length asked)) ∷ []
-
   module _ (sheet : List ℕ) where
     abbrev o : TrailOutcome
     o = trail-outcome tabulation ws scratch key sheet
 
     pub trail-answer-in : In (o .number) trail-answers
     unfolding trail-outcome trail-refusal
-    trail-answer-in = first-refusal-in (first-refusals tabulation ws scratch ++ trail-rest (length sheet))
+    trail-answer-in = first-refusal-in (first-refusals tabulation ws scratch ++ trail-refusals tabulation ws key (length sheet))
 
     -- "every refusal leaves the trail sheet unchanged";
     pub trail-refused : (o .number ≡ done → ⊥) → (o .values ≡ []) × (o .trail ≡ sheet)
@@ -55,7 +47,7 @@ module _ (tabulation ws scratch : List ℕ) (key : ℕ) where
     trail-refused n = let t = ne-eqb (trail-refusal tabulation ws scratch key (length sheet)) done n in (rw t, rw t)
 
     -- accepted, "Its card numbers are written to a lent sheet, rest zeros, and the call tells how many".
-    pub trail-done : o .number ≡ done → (o .values ≡ length asked ∷ []) × (o .trail ≡ asked ++ replicate (length sheet - length asked) 0)
+    pub trail-done : o .number ≡ done → (o .values ≡ length (trail-in tabulation ws key) ∷ []) × (o .trail ≡ trail-in tabulation ws key ++ replicate (length sheet - length (trail-in tabulation ws key)) 0)
     unfolding trail-outcome
     trail-done e = let t = eq-eqb (trail-refusal tabulation ws scratch key (length sheet)) done e in (rw t, rw t)
 
@@ -75,24 +67,24 @@ module _ (tabulation ws scratch : List ℕ) (key : ℕ) where
     -- Rows 1 to 4, in their order,
     pub trail-tabulation : (length tabulation ≡ tabulation-length → ⊥) → o .number ≡ wrong-tabulation
     unfolding trail-outcome trail-refusal
-    trail-tabulation = head-tabulation tabulation ws scratch (trail-rest (length sheet))
+    trail-tabulation = head-tabulation tabulation ws scratch (trail-refusals tabulation ws key (length sheet))
 
     pub trail-shape : length tabulation ≡ tabulation-length → shaped ws ≡ false → o .number ≡ wrong-shape
     unfolding trail-outcome trail-refusal
-    trail-shape = head-shape tabulation ws scratch (trail-rest (length sheet))
+    trail-shape = head-shape tabulation ws scratch (trail-refusals tabulation ws key (length sheet))
 
     pub trail-short : length tabulation ≡ tabulation-length → shaped ws ≡ true → length scratch < scratch-length (slots-of ws) (places-of ws)
         → o .number ≡ short-scratch
     unfolding trail-outcome trail-refusal
-    trail-short = head-scratch tabulation ws scratch (trail-rest (length sheet))
+    trail-short = head-scratch tabulation ws scratch (trail-refusals tabulation ws key (length sheet))
 
     pub trail-ready : Ready tabulation ws scratch
-        → o .number ≡ first-refusal ((not-canonical, not (canonical tabulation ws)) ∷ trail-rest (length sheet))
+        → o .number ≡ first-refusal ((not-canonical, not (canonical tabulation ws)) ∷ trail-refusals tabulation ws key (length sheet))
     unfolding trail-outcome trail-refusal
-    trail-ready = head-ready tabulation ws scratch (trail-rest (length sheet))
+    trail-ready = head-ready tabulation ws scratch (trail-refusals tabulation ws key (length sheet))
 
     -- and those that look at the set.
-    pub trail-set : Ready tabulation ws scratch → canonical tabulation ws ≡ true → o .number ≡ first-refusal (trail-rest (length sheet))
+    pub trail-set : Ready tabulation ws scratch → canonical tabulation ws ≡ true → o .number ≡ first-refusal (trail-refusals tabulation ws key (length sheet))
     trail-set h c = trail-ready h ∙ (rw c)
 
     -- "Checks run as for withdraw": what a removal of this key would be refused with, the trail is refused with;
@@ -100,14 +92,14 @@ module _ (tabulation ws scratch : List ℕ) (key : ℕ) where
         → o .number ≡ change-outcome Remove tabulation ws scratch key .answer
     unfolding trail-outcome trail-refusal change-outcome change-refusal
     trail-as-remove n =
-        front-applies (first-refusals tabulation ws scratch ++ later-refusals Remove tabulation ws key) ((short-trail, ltb (length sheet) (length asked)) ∷ []) n
+        front-applies (first-refusals tabulation ws scratch ++ later-refusals Remove tabulation ws key) ((short-trail, ltb (length sheet) (length (trail-in tabulation ws key))) ∷ []) n
 
     -- and where a removal is accepted, the trail is refused with 11 exactly if it is longer than what is lent for it.
     pub trail-as-removed : change-outcome Remove tabulation ws scratch key .answer ≡ done
-        → o .number ≡ cond (ltb (length sheet) (length asked)) short-trail done
+        → o .number ≡ cond (ltb (length sheet) (length (trail-in tabulation ws key))) short-trail done
     unfolding trail-outcome trail-refusal change-outcome change-refusal
     trail-as-removed e =
-        front-passes (first-refusals tabulation ws scratch ++ later-refusals Remove tabulation ws key) ((short-trail, ltb (length sheet) (length asked)) ∷ [])
+        front-passes (first-refusals tabulation ws scratch ++ later-refusals Remove tabulation ws key) ((short-trail, ltb (length sheet) (length (trail-in tabulation ws key))) ∷ [])
         (front-none (first-refusals tabulation ws scratch ++ later-refusals Remove tabulation ws key) [] e refl)
 
 -- Of scratch and trail only the length matters: to number and values, and accepted to the words of the trail, too.
@@ -124,7 +116,7 @@ module _ (tabulation ws : List ℕ) (key : ℕ) (scratch scratch′ sheet sheet�
       → trail-outcome tabulation ws scratch key sheet .trail ≡ trail-outcome tabulation ws scratch′ key sheet′ .trail
   trail-any-sheet d =
       trail-done tabulation ws scratch key sheet d .1
-      ∙ ap (λ (n : ℕ). asked tabulation ws scratch key ++ replicate (n - length (asked tabulation ws scratch key)) 0) f
+      ∙ ap (λ (n : ℕ). trail-in tabulation ws key ++ replicate (n - length (trail-in tabulation ws key)) 0) f
       ∙ sym (trail-done tabulation ws scratch′ key sheet′ (sym trail-any-number ∙ d) .1)
 
 -- The trail in a set of keys, as document 02 tells it.
@@ -178,7 +170,7 @@ module _ (P : Params) (S : List ℕ) where
 -- The call on a dictionary that holds a set.
 module _ {P : Params} {L : List Entry} {ws : List ℕ} (h : Holds P L ws) (key : ℕ) where
   -- It is the set's trail that is asked for,
-  pub held-asked : trail-of (params-of (P .tabulation) ws) (keys-in ws) key ≡ trail-of P (keys-of L) key
+  pub held-asked : trail-in (P .tabulation) ws key ≡ trail-of P (keys-of L) key
   held-asked =
       ap (λ (Q : Params). trail-of Q (keys-in ws) key) (held-params h)
       ∙ ap (λ (S : List ℕ). trail-of P S key) (image-of-keys (h .is) (held-some h))

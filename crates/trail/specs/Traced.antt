@@ -32,21 +32,26 @@ use Rattle.dictionary.specs.Core.{Settable, in-range}
 use Rattle.outcome.specs.declared.Traced.{Traced}
 use Rattle.outcome.specs.declared.Traced.the-variants.{Length, Refused}
 use Rattle.outcome.specs.Laws.{Ready}
-use Rattle.outcome.specs.Trail.{number, values, trail-of, trail-refusal, TrailOutcome, trail-outcome}
+use Rattle.outcome.specs.Trail.{number, values, trail-of, trail-in, trail-refusals, trail-refusal, TrailOutcome, trail-outcome}
 use Rattle.outcome.specs.Outcome.{early-refusals}
-use Rattle.outcome.specs.TrailLaws.{asked, trail-rest, trail-ready, trail-set}
+use Rattle.outcome.specs.TrailLaws.{trail-ready, trail-set}
 use Rattle.renewal.specs.declared.Reading.{Reading}
 use Rattle.renewal.specs.declared.Reading.the-variants.{NotCanonical}
 use Rattle.renewal.specs.Reading.{early-refusal, reading-refusal, told-tampered}
 use Rattle.renewal.specs.Reading as reading
-use Rattle.trail.specs.Walk.{key-of, across, across-lt, Readable, Closed}
-use Rattle.trail.specs.Cut.{Cut, met-keys, first-visit, cut-trail, met-length}
+use Rattle.walking.specs.Walk.{key-of, across, across-lt, Readable, Closed}
+use Rattle.walking.specs.Cut.{Cut, met-keys, first-visit, cut-trail, met-length}
 
 -- What is told of a trail L, where n is the number: how many keys it has, and its keys with zeros behind them over the old words; refused, these stay.
 pub record Told (n : ℕ) (L old : List ℕ) (t : Traced) (new : List ℕ) : Type 0 where
   pub numbered : number t ≡ n
   pub valued : values t ≡ cond (eqb n done) (length L ∷ []) []
   pub written : new ≡ cond (eqb n done) (L ++ replicate (length old - length L) 0) old
+
+-- what is told of the trail of a key of the set: 11 is all that can be refused
+abbrev pub Followed : List ℕ → List ℕ → ℕ → List ℕ → (Traced → List ℕ → Type 0)
+Followed tabulation ws key old t new =
+    Told (first-refusal ((short-trail, ltb (length old) (length (trail-in tabulation ws key))) ∷ [])) (trail-in tabulation ws key) old t new
 
 -- the slot in which a key is looked for: that of table 0, if it stands there, and else that of table 1
 abbrev pub seat-in : List ℕ → List ℕ → ℕ → ℕ
@@ -98,7 +103,7 @@ cleared X e q l = (omega arith, rw q e)
 
 -- is the outcome.
 pub told-outcome : (tabulation ws scratch : List ℕ) (key : ℕ) {old new left : List ℕ} {t : Traced}
-    → Told (trail-refusal tabulation ws scratch key (length old)) (asked tabulation ws scratch key) old t new → left ≡ replicate (length scratch) 0
+    → Told (trail-refusal tabulation ws scratch key (length old)) (trail-in tabulation ws key) old t new → left ≡ replicate (length scratch) 0
     → record { number = number t; values = values t; words = ws; scratch = left; trail = new } ≡ trail-outcome tabulation ws scratch key old
 unfolding trail-outcome
 told-outcome tabulation ws scratch key R e = rw (R .numbered, R .valued, R .written, e)
@@ -232,16 +237,16 @@ settable-traceable {ws = ws} {key = key} Z e =
 -- The refusals of the call: 1 to 3,
 module _ (tabulation ws scratch : List ℕ) (key : ℕ) (old : List ℕ) where
   abbrev pub Answered : Traced → List ℕ → Type 0
-  Answered t new = Told (trail-refusal tabulation ws scratch key (length old)) (asked tabulation ws scratch key) old t new
+  Answered t new = Told (trail-refusal tabulation ws scratch key (length old)) (trail-in tabulation ws key) old t new
 
   -- what the set decides: 7 and 11
   abbrev pub set-answer : ℕ
   set-answer =
       first-refusal
-      ((key-absent, not (member key (keys-of (set-in tabulation ws)))) ∷ (short-trail, ltb (length old) (length (asked tabulation ws scratch key))) ∷ [])
+      ((key-absent, not (member key (keys-of (set-in tabulation ws)))) ∷ (short-trail, ltb (length old) (length (trail-in tabulation ws key))) ∷ [])
 
   abbrev pub Decided : Traced → List ℕ → Type 0
-  Decided t new = Told set-answer (asked tabulation ws scratch key) old t new
+  Decided t new = Told set-answer (trail-in tabulation ws key) old t new
 
   number-is : trail-outcome tabulation ws scratch key old .number ≡ trail-refusal tabulation ws scratch key (length old)
   unfolding trail-outcome
@@ -251,7 +256,7 @@ module _ (tabulation ws scratch : List ℕ) (key : ℕ) (old : List ℕ) where
   unfolding early-refusal trail-refusal
   answered-early e z =
       told-refused (e ∙ sym (front-applies (early-refusals tabulation ws (length scratch))
-      ((not-canonical, not (canonical tabulation ws)) ∷ trail-rest tabulation ws scratch key (length old)) (λ q. z (e ∙ q)))) z
+      ((not-canonical, not (canonical tabulation ws)) ∷ trail-refusals tabulation ws key (length old)) (λ q. z (e ∙ q)))) z
 
   module _ (ready : Ready tabulation ws scratch) where
     -- 4,
@@ -262,7 +267,7 @@ module _ (tabulation ws scratch : List ℕ) (key : ℕ) (old : List ℕ) where
 
     -- 5,
     module _ (image : canonical tabulation ws ≡ true) where
-      set-is : trail-refusal tabulation ws scratch key (length old) ≡ first-refusal (trail-rest tabulation ws scratch key (length old))
+      set-is : trail-refusal tabulation ws scratch key (length old) ≡ first-refusal (trail-refusals tabulation ws key (length old))
       set-is = sym number-is ∙ trail-set tabulation ws scratch key old ready image
 
       pub answered-blank : blank key ≡ true → Answered (Refused blank-key) old
@@ -278,6 +283,5 @@ module _ (tabulation ws scratch : List ℕ) (key : ℕ) (old : List ℕ) where
 
   -- and what the trail decides: 11, or nothing
   pub decided-listed : member key (keys-of (set-in tabulation ws)) ≡ true → {t : Traced} {new : List ℕ}
-      → Told (first-refusal ((short-trail, ltb (length old) (length (asked tabulation ws scratch key))) ∷ [])) (asked tabulation ws scratch key) old t new
-      → Decided t new
+      → Followed tabulation ws key old t new → Decided t new
   decided-listed m = told-as (rw m)

@@ -2,19 +2,11 @@
 // other slot; it ends with the root of the component. The words are read as remove reads them, then a walk through them
 // finds the root and the keys on the way to it.
 ghost use mathlib.Core.Path.{_≡_};
-ghost use mathlib.Core.List.{[], _∷_};
-ghost use lib.Dec.{ltb};
-ghost use lib.ListN.{length};
-ghost use Rattle.refusals.specs.Refusal.{short-trail, first-refusal};
-ghost use Rattle.layout.specs.Layout.{params-of, keys-in};
 ghost use Rattle.dictionary.specs.Core.{Settable};
-ghost use Rattle.outcome.specs.Trail.{number, values, trail-of, trail-outcome};
-ghost use Rattle.trail.specs.Walk.{Readable};
-ghost use Rattle.trail.specs.Traced.{seat-in, Traceable, Told, Decided, Answered};
+ghost use Rattle.outcome.specs.Trail.{number, values, trail-outcome};
+ghost use Rattle.walking.specs.Walk.{Readable};
+ghost use Rattle.trail.specs.Traced.{seat-in, Traceable, Followed, Decided, Answered};
 use access::key_in;
-use cut::cut;
-use cut::met;
-use cut::write_keys;
 use outcome::Traced;
 use refusals::BLANK_KEY;
 use refusals::KEY_ABSENT;
@@ -28,11 +20,11 @@ use renewal::members::place_of;
 use renewal::read_set;
 use tabulation::first_slot;
 use tabulation::second_slot;
-use walk::walk;
+use walking::cut::cut;
+use walking::cut::met;
+use walking::cut::write_keys;
+use walking::walk::walk;
 use words::fill;
-
-mod cut;
-mod walk;
 
 // The slot in which a key sits, if it is seated: that of table 0, if it stands there, or else that of table 1.
 fn seat_of(tabulation: &[u16], words: &[u32], r: u32, key: u32) -> u32
@@ -56,13 +48,8 @@ fn trace(
     trail: &mut [u32],
 ) -> Traced
     requires { ⌜ Traceable (now tabulation) (now words) (now scratch) r key ⌝ }
-    ensures { λ t. ⌜ Told (first-refusal ((
-      short-trail,
-      ltb (length (now (trail .entry)))
-          (length (trail-of (params-of (now (tabulation .entry)) (now (words .entry))) (keys-in (now (words .entry))) key)),
-    )
-        ∷ [])) (trail-of (params-of (now (tabulation .entry)) (now (words .entry))) (keys-in (now (words .entry))) key)
-        (now (trail .entry)) t (now (trail .exit)) ⌝ }
+    ensures { λ t. ⌜ Followed (now (tabulation .entry)) (now (words .entry)) key (now (trail .entry)) t
+        (now (trail .exit)) ⌝ }
 {
     let slot = seat_of(tabulation, words, r, key);
     if key_in(words, slot) != key {

@@ -3,8 +3,8 @@ use native.Mathlib.Omega.{arith}
 use Prim.Native.Nat.{_≤_}
 use mathlib.Core.Path.{_≡_, sym, _∙_, ap}
 use lib.ListN.{length}
-use Rattle.trail.specs.Walk.{key-of}
-use Rattle.trail.specs.Cut.{closed-met, met-length, few}
+use Rattle.walking.specs.Walk.{key-of}
+use Rattle.walking.specs.Cut.{closed-met, met-length, few}
 use Rattle.trail.specs.Traced.{slot-readable, seated-lt, not-seated, cleared, trail-count, trail-found, told-empty, told-short, told-found}
 use borrow.Author.Needs.{needs}
 use Rattle.trail.proofs.trace.Statement.{statement}
