@@ -44,6 +44,13 @@ board-length = refl
 abbrev pub board : ℕ → ℕ → Params
 board r s = record { tabulation = board-tabulation; slots = r; places = s }
 
+-- "the places are card modulo 4 and card/16 rounded down, modulo 4", and so for each r
+abbrev pub plain-0 : ℕ → ℕ → ℕ
+plain-0 r c = c % r
+
+abbrev pub plain-1 : ℕ → ℕ → ℕ
+plain-1 r c = r + c / 16 % r
+
 -- rows
 
 -- the image of a set has these words, or the set does not fit ("refused 8")
@@ -59,6 +66,7 @@ pub record Shown (r s : ℕ) (L : List Entry) (words : List ℕ) : Type 0 where
   pub valid : ValidSet L
   pub fit : fits (board r s) (keys-of L) ≡ true
   pub words-are : image (board r s) L ≡ words
+  pub known : Known (board r s) (plain-0 r) (plain-1 r) (keys-of L)
 
 pub record Full (r s : ℕ) (L : List Entry) : Type 0 where
   pub valid : ValidSet L
@@ -69,13 +77,6 @@ RowHolds (shows r s L words) = Shown r s L words
 RowHolds (full r s L) = Full r s L
 
 -- the test of a row
-
--- "the places are card modulo 4 and card/16 rounded down, modulo 4", and so for each r
-abbrev plain-0 : ℕ → ℕ → ℕ
-plain-0 r c = c % r
-
-abbrev plain-1 : ℕ → ℕ → ℕ
-plain-1 r c = r + c / 16 % r
 
 -- each key of S hashes to its plain ends, through the tabulation
 abbrev hashed : Family → List ℕ → Bool
@@ -207,6 +208,7 @@ holds (shows r s L words) e =
       valid = d .valid;
       fit = fits-known (board r s) (d .known) ∙ q .0;
       words-are = image-known (board r s) L (d .known) ∙ same-true W words (q .1);
+      known = d .known;
     }
 holds (full r s L) e =
     let F = fits-by (plain-0 r) (plain-1 r) s (keys-of L) in

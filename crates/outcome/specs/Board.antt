@@ -1,24 +1,29 @@
--- Document 01's board as calls: the rows of K1 to K12 that are an add or a withdrawal, with the answer and with every word that is left. They follow from the
--- table of images (layout/specs/Board.antt) and from what a call does to a dictionary that holds a set. Assumes nothing.
-use Prim.Native.Nat.{ℕ, zero, suc, _≤_, _<_}
+-- Document 01's board as calls: the rows of K1 to K12 that are an add or a withdrawal, with the answer and with every word that is left; and document 02's
+-- trails there. They follow from the table of images (layout/specs/Board.antt) and from what a call does to a dictionary that holds a set. Assumes nothing.
+use Prim.Native.Nat.{ℕ, zero, suc, _-_, _≤_, _<_}
 use mathlib.Core.Path.{_≡_, refl, sym, _∙_}
 use mathlib.Core.Bool.{true, false}
-use mathlib.Core.List.{List, [], _∷_, List·Memᴰ as In, List·Memᴰ·head as here, List·Memᴰ·tail as there}
+use mathlib.Core.List.{List, [], _∷_, _++_, List·Memᴰ as In, List·Memᴰ·head as here, List·Memᴰ·tail as there}
 use native.Mathlib.Omega.{arith}
-use borrow.Author.Tests.{ne-eqb}
-use lib.ListN.{length}
+use borrow.Author.Tests.{ne-eqb, le-ltb}
+use lib.ListN.{length, replicate}
 use Rattle.basics.specs.Sets.{member, without, below, none, some}
+use Rattle.cuckoo.specs.Graph.{label, joined, component, onCycle, cyclic, spare, settle, seated, root, sits, occupant}
+use Rattle.cuckoo.specs.Trail.{other, trail-from, trail}
+use Rattle.cuckoo.specs.Agree.{trail-agree}
 use Rattle.ordered.specs.Keys.{with-key, above}
 use Rattle.refusals.specs.Refusal.{done, stash-full}
 use Rattle.tabulation.specs.Hash.{tabulation-length, slots-in-range, blank}
 use Rattle.layout.specs.Entries.{Entry, max-tier, keys-of}
 use Rattle.layout.specs.Layout.{ValidKeys, ValidSet, scratch-length, sizes-in-range}
-use Rattle.layout.specs.Board.{Row, rows, plain, Shown, Full, board, board-tabulation, board-length, board-rows}
+use Rattle.layout.specs.Board.{plain-0, plain-1, Row, rows, plain, Shown, Full, board, board-tabulation, board-length, board-rows}
 use Rattle.layout.specs.Board as Board
 use Rattle.layout.specs.Smallest.{smallest, two, two-image, two-fit}
 use Rattle.outcome.specs.declared.Change.the-variants.{Insert, Remove}
 use Rattle.outcome.specs.Outcome.{changed, change-outcome}
 use Rattle.outcome.specs.Held.{Holds, one-too-many, held-new, held-remove, held-changed}
+use Rattle.outcome.specs.Trail.{trail-of, trail-in, trail-refusal, trail-outcome}
+use Rattle.outcome.specs.TrailLaws.{held-asked, held-trail}
 
 -- the words of a row are a dictionary that holds its set
 shown-holds : {r s : ℕ} {L : List Entry} {ws : List ℕ} → sizes-in-range r s ≡ true → Shown r s L ws → Holds (board r s) L ws
@@ -52,12 +57,12 @@ row-in (R ∷ Rs) (suc n) l = there (row-in Rs n (omega arith))
 row-holds : (n : ℕ) → n < length rows → Board.RowHolds (row rows n)
 row-holds n l = board-rows (row rows n) (row-in rows n l)
 
+range : sizes-in-range 4 1 ≡ true
+unfolding sizes-in-range slots-in-range
+range = refl
+
 -- r = 4, s = 1, and scratch that is long enough
 module _ (scratch : List ℕ) (room : scratch-length 4 1 ≤ length scratch) where
-  range : sizes-in-range 4 1 ≡ true
-  unfolding sizes-in-range slots-in-range
-  range = refl
-
   k5 : Shown 4 1 (plain (1 ∷ 65 ∷ 129 ∷ [])) (4 ∷ 1 ∷ 3 ∷ 1 ∷ 0 ∷ 0 ∷ 0 ∷ 1 ∷ 65 ∷ 0 ∷ 0 ∷ 0 ∷ 0 ∷ 0 ∷ 0 ∷ 0 ∷ 65 ∷ 1 ∷ 0 ∷ 0 ∷ 0 ∷ 0 ∷ 0 ∷ 0 ∷ 0 ∷ 0 ∷ 0 ∷ 0 ∷ 129 ∷ 0 ∷ [])
   k5 = row-holds 4 (omega arith)
 
@@ -112,3 +117,54 @@ k12 tabulation scratch full-length room c x d y tier key z l small-x small-y sma
     let b = ne-eqb key 0 n in
     let m : member key S ≡ false = rw (ne-eqb key c nc, ne-eqb key d nd) in
     held-new h full-length scratch room key b tier small m ∙ (rw (one-too-many P key (omega arith) keys b m (omega arith)))
+
+-- Document 02's trails on the board. The trail of a key of a row is that over the plain ends.
+module _ {r s : ℕ} {L : List Entry} {ws : List ℕ} (range : sizes-in-range r s ≡ true) (h : Shown r s L ws) (scratch : List ℕ)
+    (room : scratch-length r s ≤ length scratch) (key : ℕ) (b : blank key ≡ false) (m : member key (keys-of L) ≡ true) where
+  abbrev plainly : List ℕ
+  plainly = trail (plain-0 r) (plain-1 r) (seated (plain-0 r) (plain-1 r) (keys-of L)) key
+
+  trail-plainly : trail-of (board r s) (keys-of L) key ≡ plainly
+  trail-plainly = trail-agree (h .valid .keys .asc) (h .known) key
+
+  trail-on-board : {K : List ℕ} → plainly ≡ K → (sheet : List ℕ) → length K ≤ length sheet
+      → let o = trail-outcome board-tabulation ws scratch key sheet in
+      (o .number ≡ done) × ((o .values ≡ length K ∷ []) × (o .trail ≡ K ++ replicate (length sheet - length K) 0))
+  unfolding trail-outcome
+  trail-on-board {K} e sheet l =
+      let H = shown-holds range h in
+      let q : trail-in board-tabulation ws key ≡ K = held-asked H key ∙ trail-plainly ∙ e in
+      let t = le-ltb (length scratch) (scratch-length r s) room in
+      let u = le-ltb (length sheet) (length K) l in
+      let n : trail-refusal board-tabulation ws scratch key (length sheet) ≡ done =
+      held-trail H key board-length scratch (length sheet) ∙ (rw (t, b, m, trail-plainly, e, u)) in
+      (n, (rw (n, q), rw (n, q)))
+
+-- three words are lent for each
+module _ (scratch : List ℕ) (room : scratch-length 4 1 ≤ length scratch) (x y z : ℕ) where
+  k8 : Shown 4 1 (plain (17 ∷ 65 ∷ 129 ∷ [])) (4 ∷ 1 ∷ 3 ∷ 0 ∷ 0 ∷ 0 ∷ 0 ∷ 65 ∷ 129 ∷ 0 ∷ 0 ∷ 0 ∷ 0 ∷ 0 ∷ 0 ∷ 0 ∷ 129 ∷ 17 ∷ 0 ∷ 17 ∷ 65 ∷ 0 ∷ 0 ∷ 0 ∷ 0 ∷ 0 ∷ 0 ∷ 0 ∷ 0 ∷ 0 ∷ [])
+  k8 = row-holds 10 (omega arith)
+
+  abbrev shown : ℕ → List ℕ → List ℕ → Type 0
+  shown key ws K =
+      let o = trail-outcome board-tabulation ws scratch key (x ∷ y ∷ z ∷ []) in
+      (o .number ≡ done) × ((o .values ≡ length K ∷ []) × (o .trail ≡ K ++ replicate (3 - length K) 0))
+
+  -- 129 sits in 1.0 because 65, the smallest on the cycle, sits in 0.1;
+  pub k8-129 : shown 129 (4 ∷ 1 ∷ 3 ∷ 0 ∷ 0 ∷ 0 ∷ 0 ∷ 65 ∷ 129 ∷ 0 ∷ 0 ∷ 0 ∷ 0 ∷ 0 ∷ 0 ∷ 0 ∷ 129 ∷ 17 ∷ 0 ∷ 17 ∷ 65 ∷ 0 ∷ 0 ∷ 0 ∷ 0 ∷ 0 ∷ 0 ∷ 0 ∷ 0 ∷ 0 ∷ []) (129 ∷ 65 ∷ [])
+  unfolding blank without label joined component onCycle cyclic spare settle seated root sits occupant other trail-from trail
+  k8-129 = trail-on-board range k8 scratch room 129 refl refl refl (x ∷ y ∷ z ∷ []) (omega arith)
+
+  -- and so does 17, smaller than both, in 1.1.
+  pub k8-17 : shown 17 (4 ∷ 1 ∷ 3 ∷ 0 ∷ 0 ∷ 0 ∷ 0 ∷ 65 ∷ 129 ∷ 0 ∷ 0 ∷ 0 ∷ 0 ∷ 0 ∷ 0 ∷ 0 ∷ 129 ∷ 17 ∷ 0 ∷ 17 ∷ 65 ∷ 0 ∷ 0 ∷ 0 ∷ 0 ∷ 0 ∷ 0 ∷ 0 ∷ 0 ∷ 0 ∷ []) (17 ∷ 65 ∷ [])
+  unfolding blank without label joined component onCycle cyclic spare settle seated root sits occupant other trail-from trail
+  k8-17 = trail-on-board range k8 scratch room 17 refl refl refl (x ∷ y ∷ z ∷ []) (omega arith)
+
+  -- In K9 the trail of 34 goes over 33 to 1, the smallest on the cycle; 98 is stashed, and its trail is empty.
+  pub k9-34 : shown 34 (4 ∷ 1 ∷ 5 ∷ 1 ∷ 0 ∷ 0 ∷ 0 ∷ 1 ∷ 33 ∷ 0 ∷ 34 ∷ 65 ∷ 0 ∷ 0 ∷ 0 ∷ 0 ∷ 65 ∷ 1 ∷ 0 ∷ 0 ∷ 0 ∷ 0 ∷ 33 ∷ 34 ∷ 0 ∷ 0 ∷ 0 ∷ 0 ∷ 98 ∷ 0 ∷ []) (34 ∷ 33 ∷ 1 ∷ [])
+  unfolding blank without label joined component onCycle cyclic spare settle seated root sits occupant other trail-from trail
+  k9-34 = trail-on-board range (k9 scratch room) scratch room 34 refl refl refl (x ∷ y ∷ z ∷ []) (omega arith)
+
+  pub k9-98 : shown 98 (4 ∷ 1 ∷ 5 ∷ 1 ∷ 0 ∷ 0 ∷ 0 ∷ 1 ∷ 33 ∷ 0 ∷ 34 ∷ 65 ∷ 0 ∷ 0 ∷ 0 ∷ 0 ∷ 65 ∷ 1 ∷ 0 ∷ 0 ∷ 0 ∷ 0 ∷ 33 ∷ 34 ∷ 0 ∷ 0 ∷ 0 ∷ 0 ∷ 98 ∷ 0 ∷ []) []
+  unfolding blank without label joined component onCycle cyclic spare settle seated root sits occupant other trail-from trail
+  k9-98 = trail-on-board range (k9 scratch room) scratch room 98 refl refl refl (x ∷ y ∷ z ∷ []) (omega arith)
