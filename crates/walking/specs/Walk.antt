@@ -41,7 +41,10 @@ noted r v n key X = set (set X v (n + 1)) (r + r + n) key
 pub noted-as : {r v n i j k : ℕ} (key : ℕ) (X : List ℕ) → i ≡ v → j ≡ r → k ≡ n → set (set X i (n + 1)) (2 * j + k) key ≡ noted r v n key X
 noted-as {r} {n = n} key X p q e = let f : 2 * r + n ≡ r + r + n = omega arith in rw (p, q, e, f)
 
--- whether a run goes on
+-- the most steps of one run, and whether a run goes on
+abbrev pub run-length : ℕ
+run-length = 32
+
 pub on-here : {i v : ℕ} (X : List ℕ) (t : Bool) → i ≡ v → getD X i 0 ≡ 0 → t ≡ (eqb (getD X v 0) 0 && t)
 on-here {i} {v} X t q e = rw (← q, eq-eqb (getD X i 0) 0 e)
 
@@ -212,6 +215,6 @@ stepped {tabulation} {ws} {r} {v = v} {key} {w} A N held e on =
     })
 
 -- A run that goes on is in a slot that is not yet visited.
-pub goes-new : {r n v : ℕ} {Y : List ℕ} {t : Bool} → Room r Y n v → t ≡ true → t ≡ (eqb (getD Y v 0) 0 && not (eqb (n % 32) 0)) → New r Y n v
+pub goes-new : {r n v : ℕ} {Y : List ℕ} {t : Bool} → Room r Y n v → t ≡ true → t ≡ (eqb (getD Y v 0) 0 && not (eqb (n % run-length) 0)) → New r Y n v
 goes-new {n = n} {v} {Y} room on e =
-    record { room = room; fresh = eqb-true (getD Y v 0) 0 (and-true (eqb (getD Y v 0) 0) (not (eqb (n % 32) 0)) (sym e ∙ on) .0) }
+    record { room = room; fresh = eqb-true (getD Y v 0) 0 (and-true (eqb (getD Y v 0) 0) (not (eqb (n % run-length) 0)) (sym e ∙ on) .0) }

@@ -8,7 +8,7 @@ ghost use lib.ListN.{length, getD, replicate};
 ghost use Rattle.tabulation.specs.Hash.{Hashing};
 ghost use Rattle.layout.specs.Layout.{slots-of};
 ghost use Rattle.layout.specs.Shape.{Shaped};
-ghost use Rattle.walking.specs.Walk.{key-of, across, noted, Readable, New, Onward, Closed};
+ghost use Rattle.walking.specs.Walk.{key-of, across, noted, run-length, Readable, New, Onward, Closed};
 use access::key_in;
 use tabulation::first_slot;
 use tabulation::second_slot;
@@ -39,7 +39,7 @@ fn visit(words: &[u32], scratch: &mut [u32], r: u32, slot: u32, steps: u32) -> u
 // Whether a run goes on in a slot: it is not yet visited, and the run has steps left.
 fn goes_on(scratch: &[u32], slot: u32, steps: u32) -> bool
     requires { ⌜ slot < length (now scratch) ⌝ }
-    ensures { λ b. ⌜ b ≡ (eqb (getD (now (scratch .entry)) slot 0) 0 && not (eqb (steps % 32) 0)) ⌝ }
+    ensures { λ b. ⌜ b ≡ (eqb (getD (now (scratch .entry)) slot 0) 0 && not (eqb (steps % run-length) 0)) ⌝ }
 {
     if scratch[wide(slot)] != 0 {
         return false;

@@ -182,16 +182,7 @@ module _ (t : ℕ) where
   out-of-1-returns-2 c = out-of-1-step (c .before .before .before) .onward
 
 pub +out-of-0+out-of-1-spec : {M : Type 1} → statement M
-+out-of-0+out-of-1-spec = close μ-out-of-0 μ-out-of-1 (λ t. out-of-0-lts.spec (
-  visit-reads.Asked,
-  visit-reads.Learnt,
-  second-slot-reads.Asked,
-  second-slot-reads.Learnt,
-  goes-on-reads.Asked,
-  goes-on-reads.Learnt,
-  out-of-1-below t,
-  out-of-1.Post,
-)
++out-of-0+out-of-1-spec = close μ-out-of-0 μ-out-of-1 (λ t. out-of-0-lts.spec (claims-0 t)
     (out-of-0-at t)
     out-of-0.Post
     (out-of-0-visit-requires t)
@@ -205,16 +196,7 @@ pub +out-of-0+out-of-1-spec : {M : Type 1} → statement M
     (out-of-0-add-t14 t)
     (out-of-0-same-length-2 t)
     (out-of-0-returns-2 t))
-    λ t. out-of-1-lts.spec (
-      visit-reads.Asked,
-      visit-reads.Learnt,
-      first-slot-reads.Asked,
-      first-slot-reads.Learnt,
-      goes-on-reads.Asked,
-      goes-on-reads.Learnt,
-      out-of-0-below t,
-      out-of-0.Post,
-    )
+    λ t. out-of-1-lts.spec (claims-1 t)
     (out-of-1-at t)
     out-of-1.Post
     (out-of-1-visit-requires t)
