@@ -33,6 +33,9 @@ abbrev pub trail-answers : List ℕ
 trail-answers = 0 ∷ 1 ∷ 2 ∷ 3 ∷ 4 ∷ 5 ∷ 7 ∷ 11 ∷ []
 
 module _ (tabulation ws scratch : List ℕ) (key : ℕ) where
+  abbrev L : List ℕ
+  L = trail-in tabulation ws key
+
   module _ (sheet : List ℕ) where
     abbrev o : TrailOutcome
     o = trail-outcome tabulation ws scratch key sheet
@@ -47,7 +50,7 @@ module _ (tabulation ws scratch : List ℕ) (key : ℕ) where
     trail-refused n = let t = ne-eqb (trail-refusal tabulation ws scratch key (length sheet)) done n in (rw t, rw t)
 
     -- accepted, "Its card numbers are written to a lent sheet, rest zeros, and the call tells how many".
-    pub trail-done : o .number ≡ done → (o .values ≡ length (trail-in tabulation ws key) ∷ []) × (o .trail ≡ trail-in tabulation ws key ++ replicate (length sheet - length (trail-in tabulation ws key)) 0)
+    pub trail-done : o .number ≡ done → (o .values ≡ length L ∷ []) × (o .trail ≡ L ++ replicate (length sheet - length L) 0)
     unfolding trail-outcome
     trail-done e = let t = eq-eqb (trail-refusal tabulation ws scratch key (length sheet)) done e in (rw t, rw t)
 
@@ -92,14 +95,14 @@ module _ (tabulation ws scratch : List ℕ) (key : ℕ) where
         → o .number ≡ change-outcome Remove tabulation ws scratch key .answer
     unfolding trail-outcome trail-refusal change-outcome change-refusal
     trail-as-remove n =
-        front-applies (first-refusals tabulation ws scratch ++ later-refusals Remove tabulation ws key) ((short-trail, ltb (length sheet) (length (trail-in tabulation ws key))) ∷ []) n
+        front-applies (first-refusals tabulation ws scratch ++ later-refusals Remove tabulation ws key) ((short-trail, ltb (length sheet) (length L)) ∷ []) n
 
     -- and where a removal is accepted, the trail is refused with 11 exactly if it is longer than what is lent for it.
     pub trail-as-removed : change-outcome Remove tabulation ws scratch key .answer ≡ done
-        → o .number ≡ cond (ltb (length sheet) (length (trail-in tabulation ws key))) short-trail done
+        → o .number ≡ cond (ltb (length sheet) (length L)) short-trail done
     unfolding trail-outcome trail-refusal change-outcome change-refusal
     trail-as-removed e =
-        front-passes (first-refusals tabulation ws scratch ++ later-refusals Remove tabulation ws key) ((short-trail, ltb (length sheet) (length (trail-in tabulation ws key))) ∷ [])
+        front-passes (first-refusals tabulation ws scratch ++ later-refusals Remove tabulation ws key) ((short-trail, ltb (length sheet) (length L)) ∷ [])
         (front-none (first-refusals tabulation ws scratch ++ later-refusals Remove tabulation ws key) [] e refl)
 
 -- Of scratch and trail only the length matters: to number and values, and accepted to the words of the trail, too.

@@ -59,5 +59,8 @@ pub handed-trail : (tabulation ws scratch : List ℕ) (key : ℕ) (sheet : List 
 unfolding count-out
 handed-trail tabulation ws scratch key sheet old q e = (
   ap number (sym q) ∙ ap (λ (o : TrailOutcome). o .number) e,
-  (ap (λ (o : TrailOutcome). o .scratch) e, (ap (λ (o : TrailOutcome). o .trail) e, ap (λ (t : Traced). getD (values t) 0 old) (sym q) ∙ ap (λ (o : TrailOutcome). getD (o .values) 0 old) e)),
+  (
+    ap (λ (o : TrailOutcome). o .scratch) e,
+    (ap (λ (o : TrailOutcome). o .trail) e, ap (λ (t : Traced). getD (values t) 0 old) (sym q) ∙ ap (λ (o : TrailOutcome). getD (o .values) 0 old) e),
+  ),
 )

@@ -135,8 +135,8 @@ pub extern "C" fn pinorange_check(tabulation: &[u16], words: &[u32], scratch: &m
     dictionary::check(tabulation, words, scratch)
 }
 
-// The trail of a key: document 02's number. Done, `count` is how many keys it has, and they stand in the lent trail, zeros
-// behind them; refused, both stay. The words are only read; the scratch is zero over its full length afterwards.
+// The trail of a key: document 02's number. Done, `count` is how many keys it has, and they stand in the lent trail,
+// zeros behind them; refused, both stay. The words are only read; the scratch is zero over its full length afterwards.
 #[no_mangle]
 pub extern "C" fn pinorange_trail(
     tabulation: &[u16],
@@ -146,8 +146,8 @@ pub extern "C" fn pinorange_trail(
     trail: &mut [u32],
     count: &mut u32,
 ) -> u32
-    ensures numbered { λ n. ⌜ n ≡ trail-outcome (now (tabulation .entry)) (now (words .entry)) (now (scratch .entry)) key
-        (now (trail .entry)) .number ⌝ }
+    ensures numbered { λ n. ⌜ n ≡ trail-outcome (now (tabulation .entry)) (now (words .entry)) (now (scratch .entry))
+        key (now (trail .entry)) .number ⌝ }
     ensures cleared { λ n. ⌜ now (scratch .exit) ≡ trail-outcome (now (tabulation .entry)) (now (words .entry))
         (now (scratch .entry)) key (now (trail .entry)) .scratch ⌝ }
     ensures traced { λ n. ⌜ now (trail .exit) ≡ trail-outcome (now (tabulation .entry)) (now (words .entry))

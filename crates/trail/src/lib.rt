@@ -135,7 +135,8 @@ pub fn trail(
       scratch = now (scratch .exit);
       trail = now (trail .exit);
     }
-        ≡ trail-outcome (now (tabulation .entry)) (now (words .entry)) (now (scratch .entry)) key (now (trail .entry)) ⌝ }
+        ≡ trail-outcome (now (tabulation .entry)) (now (words .entry)) (now (scratch .entry)) key
+        (now (trail .entry)) ⌝ }
 {
     let answer = trail_words(tabulation, words, &mut *scratch, key, &mut *trail);
     clear(&mut *scratch);

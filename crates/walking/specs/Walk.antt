@@ -150,7 +150,10 @@ module _ {r n v : ℕ} {X : List ℕ} (N : New r X n v) where
           keys = λ i l. elim (eq? i n) [
             | inl q ↦ rw q (getD-set-same (set X v (n + 1)) (r + r + n) key 0 back ∙ held ∙ ap h (W .at))
             | inr d ↦
-                rw (getD-set-other (set X v (n + 1)) (r + r + n) (r + r + i) key 0 (λ q. omega arith), getD-set-other X v (r + r + i) (n + 1) 0 (λ q. omega (arith, R .inside)))
+                rw (
+                  getD-set-other (set X v (n + 1)) (r + r + n) (r + r + i) key 0 (λ q. omega arith),
+                  getD-set-other X v (r + r + i) (n + 1) 0 (λ q. omega (arith, R .inside)),
+                )
                 (W .keys i (omega arith))
           ];
         }

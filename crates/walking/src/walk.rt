@@ -118,8 +118,8 @@ fn run(
 pub fn walk(tabulation: &[u16], words: &[u32], scratch: &mut [u32], r: u32, start: u32) -> Stand
     requires { ⌜ (Readable (now tabulation) (now words) r × (start < r + r))
         × ((r + r + (r + r) ≤ length (now scratch)) × (now scratch ≡ replicate (length (now scratch)) 0)) ⌝ }
-    ensures { λ w. ⌜ Closed (across (now (tabulation .entry)) (now (words .entry))) (key-of (now (words .entry))) start r
-        (now (scratch .exit)) (w .steps) (w .slot) ⌝ }
+    ensures { λ w. ⌜ Closed (across (now (tabulation .entry)) (now (words .entry))) (key-of (now (words .entry))) start
+        r (now (scratch .exit)) (w .steps) (w .slot) ⌝ }
 {
     let mut slot = start;
     let mut steps = 0;
