@@ -49,8 +49,8 @@ pub record Told (n : ℕ) (L old : List ℕ) (t : Traced) (new : List ℕ) : Typ
   pub written : new ≡ cond (eqb n done) (L ++ replicate (length old - length L) 0) old
 
 -- what is told of the trail of a key of the set: 11 is all that can be refused
-abbrev pub Followed : List ℕ → List ℕ → ℕ → List ℕ → (Traced → List ℕ → Type 0)
-Followed tabulation ws key old t new =
+abbrev pub ToldOfTrail : List ℕ → List ℕ → ℕ → List ℕ → (Traced → List ℕ → Type 0)
+ToldOfTrail tabulation ws key old t new =
     Told (first-refusal ((short-trail, ltb (length old) (length (trail-in tabulation ws key))) ∷ [])) (trail-in tabulation ws key) old t new
 
 -- the slot in which a key is looked for: that of table 0, if it stands there, and else that of table 1
@@ -236,8 +236,8 @@ settable-traceable {ws = ws} {key = key} Z e =
 
 -- The refusals of the call: 1 to 3,
 module _ (tabulation ws scratch : List ℕ) (key : ℕ) (old : List ℕ) where
-  abbrev pub Answered : Traced → List ℕ → Type 0
-  Answered t new = Told (trail-refusal tabulation ws scratch key (length old)) (trail-in tabulation ws key) old t new
+  abbrev pub ToldOfCall : Traced → List ℕ → Type 0
+  ToldOfCall t new = Told (trail-refusal tabulation ws scratch key (length old)) (trail-in tabulation ws key) old t new
 
   -- what the set decides: 7 and 11
   abbrev pub set-answer : ℕ
@@ -245,23 +245,23 @@ module _ (tabulation ws scratch : List ℕ) (key : ℕ) (old : List ℕ) where
       first-refusal
       ((key-absent, not (member key (keys-of (set-in tabulation ws)))) ∷ (short-trail, ltb (length old) (length (trail-in tabulation ws key))) ∷ [])
 
-  abbrev pub Decided : Traced → List ℕ → Type 0
-  Decided t new = Told set-answer (trail-in tabulation ws key) old t new
+  abbrev pub ToldOfSet : Traced → List ℕ → Type 0
+  ToldOfSet t new = Told set-answer (trail-in tabulation ws key) old t new
 
   number-is : trail-outcome tabulation ws scratch key old .number ≡ trail-refusal tabulation ws scratch key (length old)
   unfolding trail-outcome
   number-is = refl
 
-  pub answered-early : {n : ℕ} → n ≡ early-refusal tabulation ws (length scratch) → (n ≡ 0 → ⊥) → Answered (Refused n) old
+  pub told-early : {n : ℕ} → n ≡ early-refusal tabulation ws (length scratch) → (n ≡ 0 → ⊥) → ToldOfCall (Refused n) old
   unfolding early-refusal trail-refusal
-  answered-early e z =
+  told-early e z =
       told-refused (e ∙ sym (front-applies (early-refusals tabulation ws (length scratch))
       ((not-canonical, not (canonical tabulation ws)) ∷ trail-refusals tabulation ws key (length old)) (λ q. z (e ∙ q)))) z
 
   module _ (ready : Ready tabulation ws scratch) where
     -- 4,
-    pub answered-tampered : {l : Reading} → reading.number l ≡ reading-refusal tabulation ws → l ≡ NotCanonical → Answered (Refused not-canonical) old
-    answered-tampered numbered e =
+    pub told-not-canonical : {l : Reading} → reading.number l ≡ reading-refusal tabulation ws → l ≡ NotCanonical → ToldOfCall (Refused not-canonical) old
+    told-not-canonical numbered e =
         told-refused
         (sym (sym number-is ∙ trail-ready tabulation ws scratch key old ready ∙ (rw (told-tampered tabulation ws numbered e)))) (λ q. omega arith)
 
@@ -270,18 +270,18 @@ module _ (tabulation ws scratch : List ℕ) (key : ℕ) (old : List ℕ) where
       set-is : trail-refusal tabulation ws scratch key (length old) ≡ first-refusal (trail-refusals tabulation ws key (length old))
       set-is = sym number-is ∙ trail-set tabulation ws scratch key old ready image
 
-      pub answered-blank : blank key ≡ true → Answered (Refused blank-key) old
-      answered-blank t = told-refused (sym (set-is ∙ (rw t))) (λ q. omega arith)
+      pub told-blank : blank key ≡ true → ToldOfCall (Refused blank-key) old
+      told-blank t = told-refused (sym (set-is ∙ (rw t))) (λ q. omega arith)
 
       -- and what the set decides.
-      pub answered-set : blank key ≡ false → {t : Traced} {new : List ℕ} → Decided t new → Answered t new
-      answered-set b = told-as (sym (set-is ∙ (rw b)))
+      pub told-set : blank key ≡ false → {t : Traced} {new : List ℕ} → ToldOfSet t new → ToldOfCall t new
+      told-set b = told-as (sym (set-is ∙ (rw b)))
 
   -- 7
-  pub decided-absent : member key (keys-of (set-in tabulation ws)) ≡ false → Decided (Refused key-absent) old
-  decided-absent m = told-refused (rw m) (λ q. omega arith)
+  pub told-absent : member key (keys-of (set-in tabulation ws)) ≡ false → ToldOfSet (Refused key-absent) old
+  told-absent m = told-refused (rw m) (λ q. omega arith)
 
   -- and what the trail decides: 11, or nothing
-  pub decided-listed : member key (keys-of (set-in tabulation ws)) ≡ true → {t : Traced} {new : List ℕ}
-      → Followed tabulation ws key old t new → Decided t new
-  decided-listed m = told-as (rw m)
+  pub told-listed : member key (keys-of (set-in tabulation ws)) ≡ true → {t : Traced} {new : List ℕ}
+      → ToldOfTrail tabulation ws key old t new → ToldOfSet t new
+  told-listed m = told-as (rw m)

@@ -5,7 +5,7 @@ ghost use mathlib.Core.Path.{_≡_};
 ghost use Rattle.dictionary.specs.Core.{Settable};
 ghost use Rattle.outcome.specs.Trail.{number, values, trail-outcome};
 ghost use Rattle.walking.specs.Walk.{Readable};
-ghost use Rattle.trail.specs.Traced.{seat-in, Traceable, Followed, Decided, Answered};
+ghost use Rattle.trail.specs.Traced.{seat-in, Traceable, ToldOfTrail, ToldOfSet, ToldOfCall};
 use access::key_in;
 use outcome::Traced;
 use refusals::BLANK_KEY;
@@ -48,7 +48,7 @@ fn trace(
     trail: &mut [u32],
 ) -> Traced
     requires { ⌜ Traceable (now tabulation) (now words) (now scratch) r key ⌝ }
-    ensures { λ t. ⌜ Followed (now (tabulation .entry)) (now (words .entry)) key (now (trail .entry)) t
+    ensures { λ t. ⌜ ToldOfTrail (now (tabulation .entry)) (now (words .entry)) key (now (trail .entry)) t
         (now (trail .exit)) ⌝ }
 {
     let slot = seat_of(tabulation, words, r, key);
@@ -77,7 +77,7 @@ fn trace_listed(
     trail: &mut [u32],
 ) -> Traced
     requires { ⌜ Settable (now tabulation) (now words) (now scratch) n key ⌝ }
-    ensures { λ t. ⌜ Decided (now (tabulation .entry)) (now (words .entry)) (now (scratch .entry)) key
+    ensures { λ t. ⌜ ToldOfSet (now (tabulation .entry)) (now (words .entry)) (now (scratch .entry)) key
         (now (trail .entry)) t (now (trail .exit)) ⌝ }
 {
     let header = access::read_header(words);
@@ -103,7 +103,7 @@ fn trail_words(
     key: u32,
     trail: &mut [u32],
 ) -> Traced
-    ensures { λ t. ⌜ Answered (now (tabulation .entry)) (now (words .entry)) (now (scratch .entry)) key
+    ensures { λ t. ⌜ ToldOfCall (now (tabulation .entry)) (now (words .entry)) (now (scratch .entry)) key
         (now (trail .entry)) t (now (trail .exit)) ⌝ }
 {
     let refusal = early(tabulation, words, scratch.len());

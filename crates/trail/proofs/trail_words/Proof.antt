@@ -6,7 +6,7 @@ use Rattle.layout.specs.Canonical.{canonical}
 use Rattle.outcome.specs.Laws.{Ready}
 use Rattle.renewal.specs.Reading.{early-ready, told-keys}
 use Rattle.dictionary.specs.Core.{settable}
-use Rattle.trail.specs.Traced.{answered-early, answered-tampered, answered-blank, answered-set}
+use Rattle.trail.specs.Traced.{told-early, told-not-canonical, told-blank, told-set}
 use borrow.Author.Needs.{needs}
 use Rattle.trail.proofs.trail_words.Statement.{statement}
 use Rattle.trail.proofs.trail_words.Tie as tie
@@ -15,7 +15,7 @@ early-requires : tie.Need-early-requires
 early-requires c κs = search needs
 
 returns : tie.Need-returns
-returns c = answered-early _ _ _ _ _ (c .before .early .ensures) (c .if1 .taken)
+returns c = told-early _ _ _ _ _ (c .before .early .ensures) (c .if1 .taken)
 
 -- the words can be read
 abbrev start : tie.Else1 → tie.Start
@@ -54,7 +54,7 @@ same-length c = search needs
 returns-2 : tie.Need-returns-2
 returns-2 c =
     let r = c .before .before .before .before in
-    answered-tampered _ _ _ _ _ (ready (readable r)) (r .read-set .ensures .0) (c .enum-told .given .1)
+    told-not-canonical _ _ _ _ _ (ready (readable r)) (r .read-set .ensures .0) (c .enum-told .given .1)
 
 is-blank-requires : tie.Need-is-blank-requires
 is-blank-requires c κs = search needs
@@ -65,7 +65,7 @@ same-length-2 c = search needs
 returns-3 : tie.Need-returns-3
 returns-3 c =
     let k = c .before .before .before in
-    answered-blank _ _ _ _ _ (ready (readable (read k))) (image k) (sym (c .before .is-blank .ensures) ∙ c .if2 .taken)
+    told-blank _ _ _ _ _ (ready (readable (read k))) (image k) (sym (c .before .is-blank .ensures) ∙ c .if2 .taken)
 
 trace-listed-requires : tie.Need-trace-listed-requires
 trace-listed-requires c κs =
@@ -83,7 +83,7 @@ returns-4 : tie.Need-returns-4
 returns-4 c =
     let t = c .before .before .before .before in
     let z = t .before .before .before in
-    answered-set _ _ _ _ _ (ready (readable (read (keys z)))) (image (keys z)) (sym (z .before .is-blank .ensures) ∙ z .if2 .left) (t .trace-listed .ensures)
+    told-set _ _ _ _ _ (ready (readable (read (keys z)))) (image (keys z)) (sym (z .before .is-blank .ensures) ∙ z .if2 .left) (t .trace-listed .ensures)
 
 pub trail-words-spec : {M : Type 1} → statement M
 trail-words-spec = tie.close (tie.spec early-requires returns read-set-requires enum-known-reading enum-told same-length returns-2 is-blank-requires same-length-2 returns-3 trace-listed-requires same-length-3 same-length-4 returns-4)
