@@ -20,7 +20,7 @@
 extern "C" {
 #endif
 
-/* The other numbers that a call answers. A call tries those that it can give in the order 1, 2, 3, 4, 5, 9, 10, 6, 7, 8. Of a call on words,
+/* The other numbers that a call answers. A call tries those that it can give in the order 1, 2, 3, 4, 5, 9, 10, 6, 7, 11, 8. Of a call on words,
  * PINORANGE_WRONG_SHAPE (2) says: there are fewer than 4 words, word 0 (r) is not 1 to 1,024, word 1 (s) is above 64, or there are not
  * PINORANGE_WORDS(r, s). */
 #define PINORANGE_SHORT_SCRATCH 3u /* the scratch is shorter than PINORANGE_SCRATCH(r, s) */
@@ -28,15 +28,16 @@ extern "C" {
 #define PINORANGE_WRONG_TIER 9u    /* insert with a tier above PINORANGE_MAX_TIER */
 #define PINORANGE_OTHER_TIER 10u   /* insert of a key that is in the set with another tier, which it keeps */
 #define PINORANGE_KEY_PRESENT 6u   /* insert of a key that is in the set with this tier */
-#define PINORANGE_KEY_ABSENT 7u    /* remove of a key that is not in the set */
+#define PINORANGE_KEY_ABSENT 7u    /* remove or trail of a key that is not in the set */
+#define PINORANGE_SHORT_TRAIL 11u  /* the trail has more keys than `trail_length` */
 #define PINORANGE_STASH_FULL 8u    /* the new set cannot be placed: its stash would have more than s keys */
 
 #define PINORANGE_MAX_PLACES 64u /* the most places of a stash, s */
 #define PINORANGE_MAX_TIER 7u    /* the largest tier */
 
-/* Sizes in 32-bit words, for r slots in each table and s stash places: the dictionary, and the scratch that insert, remove and check borrow. The words are
- * r, s, the number of keys and that of the stashed ones; then the slots of table 0 and of table 1, three words each: key, next number, tier; then the stash
- * places, two words each: key, tier. An empty slot or place is zeros. */
+/* Sizes in 32-bit words, for r slots in each table and s stash places: the dictionary, and the scratch that insert, remove, check and trail borrow. The
+ * words are r, s, the number of keys and that of the stashed ones; then the slots of table 0 and of table 1, three words each: key, next number, tier; then
+ * the stash places, two words each: key, tier. An empty slot or place is zeros. */
 #define PINORANGE_WORDS(r, s) (4u + 6u * (r) + 2u * (s))
 #define PINORANGE_SCRATCH(r, s) (12u * (r) + 8u * (s))
 
@@ -86,6 +87,21 @@ uint32_t pinorange_lookup(const uint16_t *tabulation, size_t tabulation_length, 
  * Done (0): offset and length of the stretch in words, inside the words: the length is twice the number of stashed keys.
  * Refused (2, or 4 when word 3 counts more stashed keys than there are places): `*offset` and `*length` are 0. */
 uint32_t pinorange_stash(const uint32_t *words, size_t words_length, uint32_t *offset, uint32_t *length);
+
+/* The trail of a key: why it sits where it sits.
+ *
+ * It starts with the key. Each next key is the one in the last one's other slot: `trail[i]` has two slots, sits in one of them, and `trail[i + 1]` keeps it out
+ * of the other. It ends with the root, which sits by the rule alone. In a component (slots and keys that hang together) without a cycle the root is the
+ * smallest key, which sits in both its slots; otherwise it is the smallest on the one cycle that the seated keys form, and sits in table 0. No key comes twice.
+ * So the trail of a root is the root alone. A stashed key sits in no slot, and its trail has no key at all.
+ *
+ * Reads: the tabulation and the words, of any length and content. Writes: nothing but the scratch, `trail` and `*count`. Scratch as for insert; no counters.
+ * Done (0): `*count` is how many keys the trail has. They stand in `trail[0]` to `trail[*count - 1]`, and zeros behind them, up to `trail[trail_length - 1]`.
+ * Refused (1, 2, 3, 4, 5, 7 or 11, tried in that order): `*count` and `trail` stay as they were.
+ * How long `trail` must be: at least as long as the trail. None has more than 2r keys, so that 2r words always do, and 2 * PINORANGE_MAX_SLOTS for any
+ * dictionary: with these 11 is never answered. */
+uint32_t pinorange_trail(const uint16_t *tabulation, size_t tabulation_length, const uint32_t *words, size_t words_length,
+                         uint32_t *scratch, size_t scratch_length, uint32_t key, uint32_t *trail, size_t trail_length, uint32_t *count);
 
 /* Writes the house tabulation into a lent one of PINORANGE_TABULATION_LENGTH entries. Refused (1): another length, and it stays. */
 uint32_t pinorange_house(uint16_t *tabulation, size_t tabulation_length);
