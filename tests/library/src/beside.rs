@@ -17,18 +17,20 @@ pub enum Kind {
     Check,
     Lookup,
     Stash,
+    Trail,
     Hashes,
     House,
 }
 
 /// The answers that each call can give, refusals in the order in which they are tried. Specification, "What a call gives back".
-pub const ANSWERS: [(Kind, &[u32]); 8] = [
+pub const ANSWERS: [(Kind, &[u32]); 9] = [
     (Kind::Init, &[0, 2]),
     (Kind::Insert, &[0, 1, 2, 3, 4, 5, 9, 10, 6, 8]),
     (Kind::Remove, &[0, 1, 2, 3, 4, 5, 7]),
     (Kind::Check, &[0, 1, 2, 3, 4]),
     (Kind::Lookup, &[0, 1, 2, 5]),
     (Kind::Stash, &[0, 2, 4]),
+    (Kind::Trail, &[0, 1, 2, 3, 4, 5, 7, 11]),
     (Kind::Hashes, &[0, 1, 2, 5]),
     (Kind::House, &[0, 1]),
 ];
@@ -40,9 +42,11 @@ const GUARD: u32 = 0xABCD_1234;
 /// Calls the library beside the reference and counts the answers.
 #[derive(Default)]
 pub struct Beside {
-    seen: [[u64; 11]; 8],
+    seen: [[u64; 12]; 9],
     /// Of the lookups that were not refused: how many did not find their key, and how many did.
     found: [u64; 2],
+    /// Of the trails that were not refused: how many had no key, since theirs is stashed, how many had one key, and how many had more.
+    trails: [u64; 3],
 }
 
 impl Beside {
@@ -66,7 +70,7 @@ impl Beside {
     }
 
     /// Prints how often each call gave each answer. Fails where one of these calls never gave an answer that it can give; of lookups also where all found
-    /// their key, or none did.
+    /// their key, or none did, and of trails where none was empty, or none longer than one key.
     pub fn report(&self, kinds: &[Kind]) {
         for (kind, answers) in ANSWERS {
             let seen = &self.seen[kind as usize];
@@ -85,6 +89,11 @@ impl Beside {
                 let [no, yes] = self.found;
                 println!("{kind:?}: {yes} listed, {no} not listed");
                 assert!(yes > 0 && no > 0, "lookups found every key, or none");
+            }
+            if kind == Kind::Trail {
+                let [empty, single, longer] = self.trails;
+                println!("{kind:?}: {empty} empty, {single} of one key, {longer} longer");
+                assert!(empty > 0 && longer > 0, "no trail was empty, or none longer than one key");
             }
         }
     }
@@ -185,6 +194,42 @@ impl Beside {
             assert_eq!((offset, length), (0, 0), "a refused view is not empty");
         }
         self.count(Kind::Stash, got)
+    }
+
+    /// A trail, written over what the trail sheet holds: its answer, and its keys, none if it is refused. Refused, trail sheet and count stay as they were.
+    pub fn trail(
+        &mut self,
+        tabulation: &[u16],
+        words: &[u32],
+        scratch: &[u32],
+        key: u32,
+        trail_sheet: &[u32],
+    ) -> (u32, Vec<u32>) {
+        let mut theirs = scratch.to_vec();
+        let mut expected = trail_sheet.to_vec();
+        #[rustfmt::skip]
+        let (answer, count) = match reference::calls::trail(&Fast, tabulation, words, &mut theirs, key, &mut expected) {
+            Ok(count) => (0, count as u32),
+            Err(refusal) => (refusal.number(), OLD),
+        };
+        let mut book = Guarded::new(tabulation, 0x5A5A);
+        let mut lent = Guarded::new(words, GUARD);
+        let mut sheet = Guarded::new(scratch, GUARD);
+        let mut trail = Guarded::new(trail_sheet, GUARD);
+        let mut told = OLD;
+        let got =
+            crate::trail(book.lent(), lent.lent(), sheet.lent(), key, trail.lent(), &mut told);
+        assert_eq!((got, told), (answer, count), "trail of {key} in {words:?}");
+        assert_eq!(trail.content(), &expected[..], "trail of {key} in {words:?}");
+        assert!(sheet.content().iter().all(|w| *w == 0), "the scratch is not zero");
+        assert_eq!((book.content(), lent.content()), (tabulation, words), "trail changed memory");
+        if got == 0 {
+            self.trails[told.min(2) as usize] += 1;
+            expected.truncate(told as usize);
+        } else {
+            expected.clear();
+        }
+        (self.count(Kind::Trail, got), expected)
     }
 
     pub fn hashes(&mut self, tabulation: &[u16], r: u32, key: u32) -> u32 {

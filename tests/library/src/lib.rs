@@ -36,6 +36,11 @@ extern "C" {
         key: u32, listed: *mut u32, tier: *mut u32,
     ) -> u32;
 
+    fn pinorange_trail(
+        tabulation: *const u16, tabulation_length: usize, words: *const u32, words_length: usize,
+        scratch: *mut u32, scratch_length: usize, key: u32, trail: *mut u32, trail_length: usize, count: *mut u32,
+    ) -> u32;
+
     fn pinorange_stash(words: *const u32, words_length: usize, offset: *mut u32, length: *mut u32) -> u32;
 
     fn pinorange_hashes(
@@ -116,6 +121,17 @@ pub fn lookup(tabulation: &[u16], words: &[u32], key: u32, listed: &mut u32, tie
     }
 }
 
+/// Writes the trail of a key, and how many keys it has.
+#[rustfmt::skip]
+pub fn trail(tabulation: &[u16], words: &[u32], scratch: &mut [u32], key: u32, trail: &mut [u32], count: &mut u32) -> u32 {
+    unsafe {
+        pinorange_trail(
+            tabulation.as_ptr(), tabulation.len(), words.as_ptr(), words.len(),
+            scratch.as_mut_ptr(), scratch.len(), key, trail.as_mut_ptr(), trail.len(), count,
+        )
+    }
+}
+
 /// What the stash view answers, and the offset and length of the stretch that it names.
 pub fn stash(words: &[u32]) -> (u32, u32, u32) {
     let (mut offset, mut length) = (u32::MAX, u32::MAX);
@@ -142,7 +158,7 @@ pub fn words_length(r: u32, s: u32) -> usize {
     4 + 6 * r as usize + 2 * s as usize
 }
 
-/// How many words of scratch a change or a check borrows.
+/// How many words of scratch a change, a check or a trail borrows.
 pub fn scratch_length(r: u32, s: u32) -> usize {
     12 * r as usize + 8 * s as usize
 }

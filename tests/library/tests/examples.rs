@@ -1,8 +1,9 @@
-//! Worked examples through the built library: the edges of the sizes, and the test board of the specification, with tier 0 throughout and with others.
+//! Worked examples through the built library: the edges of the sizes, and the test board of the specification, with tier 0 throughout and with others, and the
+//! trails of its keys.
 
 use library::beside::{Beside, Kind};
 use library::Change::{Insert, Remove};
-use library::{change, fresh, lookup, scratch_length, stash, words_length, Counters};
+use library::{change, fresh, lookup, scratch_length, stash, trail, words_length, Counters};
 use reference::samples::test_tabulation;
 use reference::set::Member;
 
@@ -219,6 +220,108 @@ fn nine_and_ten_in_their_order() {
     }
 }
 
+/// The words of a board on the test tabulation with these keys, each with a tier of its own.
+fn board_of(r: u32, s: u32, keys: &[u32]) -> Vec<u32> {
+    let mut words = fresh(r, s);
+    for key in keys.iter().rev() {
+        assert_eq!(change(Insert(key % 8), &test_tabulation(), &mut words, *key), 0, "{keys:?}");
+    }
+    words
+}
+
+/// The trails of all keys of the rows, read off by hand from where the keys sit, and those of a stashed key, which are empty. Each on a sheet that is just long
+/// enough, on a longer one, and on one with a word less, which is refused.
+#[test]
+fn the_trails_of_the_test_board() {
+    let mut beside = Beside::new();
+    let tabulation = test_tabulation();
+    for (row, r, s, trails, stashed) in [
+        ("K2", 4, 1, &[&[17][..]][..], &[][..]),
+        ("K3", 4, 1, &[&[1], &[17, 1]], &[]),
+        ("K4", 4, 1, &[&[1], &[65, 1]], &[]),
+        ("K5", 4, 1, &[&[1], &[65, 1]], &[129]),
+        ("K6", 4, 2, &[&[1], &[65, 1]], &[129, 193]),
+        ("K7", 4, 1, &[&[1], &[129, 1]], &[]),
+        // 65, the root, is not the smallest: 17 is on no cycle
+        ("K8", 4, 1, &[&[17, 65], &[65], &[129, 65]], &[]),
+        ("K9", 4, 1, &[&[1], &[33, 1], &[34, 33, 1], &[65, 1]], &[98]),
+        // two components
+        ("K10", 4, 1, &[&[1], &[34], &[65, 1], &[98, 34]], &[]),
+        ("K11", 4, 1, &[&[1], &[34, 225, 1], &[65, 1], &[225, 1]], &[98]),
+        ("K12", 1, 0, &[&[5], &[200, 5]], &[]),
+        // the cycles 1, 193 and 34, 98, joined by 33: the stash takes 193, so that 1 is on no cycle any more, and 34 is the root
+        ("joined", 4, 1, &[&[1, 33, 98, 34], &[33, 98, 34], &[34], &[98, 34]], &[193]),
+    ] {
+        let keys: Vec<u32> = trails.iter().map(|trail| trail[0]).chain(stashed.to_vec()).collect();
+        let words = board_of(r, s, &keys);
+        let scratch = vec![3; scratch_length(r, s)];
+        let mut trail =
+            |key, length| beside.trail(&tabulation, &words, &scratch, key, &vec![7; length]);
+        for expected in trails {
+            let (key, length) = (expected[0], expected.len());
+            assert_eq!(trail(key, length), (0, expected.to_vec()), "{row}, {key}");
+            assert_eq!(trail(key, length + 5), (0, expected.to_vec()), "{row}, {key}");
+            assert_eq!(trail(key, length - 1), (11, vec![]), "{row}, {key}");
+        }
+        for key in stashed {
+            assert_eq!(trail(*key, 0), (0, vec![]), "{row}, {key}");
+            assert_eq!(trail(*key, 5), (0, vec![]), "{row}, {key}");
+        }
+    }
+}
+
+/// Sheet and count of trails of K9, written out, before and after the call.
+#[test]
+fn sheets_of_trails_by_hand() {
+    let words = board_of(4, 1, &[1, 33, 34, 65, 98]);
+    for (key, before, answer, count, after) in [
+        (34, &[7, 7, 7, 7, 7][..], 0, 3, &[34, 33, 1, 0, 0][..]),
+        (34, &[0, 98, 1], 0, 3, &[34, 33, 1]),
+        (34, &[7, 8], 11, 77, &[7, 8]),
+        (34, &[], 11, 77, &[]),
+        (1, &[34], 0, 1, &[1]),
+        (1, &[34, 33, 1], 0, 1, &[1, 0, 0]),
+        (98, &[7, 8], 0, 0, &[0, 0]),
+        (98, &[], 0, 0, &[]),
+        (97, &[7, 8], 7, 77, &[7, 8]),
+        (0, &[7, 8], 5, 77, &[7, 8]),
+    ] {
+        let (mut scratch, mut sheet, mut told) = (vec![9; 60], before.to_vec(), 77);
+        let got = trail(&test_tabulation(), &words, &mut scratch, key, &mut sheet, &mut told);
+        assert_eq!((got, told, &sheet[..]), (answer, count, after), "{key}");
+        assert_eq!(scratch, [0; 60]);
+    }
+}
+
+/// Of all refusals that one trail deserves, the first in the order 1, 2, 3, 4, 5, 7, 11 is given: one cause after the other is mended. A key that has no trail
+/// needs no sheet, so that 11 never applies together with 5 or 7.
+#[test]
+fn the_refusals_of_a_trail_in_their_order() {
+    let mut beside = Beside::new();
+    let tabulation = test_tabulation();
+    // K9
+    let sound = board_of(4, 1, &[1, 33, 34, 65, 98]);
+    let mut tampered = sound.clone();
+    tampered[2] += 1;
+    for (book, words, scratch, key, sheet, answer) in [
+        (&tabulation[1..], &tampered[1..], 55, 0, 0, 1),
+        (&tabulation, &tampered[1..], 55, 0, 0, 2),
+        (&tabulation, &tampered, 55, 0, 0, 3),
+        (&tabulation, &tampered, 56, 0, 0, 4),
+        (&tabulation, &tampered, 56, 34, 0, 4),
+        (&tabulation, &sound, 56, 0, 0, 5),
+        (&tabulation, &sound, 56, 2, 0, 7),
+        (&tabulation, &sound, 56, 34, 0, 11),
+        (&tabulation, &sound, 56, 34, 2, 11),
+        (&tabulation, &sound, 56, 34, 3, 0),
+        (&tabulation, &sound, 56, 98, 0, 0),
+    ] {
+        let got = beside.trail(book, words, &vec![3; scratch], key, &vec![7; sheet]);
+        assert_eq!(got.0, answer, "{key} on {sheet} words");
+    }
+    beside.report(&[Kind::Trail]);
+}
+
 /// Key 17 in each of its two slots, in each of three stash places, and in a slot that is not its own, with a tier of its own in each: a lookup gives the first
 /// of the five where it may stand. The words are no image.
 #[test]
@@ -268,6 +371,7 @@ fn huge_headings_and_wrong_lengths() {
                 beside.lookup(&tabulation, &words, 4);
                 beside.lookup(&tabulation[1..], &words, 7);
                 beside.check(&tabulation, &words, &[1; 40]);
+                beside.trail(&tabulation, &words, &[1; 40], 4, &[2; 3]);
             }
         }
     }

@@ -1,6 +1,6 @@
 //! Tests at scale, against the program by another hand: random sequences of calls on small boards, where cycles and full stashes are common, and on the largest;
-//! extreme tabulations; two histories of one set; the same keys with other tiers; damaged and random words. Every call is compared in answer, words, scratch,
-//! counters and guards, and every answer that a call can give must come up.
+//! extreme tabulations; two histories of one set; the same keys with other tiers; trails on sheets of all lengths, and the longest; damaged and random words.
+//! Every call is compared in answer, words, scratch, counters, out-parameters and guards, and every answer that a call can give must come up.
 
 use std::collections::{BTreeMap, BTreeSet};
 
@@ -11,10 +11,11 @@ use reference::answer::Refusal;
 use reference::fast::{image, Fast};
 use reference::hash::hashes;
 use reference::house::HOUSE;
+use reference::image::Engine;
 use reference::model::{Call, Model, Reply};
 use reference::rng::Rng;
 use reference::samples::{random_keys, random_tabulation, random_tier, random_tiers, tier_0};
-use reference::set::Member;
+use reference::set::{members, Member};
 
 /// A tabulation of the extremes of 16 bits alone.
 fn extreme_tabulation(rng: &mut Rng) -> Vec<u16> {
@@ -48,6 +49,24 @@ fn any_tier(rng: &mut Rng) -> u32 {
 /// Another tier from 0 to 7.
 fn other_tier(rng: &mut Rng, tier: u32) -> u32 {
     (tier + 1 + rng.below(7) as u32) % 8
+}
+
+/// How many keys the trail of a key has, by the reference; 0 where the set does not have the key.
+fn trail_length(tabulation: &[u16], r: u32, s: u32, members: &[Member], key: u32) -> usize {
+    Fast.trail(tabulation, r, s, members, key).map_or(0, |trail| trail.len())
+}
+
+/// A sheet for a trail of `count` keys, with any old content: of no word, one word too short, just long enough, longer than any trail, or of 2r words.
+fn trail_sheet(rng: &mut Rng, r: u32, count: usize) -> Vec<u32> {
+    let most = 2 * r as usize;
+    let length = match rng.below(6) {
+        0 => 0,
+        1 => count.saturating_sub(1),
+        2 => count,
+        3 => most + 1 + rng.below(9),
+        _ => most,
+    };
+    random_words(rng, length)
 }
 
 /// A dictionary in the middle of a sequence of calls, with the register that must answer the same.
@@ -97,13 +116,31 @@ impl Board {
         }
     }
 
+    /// A key to ask the trail of: half of the time one that is listed, where any is; else this one.
+    fn key_of_a_trail(&self, rng: &mut Rng, key: u32) -> u32 {
+        let listed: Vec<u32> = self.register.set().keys().copied().collect();
+        if listed.is_empty() || rng.one_in(2) {
+            key
+        } else {
+            rng.pick(&listed)
+        }
+    }
+
+    /// A sheet for the trail of a key.
+    fn trail_sheet(&self, rng: &mut Rng, key: u32) -> Vec<u32> {
+        let members = members(self.register.set());
+        let count = trail_length(&self.tabulation, self.r, self.s, &members, key);
+        trail_sheet(rng, self.r, count)
+    }
+
     /// One call on the words, which the register answers, too.
     fn call(&mut self, rng: &mut Rng, beside: &mut Beside) {
         let (book, scratch, key) = self.lent(rng);
         let tier = self.tier(rng, key);
         let (tabulation_len, scratch_len) = (book.len(), scratch.len());
+        let mut trail = Vec::new();
         let counters = &mut self.counters;
-        let (call, answer) = match rng.below(13) {
+        let (call, answer) = match rng.below(15) {
             0..=4 => (
                 Call::Insert { tabulation_len, scratch_len, key, tier },
                 beside.change(Insert(tier), &book, &mut self.words, &scratch, counters, key),
@@ -123,6 +160,14 @@ impl Board {
                 (Call::Lookup { tabulation_len, key }, answer)
             }
             11 => (Call::Stash, beside.stash(&self.words)),
+            12 | 13 => {
+                let key = self.key_of_a_trail(rng, key);
+                let sheet = self.trail_sheet(rng, key);
+                let trail_sheet_len = sheet.len();
+                let (answer, keys) = beside.trail(&book, &self.words, &scratch, key, &sheet);
+                trail = keys;
+                (Call::Trail { tabulation_len, scratch_len, key, trail_sheet_len }, answer)
+            }
             _ => {
                 // An init with another shape is refused, and is then a call of another kind.
                 let answer = beside.init(&mut self.words, self.r + 1, self.s, counters);
@@ -137,6 +182,10 @@ impl Board {
                 assert_eq!(answer, 0);
                 assert_eq!(&self.words[offset as usize..][..length as usize], &part[..]);
                 0
+            }
+            Reply::Trail(answer) => {
+                assert_eq!(trail, answer.clone().unwrap_or_default());
+                answer.map_or_else(Refusal::number, |_| 0)
             }
         };
         assert_eq!(answer, expected, "the register answers {call:?} otherwise");
@@ -160,11 +209,12 @@ impl Board {
         if rng.one_in(12) {
             words.truncate(rng.below(words.len()));
         }
-        match rng.below(5) {
+        match rng.below(6) {
             0 => beside.change(Insert(tier), &book, &mut words, &scratch, &mut counters, key),
             1 => beside.change(Remove, &book, &mut words, &scratch, &mut counters, key),
             2 => beside.check(&book, &words, &scratch),
             3 => beside.lookup(&book, &words, key).0,
+            4 => beside.trail(&book, &words, &scratch, key, &self.trail_sheet(rng, key)).0,
             _ => beside.stash(&words),
         };
     }
@@ -198,11 +248,13 @@ fn sequences_on_small_boards() {
         Kind::Check,
         Kind::Lookup,
         Kind::Stash,
+        Kind::Trail,
         Kind::Hashes,
     ]);
     for refusal in [9, 10, 6] {
         assert!(beside.given(Kind::Insert, refusal) > 5_000, "{refusal} is rare");
     }
+    assert!(beside.given(Kind::Trail, 0) > 5_000 && beside.given(Kind::Trail, 11) > 2_000);
 }
 
 /// Thousands of calls at r = 1,024, from nearly empty to full.
@@ -236,7 +288,7 @@ fn sequences_on_the_largest_board() {
                 tier = any_tier(&mut rng);
             }
             let scratch = vec![rng.next_u32(); scratch_length(r, s)];
-            match rng.below(8) {
+            match rng.below(10) {
                 0..=2 => {
                     let answer = beside.change(
                         Insert(tier),
@@ -265,6 +317,12 @@ fn sequences_on_the_largest_board() {
                 }
                 5 => assert_eq!(beside.check(&tabulation, &words, &scratch), 0),
                 6 => assert_eq!(beside.stash(&words), 0),
+                7 | 8 => {
+                    let key = if rng.one_in(8) { strange.0 } else { inside[at].0 };
+                    let count = trail_length(&tabulation, r, s, &inside, key);
+                    let sheet = trail_sheet(&mut rng, r, count);
+                    beside.trail(&tabulation, &words, &scratch, key, &sheet);
+                }
                 _ => {
                     let (key, tier) = inside[at];
                     assert_eq!(beside.lookup(&tabulation, &words, key), (0, Some(tier)));
@@ -278,6 +336,9 @@ fn sequences_on_the_largest_board() {
     for refusal in [9, 10, 6, 8] {
         assert!(beside.given(Kind::Insert, refusal) > 50, "{refusal} is rare");
     }
+    let trails = [0, 7, 11].map(|answer| (answer, beside.given(Kind::Trail, answer)));
+    println!("trails, answer and how often: {trails:?}");
+    assert!(trails.iter().all(|(_, times)| *times > 50));
 }
 
 /// Every r under a tabulation of extremes, whose sums are the largest there are.
@@ -296,6 +357,8 @@ fn extreme_tabulations() {
             let tier = random_tier(&mut rng);
             beside.change(Insert(tier), &tabulation, &mut words, &scratch, &mut counters, key);
             beside.lookup(&tabulation, &words, key);
+            let sheet = random_words(&mut rng, 2 * r as usize);
+            beside.trail(&tabulation, &words, &scratch, key, &sheet);
         }
         beside.check(&tabulation, &words, &scratch);
         beside.change(Remove, &tabulation, &mut words, &scratch, &mut counters, u32::MAX);
@@ -349,10 +412,29 @@ fn strangers_to(rng: &mut Rng, keys: &[u32]) -> Vec<u32> {
     (0..6).map(|_| rng.next_u32().max(1)).filter(|key| !keys.contains(key)).collect()
 }
 
-/// Two random histories of one set leave the same words, and those are the image of the set.
+/// The trails of the keys of a set, from scratch and over sheets with any old content.
+fn trails_of(
+    rng: &mut Rng,
+    beside: &mut Beside,
+    tabulation: &[u16],
+    words: &[u32],
+    keys: &[u32],
+) -> Vec<Vec<u32>> {
+    let mut trail = |key: &u32| {
+        let scratch = random_words(rng, scratch_length(words[0], words[1]));
+        let sheet = random_words(rng, 2 * words[0] as usize);
+        let (answer, trail) = beside.trail(tabulation, words, &scratch, *key, &sheet);
+        assert_eq!(answer, 0, "2r words are enough for the trail of {key} in {words:?}");
+        trail
+    };
+    keys.iter().map(&mut trail).collect()
+}
+
+/// Two random histories of one set leave the same words, and those are the image of the set. Both tell the same trails.
 #[test]
 fn two_histories_of_one_set() {
     let mut rng = Rng::new(44);
+    let mut beside = Beside::new();
     let (mut sets, mut stashed) = (0, 0);
     for round in 0..3_000 {
         let Some((r, s, tabulation, keys)) = fitting_set(&mut rng, round) else { continue };
@@ -363,11 +445,116 @@ fn two_histories_of_one_set() {
         let two = way_to(&mut rng, &tabulation, r, s, &members, &strangers);
         assert_eq!(one, two, "two histories of {members:?}");
         assert_eq!(one, canonical, "not the image of {members:?}");
+        let mut trails =
+            |words: &[u32]| trails_of(&mut rng, &mut beside, &tabulation, words, &keys);
+        assert_eq!(trails(&one), trails(&two), "trails after two histories of {members:?}");
         sets += 1;
         stashed += canonical[3];
     }
     println!("{sets} sets by two histories each, {stashed} keys stashed");
-    assert!(sets > 1_000 && stashed > 500);
+    println!("{} trails", beside.calls());
+    assert!(sets > 1_000 && stashed > 500 && beside.calls() > 10_000);
+}
+
+/// The trails of all keys of many sets, on sheets of no word, one too few, just enough, 2r, and more: 11 exactly where the trail is longer than the sheet.
+#[test]
+fn trails_on_sheets_of_all_lengths() {
+    let mut rng = Rng::new(50);
+    let mut beside = Beside::new();
+    for round in 1..1_500 {
+        let Some((r, s, tabulation, keys)) = fitting_set(&mut rng, round) else { continue };
+        let members = random_tiers(&mut rng, &keys);
+        let words = image(&tabulation, r, s, &members).expect("they fit with any tiers");
+        let scratch = random_words(&mut rng, scratch_length(r, s));
+        for key in keys {
+            let (count, most) = (trail_length(&tabulation, r, s, &members, key), 2 * r as usize);
+            for length in [0, count.saturating_sub(1), count, most, most + 1 + rng.below(9)] {
+                let sheet = random_words(&mut rng, length);
+                let (answer, trail) = beside.trail(&tabulation, &words, &scratch, key, &sheet);
+                let expected = if length < count { (11, 0) } else { (0, count) };
+                assert_eq!((answer, trail.len()), expected, "{key} on {length} of {words:?}");
+            }
+        }
+    }
+    let [done, short] = [0, 11].map(|answer| beside.given(Kind::Trail, answer));
+    println!("{done} trails, {short} on sheets that are too short");
+    assert!(done > 10_000 && short > 5_000);
+}
+
+/// A tabulation under which the keys 1 to 2r are one cycle through all slots, for every r: key k has the hashes k/2 and (k + 1)/2 rounded down, so that it has
+/// one slot in common with the key before it and the other with the key behind it.
+fn cycle_tabulation() -> Vec<u16> {
+    let mut tabulation = vec![0; 2_048];
+    for byte in 0..256u16 {
+        let at = usize::from(byte);
+        (tabulation[at], tabulation[1_024 + at]) = (byte / 2, byte.div_ceil(2));
+        (tabulation[256 + at], tabulation[1_280 + at]) = (128 * byte, 128 * byte);
+    }
+    tabulation
+}
+
+/// The words of a board with all these keys, which come in any order.
+fn filled(rng: &mut Rng, tabulation: &[u16], r: u32, s: u32, keys: &[u32]) -> Vec<u32> {
+    let mut words = fresh(r, s);
+    let mut order = keys.to_vec();
+    rng.shuffle(&mut order);
+    for key in order {
+        assert_eq!(change(Insert(random_tier(rng)), tabulation, &mut words, key), 0);
+    }
+    words
+}
+
+/// The trail of a key on the cycle of the keys 1 to `all`: up to the last one, and round to the root.
+fn up_the_cycle(key: u32, all: u32) -> Vec<u32> {
+    if key == 1 {
+        vec![1]
+    } else {
+        (key..=all).chain([1]).collect()
+    }
+}
+
+/// The trail of a key on the path of the keys from 1 on: down to the root.
+fn down_the_path(key: u32) -> Vec<u32> {
+    (1..=key).rev().collect()
+}
+
+/// Of the keys 1 to `last` those whose trails are asked for: all where they are few, otherwise some at both ends and at each multiple of 32. A walk goes in
+/// runs of 32 steps, so that these trails end just before, at and just behind the end of a run.
+fn some_keys(last: u32) -> Vec<u32> {
+    (1..=last)
+        .filter(|key| last <= 80 || *key < 4 || (key + 1) % 32 < 3 || last < key + 4)
+        .collect()
+}
+
+/// The longest trails there are, written out: 2r keys where the keys 1 to 2r are one cycle, 2r - 1 where one key less is a path. On the cycle key 1, the root,
+/// sits in table 0, in the slot that it has in common with key 2r; so every other key k sits in the one in common with k - 1, and k + 1 sits in its other one.
+/// On the path key 1 sits in both its slots, and each other key leads down to it. A sheet with one word less than the trail is refused.
+#[test]
+fn trails_through_all_slots() {
+    let mut rng = Rng::new(51);
+    let mut beside = Beside::new();
+    let tabulation = cycle_tabulation();
+    for r in (1..=40).chain([128, 1_024]) {
+        let (s, all) = (if r == 1_024 { 64 } else { rng.below(65) as u32 }, 2 * r);
+        let mut words = filled(&mut rng, &tabulation, r, s, &Vec::from_iter(1..=all));
+        let asked = some_keys(all);
+        let found = trails_of(&mut rng, &mut beside, &tabulation, &words, &asked);
+        let cycle: Vec<Vec<u32>> = asked.iter().map(|key| up_the_cycle(*key, all)).collect();
+        assert_eq!(found, cycle, "the cycle of {all} keys");
+        assert_eq!(found.iter().map(Vec::len).max(), Some(all as usize));
+        let scratch = random_words(&mut rng, scratch_length(r, s));
+        let short = random_words(&mut rng, all as usize - 1);
+        assert_eq!(beside.trail(&tabulation, &words, &scratch, 2, &short), (11, vec![]));
+
+        assert_eq!(change(Remove, &tabulation, &mut words, all), 0);
+        let asked = some_keys(all - 1);
+        let found = trails_of(&mut rng, &mut beside, &tabulation, &words, &asked);
+        let path: Vec<Vec<u32>> = asked.iter().map(|key| down_the_path(*key)).collect();
+        assert_eq!(found, path, "the path of {} keys", all - 1);
+        let short = &short[1..];
+        assert_eq!(beside.trail(&tabulation, &words, &scratch, all - 1, short), (11, vec![]));
+    }
+    println!("{} trails through all slots, the longest of 2,048 keys", beside.calls());
 }
 
 /// The same keys with other tiers: the words differ, in the tiers of the keys whose tier is another and in nothing else.
@@ -415,7 +602,7 @@ fn any_keys(rng: &mut Rng, count: usize) -> Vec<u32> {
 }
 
 /// 1,200 sets with r from 1 to 1,024, from empty to over-full: `check` builds the set and compares every word with the reference's image, an insert
-/// builds one key more, a remove one key less.
+/// builds one key more, a remove one key less. Of some keys the trails are asked for.
 #[test]
 fn sets_of_all_sizes_and_loads() {
     let mut rng = Rng::new(45);
@@ -450,6 +637,8 @@ fn sets_of_all_sizes_and_loads() {
         stashed += words[3];
         built += 1;
         assert_eq!(beside.check(&tabulation, &words, &scratch), 0);
+        let asked: Vec<u32> = keys.iter().copied().step_by(1 + count / 4).collect();
+        trails_of(&mut rng, &mut beside, &tabulation, &words, &asked);
         for _ in 0..3 {
             let (key, tier) = (rng.next_u32().max(1), random_tier(&mut rng));
             beside.change(Insert(tier), &tabulation, &mut words, &scratch, &mut counters, key);
@@ -459,7 +648,8 @@ fn sets_of_all_sizes_and_loads() {
         }
     }
     println!("{built} sets built, {full} that do not fit, {stashed} keys stashed");
-    assert!(built > 450 && full > 150 && stashed > 3_000);
+    println!("{} trails", beside.given(Kind::Trail, 0));
+    assert!(built > 450 && full > 150 && stashed > 3_000 && beside.given(Kind::Trail, 0) > 1_500);
 }
 
 /// What a word of words of the right shape is.
@@ -493,8 +683,17 @@ fn stands_twice(words: &[u32], key: u32) -> bool {
     key != 0 && slots.filter(|slot| slot[0] == key).count() == 2
 }
 
+/// The answer of a trail as check gives it: 5, 7 and 11 are tried behind all that check can answer.
+fn as_check(answer: u32) -> u32 {
+    if answer > 4 {
+        0
+    } else {
+        answer
+    }
+}
+
 /// Each word of 300 small images changed to eight values: 2 for words 0 and 1, and otherwise as the reference says. Every kind of word, of filled and of empty
-/// slots and places, must be found out.
+/// slots and places, must be found out, by check and by trail, of a key of the set and of none.
 #[test]
 fn damages_of_one_word() {
     let mut rng = Rng::new(46);
@@ -516,7 +715,13 @@ fn damages_of_one_word() {
             for value in [0, 1, 7, 8, first, sound[at] ^ 1, sound[at].wrapping_add(1), u32::MAX] {
                 let mut words = sound.clone();
                 words[at] = value;
-                match beside.check(&tabulation, &words, &scratch) {
+                let answer = beside.check(&tabulation, &words, &scratch);
+                let sheet = random_words(&mut rng, 2 * r as usize);
+                for asked in [first, 0] {
+                    let (traced, _) = beside.trail(&tabulation, &words, &scratch, asked, &sheet);
+                    assert_eq!(as_check(traced), answer, "trail of {asked}, {value} at {at}");
+                }
+                match answer {
                     4 => *tampered.entry((word, key != 0)).or_default() += 1,
                     0 if words != sound => another += 1,
                     answer => assert!(answer == 0 || (answer == 2 && at < 2), "{answer} at {at}"),
@@ -531,7 +736,7 @@ fn damages_of_one_word() {
 }
 
 /// Each tier word of many small images changed: 4 beside an empty slot or place, above 7, and where the key's other slot has the old tier; else the words are
-/// the image of another set, which has this tier. Insert and remove find it out, too, and lookup gives the first tier word as it stands.
+/// the image of another set, which has this tier. Insert, remove and trail find it out, too, and lookup gives the first tier word as it stands.
 #[test]
 fn damages_of_a_tier() {
     let mut rng = Rng::new(49);
@@ -575,6 +780,9 @@ fn damages_of_a_tier() {
                         beside.change(way, &tabulation, &mut words, &scratch, &mut counters, asked);
                     assert_eq!(got == 4, answer == 4, "{way:?} of {asked}, {why}");
                 }
+                let sheet = random_words(&mut rng, 2 * r as usize);
+                let (traced, _) = beside.trail(&tabulation, &words, &scratch, asked, &sheet);
+                assert_eq!(as_check(traced), answer, "trail of {asked}, {why}");
             }
         }
     }
@@ -620,6 +828,8 @@ fn random_memory() {
         beside.change(Remove, &tabulation, &mut words, &scratch, &mut counters, key);
         beside.check(&tabulation, &words, &scratch);
         beside.stash(&words);
+        let sheet = random_words(&mut rng, 2 * r as usize);
+        beside.trail(&tabulation, &words, &scratch, key, &sheet);
         for key in keys {
             let (answer, found) = beside.lookup(&tabulation, &words, key);
             match found {
