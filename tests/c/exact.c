@@ -1,6 +1,7 @@
-/* Every call on memory from malloc that is exactly as long as the call is told, from no word to one too many, with scratch that was never written. Run under a
- * memory checker (tests/run does) it shows what no comparison of words can: that nothing is read or written outside the lent ends, and that no answer and no
- * word depends on what the scratch held. Exits with 0 when the answers are as expected, too. */
+/* Every call on memory from malloc that is exactly as long as the call is told, from no word to one too many, with scratch that was never written, and with
+ * sheets for trails that were not either. Run under a memory checker (tests/run does) it shows what no comparison of words can: that nothing is read or written
+ * outside the lent ends, that no answer and no word depends on what the scratch held, and that a trail writes every word of its sheet. Exits with 0 when the
+ * answers and the trails are as expected, too. */
 #include "pinorange.h"
 
 #include <stdio.h>
@@ -39,6 +40,15 @@ static void expect(const char *what, uint32_t got, uint32_t wanted)
     }
 }
 
+static void expect_zeros(const char *what, const uint32_t *memory, size_t length)
+{
+    for (size_t i = 0; i < length; i++)
+        if (memory[i] != 0) {
+            printf("%s: word %zu is not zero\n", what, i);
+            failures++;
+        }
+}
+
 /* A tier that stands for a removal. */
 #define OUT UINT32_MAX
 
@@ -49,11 +59,7 @@ static uint32_t change(const uint16_t *book, size_t book_length, uint32_t *words
     uint32_t *scratch = lend(room * sizeof *scratch);
     uint32_t answer = tier == OUT ? pinorange_remove(book, book_length, words, length, scratch, room, &counters, key)
                                   : pinorange_insert(book, book_length, words, length, scratch, room, &counters, key, tier);
-    for (size_t i = 0; i < room; i++)
-        if (scratch[i] != 0) {
-            printf("scratch word %zu is not zero\n", i);
-            failures++;
-        }
+    expect_zeros("scratch", scratch, room);
     if (counters.done + counters.refused != 1) {
         printf("the counters did not move by one\n");
         failures++;
@@ -62,14 +68,94 @@ static uint32_t change(const uint16_t *book, size_t book_length, uint32_t *words
     return answer;
 }
 
-/* A dictionary filled, key i at tier i % 8, and emptied again; in between refused inserts, lookups and views. */
+/* What a trail is asked of: a tabulation, words, and how long the scratch is. */
+struct board {
+    const uint16_t *book;
+    size_t book_length;
+    const uint32_t *words;
+    size_t length;
+    size_t room;
+};
+
+/* A trail with a scratch of its own, which must be zeros afterwards. */
+static uint32_t ask(const struct board *board, uint32_t key, uint32_t *trail, size_t trail_length, uint32_t *count)
+{
+    uint32_t *scratch = lend(board->room * sizeof *scratch);
+    uint32_t answer = pinorange_trail(board->book, board->book_length, board->words, board->length, scratch, board->room, key, trail, trail_length, count);
+    expect_zeros("scratch", scratch, board->room);
+    free(scratch);
+    return answer;
+}
+
+/* The trail of a key on a sheet that was never written: it must have these keys, and zeros behind them. */
+static void expect_trail(const char *what, const struct board *board, uint32_t key, size_t trail_length, const uint32_t *keys, uint32_t wanted)
+{
+    uint32_t *trail = lend(trail_length * sizeof *trail), count = 77;
+    expect(what, ask(board, key, trail, trail_length, &count), PINORANGE_DONE);
+    expect(what, count, wanted);
+    for (size_t i = 0; i < wanted; i++)
+        expect(what, trail[i], keys[i]);
+    expect_zeros(what, trail + wanted, trail_length - wanted);
+    free(trail);
+}
+
+/* A trail that is refused: its sheet and its count must stay. */
+static void expect_refusal(const char *what, const struct board *board, uint32_t key, size_t trail_length, uint32_t wanted)
+{
+    uint32_t *trail = lend(trail_length * sizeof *trail), count = 77;
+    for (size_t i = 0; i < trail_length; i++)
+        trail[i] = 1000 + (uint32_t)i;
+    expect(what, ask(board, key, trail, trail_length, &count), wanted);
+    expect(what, count, 77);
+    for (size_t i = 0; i < trail_length; i++)
+        expect(what, trail[i], 1000 + (uint32_t)i);
+    free(trail);
+}
+
+/* The key in that slot of a key where it does not sit: itself, if it sits in both. */
+static uint32_t beyond(const struct board *board, uint32_t r, uint32_t key)
+{
+    uint32_t table0, table1, in0, in1;
+    expect("hashes", pinorange_hashes(board->book, board->book_length, r, key, &table0, &table1), PINORANGE_DONE);
+    in0 = board->words[4 + 3 * table0];
+    in1 = board->words[4 + 3 * (r + table1)];
+    expect("a key of a trail is seated", in0 == key || in1 == key, 1);
+    return in0 == key ? in1 : in0;
+}
+
+/* The trail of a key that is in the set, checked step by step: each next key is in the last one's other slot, and the last is the root. That sits in both its
+ * slots, which only the smallest of a component without a cycle does; or the steps lead on from it round a cycle, whose smallest key it is. Then again on a
+ * sheet that is just long enough, and on one with a word less. Gives how many keys the trail has. */
+static uint32_t follow(const struct board *board, uint32_t r, uint32_t key)
+{
+    uint32_t *trail = lend(2 * r * sizeof *trail), count = 77;
+    expect("trail", ask(board, key, trail, 2 * r, &count), PINORANGE_DONE);
+    for (uint32_t i = 0; i < count; i++)
+        expect("the next key", trail[i], i == 0 ? key : beyond(board, r, trail[i - 1]));
+    if (count > 0) {
+        uint32_t root = trail[count - 1], round = beyond(board, r, root);
+        for (uint32_t steps = 0; round != root && steps < 2 * r; steps++) {
+            expect("a key on the cycle is larger", round > root, 1);
+            round = beyond(board, r, round);
+        }
+        expect("round to the root", round, root);
+        expect_refusal("one word less", board, key, count - 1, PINORANGE_SHORT_TRAIL);
+    }
+    expect_trail("just long enough", board, key, count, trail, count);
+    expect_zeros("behind the trail", trail + count, 2 * r - count);
+    free(trail);
+    return count;
+}
+
+/* A dictionary filled, key i at tier i % 8, and emptied again; in between refused inserts, lookups, trails and views. */
 static void session(uint32_t r, uint32_t s, uint32_t keys)
 {
     size_t length = PINORANGE_WORDS(r, s), room = PINORANGE_SCRATCH(r, s);
     uint16_t *book = lend_book(PINORANGE_TABULATION_LENGTH);
     uint32_t *words = lend(length * sizeof *words);
+    const struct board board = {book, PINORANGE_TABULATION_LENGTH, words, length, room};
     struct pinorange_counters counters = {0, 0};
-    uint32_t full = 0;
+    uint32_t full = 0, empty = 0, longer = 0;
 
     expect("init", pinorange_init(words, length, r, s, &counters), PINORANGE_DONE);
     for (uint32_t i = 1; i <= keys; i++) {
@@ -95,6 +181,16 @@ static void session(uint32_t r, uint32_t s, uint32_t keys)
         expect("table 0", table0 < r, 1);
         expect("table 1", table1 < r, 1);
     }
+    for (uint32_t i = 1; i <= keys; i++)
+        if (accepted[i]) {
+            uint32_t count = follow(&board, r, i * 2654435761u);
+            empty += count == 0;
+            longer += count > 1;
+        } else {
+            expect_refusal("not in the set", &board, i * 2654435761u, i % 3, PINORANGE_KEY_ABSENT);
+        }
+    expect("empty trails, one for each stashed key", empty, words[3]);
+    expect("some trails are longer than one key", longer > 0, 1);
     for (uint32_t i = 1; i <= keys; i++) {
         uint32_t offset, count, answer = change(book, PINORANGE_TABULATION_LENGTH, words, length, room, i * 2654435761u, OUT);
         expect("remove", answer, accepted[i] ? PINORANGE_DONE : PINORANGE_KEY_ABSENT);
@@ -106,7 +202,51 @@ static void session(uint32_t r, uint32_t s, uint32_t keys)
     for (size_t i = 0; i < length; i++)
         expect("word", words[i], i == 0 ? r : i == 1 ? s : 0);
     expect("most inserts were accepted", full < keys - keys / 3 + 1, 1);
-    printf("r = %u, s = %u: %u inserts, %u of them refused with 8\n", (unsigned)r, (unsigned)s, (unsigned)keys, (unsigned)full);
+    printf("r = %u, s = %u: %u inserts, %u of them refused with 8; %u empty trails, %u of more than one key\n", (unsigned)r, (unsigned)s, (unsigned)keys,
+           (unsigned)full, (unsigned)empty, (unsigned)longer);
+    free(words);
+    free(book);
+}
+
+/* The keys 17, 65 and 129 on the test board of the specification, and then 193 in the stash: their trails by hand, and every refusal of a trail, with causes
+ * for those that are tried behind it. */
+static void test_board(void)
+{
+    static const uint32_t of_17[] = {17, 65}, of_65[] = {65}, of_129[] = {129, 65};
+    size_t books = PINORANGE_TABULATION_LENGTH, length = PINORANGE_WORDS(4, 1), room = PINORANGE_SCRATCH(4, 1);
+    uint16_t *book = lend_book(books);
+    uint32_t *words = lend(length * sizeof *words);
+    const struct board board = {book, books, words, length, room};
+    struct pinorange_counters counters = {0, 0};
+
+    /* entry v is v, entry 1,024 + v is v / 16, for v from 0 to 255; all others 0 */
+    for (uint32_t v = 0; v < books; v++)
+        book[v] = (uint16_t)(v < 256 ? v : v >= 1024 && v < 1280 ? (v - 1024) / 16 : 0);
+    expect("init", pinorange_init(words, length, 4, 1, &counters), PINORANGE_DONE);
+    expect("insert", change(book, books, words, length, room, 129, 3), PINORANGE_DONE);
+    expect("insert", change(book, books, words, length, room, 17, 0), PINORANGE_DONE);
+    expect("insert", change(book, books, words, length, room, 65, 7), PINORANGE_DONE);
+    for (size_t more = 0; more <= 8; more++) {
+        expect_trail("129", &board, 129, 2 + more, of_129, 2);
+        expect_trail("17", &board, 17, 2 + more, of_17, 2);
+        expect_trail("65", &board, 65, 1 + more, of_65, 1);
+    }
+    expect("insert", change(book, books, words, length, room, 193, 1), PINORANGE_DONE);
+    expect_trail("193, stashed", &board, 193, 0, NULL, 0);
+    expect_trail("193, stashed", &board, 193, 8, NULL, 0);
+    expect_trail("129 as before", &board, 129, 8, of_129, 2);
+
+    expect_refusal("11", &board, 129, 1, PINORANGE_SHORT_TRAIL);
+    expect_refusal("11", &board, 65, 0, PINORANGE_SHORT_TRAIL);
+    expect_refusal("7", &board, 2, 8, PINORANGE_KEY_ABSENT);
+    expect_refusal("7", &board, 2, 0, PINORANGE_KEY_ABSENT);
+    expect_refusal("5", &board, 0, 0, PINORANGE_BLANK_KEY);
+    words[2]++; /* tampered */
+    expect_refusal("4", &board, 129, 8, PINORANGE_NOT_CANONICAL);
+    expect_refusal("4", &board, 0, 0, PINORANGE_NOT_CANONICAL);
+    expect_refusal("3", &(struct board){book, books, words, length, room - 1}, 0, 0, PINORANGE_SHORT_SCRATCH);
+    expect_refusal("2", &(struct board){book, books, words, length - 1, room - 1}, 0, 8, PINORANGE_WRONG_SHAPE);
+    expect_refusal("1", &(struct board){book, books - 1, words, length - 1, room - 1}, 0, 8, PINORANGE_WRONG_TABULATION);
     free(words);
     free(book);
 }
@@ -131,6 +271,10 @@ static void lengths(uint32_t r, uint32_t s)
                    more ? PINORANGE_WRONG_TABULATION : shape);
             expect("short or long scratch", change(house, PINORANGE_TABULATION_LENGTH, words, length, rooms, 0, 8),
                    shape ? shape : more < 0 ? PINORANGE_SHORT_SCRATCH : PINORANGE_BLANK_KEY);
+            expect_refusal("trail", &(struct board){book, books, words, length, rooms}, 5, length % 3,
+                           more ? PINORANGE_WRONG_TABULATION : shape ? shape : PINORANGE_KEY_ABSENT);
+            expect_refusal("trail", &(struct board){house, PINORANGE_TABULATION_LENGTH, words, length, rooms}, 5, length % 3,
+                           shape ? shape : more < 0 ? PINORANGE_SHORT_SCRATCH : PINORANGE_KEY_ABSENT);
             expect("lookup", pinorange_lookup(book, books, words, length, 5, &listed, &tier), more ? PINORANGE_WRONG_TABULATION : shape);
             expect("listed", listed, more || shape ? 7 : 0);
             expect("tier", tier, 77);
@@ -150,6 +294,7 @@ int main(void)
     session(3, 1, 12);
     session(16, 4, 60);
     session(128, 8, 200);
+    test_board();
     lengths(1, 0);
     lengths(2, 3);
     printf("exact.c: %lu calls, %d failures\n", calls, failures);
