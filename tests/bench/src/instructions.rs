@@ -5,14 +5,18 @@ use std::collections::BTreeMap;
 use crate::cases::{numbered, CASES};
 use crate::partners::{symbol, Call, PARTNERS};
 use crate::timing::{change, others};
+use crate::trails::{self, shortest_and_typical};
 
-/// Prints what is to be counted, a line each: case, partner, call, and the symbol to watch. The twins have one lookup, so it is counted once.
+/// Prints what is to be counted, a line each: case, partner, call, and the symbol to watch. The twins have one lookup, so it is counted once, and no trail.
 pub fn print_wanted() {
     for case in 0..CASES {
         for (who, partner) in PARTNERS.iter().enumerate() {
             for call in Call::ALL.into_iter().filter(|call| who < 2 || *call != Call::Lookup) {
                 println!("{case} {} {} {}", partner.name, call.name(), symbol(who, call));
             }
+        }
+        for trail in shortest_and_typical(&numbered(case, 1)) {
+            println!("{case} {} {} {}", PARTNERS[0].name, trail.name(), trails::SYMBOL);
         }
     }
 }
@@ -26,6 +30,9 @@ fn partner_named(name: &str) -> usize {
 /// runs.
 pub fn one(case: &str, partner: &str, call: &str) {
     let case = numbered(case.parse().expect("the number of a case"), 1);
+    if let Some(key) = trails::key_named(call) {
+        return trails::one(&case, key);
+    }
     let (partner, call) = (&PARTNERS[partner_named(partner)], Call::named(call));
     let (board, book) = (&case.boards[0], &case.tabulation);
     let mut words = board.words.clone();
@@ -46,25 +53,36 @@ pub fn one(case: &str, partner: &str, call: &str) {
 /// What was counted.
 pub struct Instructions {
     counts: BTreeMap<(usize, usize, Call), u64>,
+    /// Of the library's trails, by the key.
+    trails: BTreeMap<(usize, u32), u64>,
 }
 
 impl Instructions {
     /// Reads lines of case, partner, call and count.
     pub fn read(path: &str) -> Instructions {
         let text = std::fs::read_to_string(path).expect("the file of counts");
-        let line = |line: &str| {
+        let (mut counts, mut of_trails) = (BTreeMap::new(), BTreeMap::new());
+        for line in text.lines() {
             let fields: Vec<&str> = line.split_whitespace().collect();
             let [case, partner, call, count] = fields[..] else { panic!("a line: {line}") };
             let case = case.parse().expect("the number of a case");
             let count = count.parse().unwrap_or_else(|_| panic!("nothing was counted: {line}"));
-            ((case, partner_named(partner), Call::named(call)), count)
-        };
-        Instructions { counts: text.lines().map(line).collect() }
+            match trails::key_named(call) {
+                Some(key) => of_trails.insert((case, key), count),
+                None => counts.insert((case, partner_named(partner), Call::named(call)), count),
+            };
+        }
+        Instructions { counts, trails: of_trails }
     }
 
     /// Those of a call of a partner on a case.
     pub fn of(&self, case: usize, partner: usize, call: Call) -> u64 {
         self.counts[&(case, partner, call)]
+    }
+
+    /// Those of the trail of a key on a case.
+    pub fn of_trail(&self, case: usize, key: u32) -> u64 {
+        self.trails[&(case, key)]
     }
 
     /// Those of the library to those of another partner.

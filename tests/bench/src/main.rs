@@ -1,6 +1,7 @@
 //! The benchmark: the library beside two twins in Rust. `tests/bench/run` uses it, in this order: `compare N` makes N random calls that all partners must answer alike;
-//! `counts` prints what a build does, in a build with the feature of that name; `wanted` lists the calls whose instructions are to be counted, and `one CASE PARTNER
-//! CALL` makes one of them; `tables FILE` takes what was counted from a file, takes times, and prints the tables; `picture FILE` draws times against keys.
+//! `counts` prints what a build does, in a build with the feature of that name; `wanted` lists the calls whose instructions are to be counted, trails of the library
+//! among them, and `one CASE PARTNER CALL` makes one of them; `tables FILE` takes what was counted from a file, takes times, and prints the tables; `picture FILE`
+//! draws times against keys.
 
 mod cases;
 mod common;
@@ -14,6 +15,7 @@ mod ranks;
 mod tables;
 mod tally;
 mod timing;
+mod trails;
 
 use instructions::Instructions;
 

@@ -6,6 +6,7 @@ use crate::instructions::Instructions;
 use crate::partners::{Call, PARTNERS};
 use crate::tally::{self, Tally};
 use crate::timing::{both_lookups, changes, Changes, Lookups, CHANGES, ROUNDS};
+use crate::trails::shortest_and_typical;
 
 /// What is looked up in a row: the set's keys, and as many others.
 pub const ASKED: [&str; 2] = ["its keys", "others"];
@@ -61,6 +62,20 @@ impl Measured {
         }
     }
 
+    /// What a trail takes beside a check of the same words.
+    fn print_trails(&self) {
+        let columns =
+            "instructions, case|keys|check|shortest trail|its keys|typical trail|its keys";
+        head(&columns.split('|').collect::<Vec<_>>());
+        for (number, case) in self.cases.iter().enumerate() {
+            let check = grouped(self.instructions.of(number, 0, Call::Check));
+            let trails = shortest_and_typical(case).into_iter().flat_map(|trail| {
+                [self.instructions.of_trail(number, trail.key), trail.length.into()].map(grouped)
+            });
+            row(name_and_keys(case).into_iter().chain([check]).chain(trails));
+        }
+    }
+
     fn print_times(&self) {
         let columns = "time, case|keys|insert µs|to plain|to ranks|remove µs|to plain|to ranks|check µs|to plain|to ranks";
         head(&columns.split('|').collect::<Vec<_>>());
@@ -109,6 +124,7 @@ pub fn print(instructions: Instructions) {
     let lookups = cases.iter().map(|case| both_lookups(case, 20 * ROUNDS)).collect();
     let measured = Measured { cases, instructions, changes: times, lookups };
     measured.print_instructions();
+    measured.print_trails();
     measured.print_times();
     measured.print_growth();
     goals::print(&measured);
