@@ -43,7 +43,7 @@ noted-as {r} {n = n} key X p q e = let f : 2 * r + n ≡ r + r + n = omega arith
 
 -- the most steps of one run, and whether a run goes on
 abbrev pub run-length : ℕ
-run-length = 32
+run-length = 16
 
 pub on-here : {i v : ℕ} (X : List ℕ) (t : Bool) → i ≡ v → getD X i 0 ≡ 0 → t ≡ (eqb (getD X v 0) 0 && t)
 on-here {i} {v} X t q e = rw (← q, eq-eqb (getD X i 0) 0 e)

@@ -16,7 +16,7 @@ use words::wide;
 
 // The most steps of one run. A run of steps is calls in calls, which all lie on the stack, so it ends after a few of
 // them, and the loop of `walk` goes on from there.
-pub const RUN: u32 = 32;
+pub const RUN: u32 = 16;
 
 // Where a walk stands: the slot, and the steps that led there.
 pub struct Stand {

@@ -519,7 +519,7 @@ fn down_the_path(key: u32) -> Vec<u32> {
 }
 
 /// Of the keys 1 to `last` those whose trails are asked for: all where they are few, otherwise some at both ends and at each multiple of 32. A walk goes in
-/// runs of 32 steps, so that these trails end just before, at and just behind the end of a run.
+/// runs of 16 steps, so that these trails end just before, at and just behind the end of a run.
 fn some_keys(last: u32) -> Vec<u32> {
     (1..=last)
         .filter(|key| last <= 80 || *key < 4 || (key + 1) % 32 < 3 || last < key + 4)
