@@ -162,7 +162,7 @@ module _ (P : Params) (S : List ℕ) where
     pub stashed-trail : {key : ℕ} → In key (stash a b S) → trail-of P S key ≡ []
     stashed-trail i = stash-trail a b S i
 
-    -- No trail has more keys than there are slots,
+    -- No trail has more keys than there are slots.
     pub trail-few : 0 < P .slots → (key : ℕ) → length (trail-of P S key) ≤ P .slots + P .slots
     trail-few some key = elim (in? key T) [
       | inl i ↦ trail-slots a b (seated-stops a b S (valid .asc)) (P .slots + P .slots) (seated-asc a b S (valid .asc))
@@ -177,6 +177,10 @@ module _ {P : Params} {L : List Entry} {ws : List ℕ} (h : Holds P L ws) (key :
   held-asked =
       ap (λ (Q : Params). trail-of Q (keys-in ws) key) (held-params h)
       ∙ ap (λ (S : List ℕ). trail-of P S key) (image-of-keys (h .is) (held-some h))
+
+  -- which is as document 02 tells it;
+  pub held-leads : In key (seated (slot-0 (family P)) (slot-1 (family P)) (keys-of L)) → Leads P (keys-of L) key (trail-in (P .tabulation) ws key)
+  held-leads i = rw held-asked (trail-leads P (keys-of L) (h .is .valid .keys) i)
 
   -- 2 and 4 never apply, and the rest with L as "the set".
   pub held-trail : length (P .tabulation) ≡ tabulation-length → (scratch : List ℕ) (n : ℕ)
@@ -195,7 +199,7 @@ module _ {P : Params} {L : List Entry} {ws : List ℕ} (h : Holds P L ws) (key :
         held-asked,
       )
 
-  -- "2r words never get 11"
+  -- With 2r words lent for it, it is never refused with 11.
   pub never-short : length (P .tabulation) ≡ tabulation-length → (scratch sheet : List ℕ) → P .slots + P .slots ≤ length sheet
       → trail-outcome (P .tabulation) ws scratch key sheet .number ≡ short-trail → ⊥
   unfolding trail-outcome
