@@ -3,12 +3,12 @@
 use Prim.Native.Nat.{ℕ, zero, suc, _+_, _-_, _<_, _≤_}
 use mathlib.Core.Path.{_≡_, refl, sym, _∙_, ap}
 use mathlib.Core.Logic.{inl, inr}
-use mathlib.Core.List.{List, [], _∷_, List·Memᴰ as In}
+use mathlib.Core.List.{List, [], _∷_}
 use native.Mathlib.Omega.{arith}
 use Rattle.basics.specs.Tests.{eq?, le?}
 use Rattle.basics.specs.Sets.{without, in-out, out-sub, Asc}
 use Rattle.basics.specs.Lists.{passes, fails, picked}
-use Rattle.cuckoo.specs.Graph.{component, onCycle, root, occupant}
+use Rattle.cuckoo.specs.Graph.{onCycle, root, occupant}
 use Rattle.cuckoo.specs.Joined.{Joined, jrefl, jsym, jtrans, mono}
 use Rattle.cuckoo.specs.Settling.{OnCycle, Settled, true-onCycle}
 use Rattle.cuckoo.specs.Seating.{Ends, from-a, from-b, ends-edge, ends-near, ends-flip, ends-cycle, one-near, root-same}

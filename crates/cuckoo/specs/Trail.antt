@@ -45,7 +45,7 @@ module _ (a b : ℕ → ℕ) where
   unfoldable pub trail : List ℕ → ℕ → List ℕ
   trail T c = cond (member c T) (trail-from (length T) T c) []
 
-  -- The keys L are the whole trail from c on: the root ends it, and any other key hands on to the key in its other slot.
+  -- The laws. The keys L are the whole trail from c on: the root ends it, and any other key hands on to the key in its other slot.
   pub data Trail (T : List ℕ) : ℕ → List ℕ → Type 0 where
     ends : {c : ℕ} → c ≡ root a b T (a c) → Trail T c (c ∷ [])
     hands-on : {c : ℕ} {L : List ℕ} → (c ≡ root a b T (a c) → ⊥) → Trail T (occupant a b T (other T c)) L → Trail T c (c ∷ L)

@@ -2,13 +2,14 @@
 -- scratch and the old words of the trail have no say. Then the trail of a dictionary that holds a set: what document 02 says of it. Assumes nothing.
 use Prim.Native.Nat.{ℕ, suc, _+_, _-_, _≤_, _<_}
 use mathlib.Core.Path.{_≡_, refl, sym, _∙_, ap}
-use mathlib.Core.Bool.{Bool, true, false, not, cond}
+use mathlib.Core.Bool.{true, false, not, cond, true≢false}
 use mathlib.Core.Logic.{inl, inr, _↔_}
 use mathlib.Core.List.{List, [], _∷_, _++_, List·Memᴰ as In, List·Memᴰ·head as here, List·Memᴰ·tail as there}
 use native.Mathlib.Omega.{arith}
-use borrow.Author.Tests.{eq-eqb, ne-eqb, lt-ltb, le-ltb}
-use lib.Dec.{eqb, ltb}
+use borrow.Author.Tests.{eq-eqb, ne-eqb, le-ltb}
+use lib.Dec.{ltb}
 use lib.ListN.{length, getD, replicate}
+use Rattle.basics.specs.Tests.{test}
 use Rattle.basics.specs.Sets.{member, first, last, Sub, in?}
 use Rattle.basics.specs.Lists.{Picked}
 use Rattle.cuckoo.specs.Graph.{component, onCycle, seated, stash, occupant}
@@ -19,16 +20,16 @@ use Rattle.refusals.specs.Refusal.{done, wrong-tabulation, wrong-shape, short-s
 use Rattle.tabulation.specs.Hash.{tabulation-length, blank}
 use Rattle.tabulation.specs.Slots.{slot-0, slot-1, slot-0-lt, slot-1-lt}
 use Rattle.layout.specs.Entries.{Entry, keys-of}
-use Rattle.layout.specs.Layout.{Params, ValidKeys, family, params-of, slots-of, places-of, scratch-length, shaped, keys-in, set-in}
-use Rattle.layout.specs.Canonical.{canonical, image-of-keys}
+use Rattle.layout.specs.Layout.{Params, ValidKeys, family, slots-of, places-of, scratch-length, shaped, keys-in}
+use Rattle.layout.specs.Canonical.{canonical, image-of-keys, not-canonical-iff}
 use Rattle.outcome.specs.declared.Change.the-variants.{Remove}
 use Rattle.outcome.specs.Outcome.{first-refusals, change-refusal, change-outcome}
-use Rattle.outcome.specs.Laws.{Ready, Tampered, head-tabulation, head-shape, head-scratch, head-ready, later-refusals}
+use Rattle.outcome.specs.Laws.{Ready, Late, late-other, late-first, Tampered, head-tabulation, head-shape, head-scratch, head-ready, later-refusals}
 use Rattle.outcome.specs.Held.{Holds, held-some, held-params, held-set-in, held-shaped, held-canonical, held-scratch}
 use Rattle.outcome.specs.Demands.{Harmless}
 use Rattle.outcome.specs.Trail.{trail-of, trail-in, trail-refusals, trail-refusal, TrailOutcome, trail-outcome}
 
--- "1 2 3 4 5 7, then 11": the numbers
+-- the numbers that it can answer: those of a removal, and 11
 abbrev pub trail-answers : List ℕ
 trail-answers = 0 ∷ 1 ∷ 2 ∷ 3 ∷ 4 ∷ 5 ∷ 7 ∷ 11 ∷ []
 
@@ -89,6 +90,21 @@ module _ (tabulation ws scratch : List ℕ) (key : ℕ) where
     -- and those that look at the set.
     pub trail-set : Ready tabulation ws scratch → canonical tabulation ws ≡ true → o .number ≡ first-refusal (trail-refusals tabulation ws key (length sheet))
     trail-set h c = trail-ready h ∙ (rw c)
+
+    pub trail-tampered : Ready tabulation ws scratch → (o .number ≡ not-canonical) ↔ Tampered tabulation ws scratch
+    trail-tampered h = (
+      λ e. not-canonical-iff tabulation ws (h .shape) .0 (elim (test (canonical tabulation ws)) [
+        | inl c ↦ absurd (true≢false (late-other (rw (← trail-set h c, e) at later)))
+        | inr c ↦ c
+      ]),
+      λ n. let c = not-canonical-iff tabulation ws (h .shape) .1 n in trail-ready h ∙ (rw c),
+    )
+      where
+        later : Late (first-refusal (trail-refusals tabulation ws key (length sheet)))
+        later = late-first (trail-refusals tabulation ws key (length sheet)) (λ n i. elim i [
+          | here q ↦ omega arith
+          | there j ↦ elim j [ here q ↦ omega arith | there k ↦ elim k [ here q ↦ omega arith | there l ↦ elim l [ ] ] ]
+        ])
 
     -- "Checks run as for withdraw": what a removal of this key would be refused with, the trail is refused with;
     pub trail-as-remove : (change-outcome Remove tabulation ws scratch key .answer ≡ done → ⊥)

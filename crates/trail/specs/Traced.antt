@@ -1,18 +1,18 @@
 -- The trail call, from its steps to its outcome: which walk leads through the words of a dictionary, that it starts where the key sits, and what is answered and
--- written. The contracts of the functions cite `Told` and `Traceable`. Assumes nothing.
+-- written. The contracts of the functions cite `seat-in`, `Traceable` and what is told: of a trail, of a set, of a call. Assumes nothing.
 use Prim.Native.Nat.{ℕ, zero, suc, _+_, _-_, _≤_, _<_}
 use mathlib.Core.Path.{_≡_, refl, sym, _∙_, ap}
-use mathlib.Core.Bool.{Bool, true, false, not, cond, true≢false}
+use mathlib.Core.Bool.{true, false, not, cond}
 use mathlib.Core.Logic.{inl, inr}
-use mathlib.Core.List.{List, [], _∷_, _++_, List·Memᴰ as In}
+use mathlib.Core.List.{List, [], _∷_, _++_}
 use native.Mathlib.Omega.{arith}
-use borrow.Author.Tests.{eqb-true, eqb-false, eq-eqb, ne-eqb, lt-ltb, le-ltb}
+use borrow.Author.Tests.{eq-eqb, ne-eqb, lt-ltb, le-ltb}
 use lib.Dec.{eqb, ltb}
 use lib.ListN.{length, getD, take, replicate}
 use borrow.Rule.Slice.PartMut.{midOf}
 use lib.Seq.{length-take-le}
-use Rattle.basics.specs.Tests.{test, eq?, le?}
-use Rattle.basics.specs.Sets.{member, in?, in-member, Asc}
+use Rattle.basics.specs.Tests.{test}
+use Rattle.basics.specs.Sets.{member, Asc}
 use Rattle.cuckoo.specs.Graph.{seated, occupant, slot-key}
 use Rattle.cuckoo.specs.Settling.{Settled, seated-asc, seated-stops}
 use Rattle.cuckoo.specs.Seating.{Ends, from-a, from-b}
@@ -26,13 +26,13 @@ use Rattle.layout.specs.Entries.{keys-of, keys-tiered}
 use Rattle.layout.specs.Layout.{Params, family, params-of, slots-of, image, keys-in, tier-in, set-in, key-at}
 use Rattle.layout.specs.Canonical.{canonical, canonical-true}
 use Rattle.layout.specs.Image.{image-key}
-use Rattle.layout.specs.Shape.{Shaped, shape}
+use Rattle.layout.specs.Shape.{shape}
 use Rattle.layout.specs.Standing.{keys-in-valid, not-blank}
 use Rattle.dictionary.specs.Core.{Settable, in-range}
 use Rattle.outcome.specs.declared.Traced.{Traced}
 use Rattle.outcome.specs.declared.Traced.the-variants.{Length, Refused}
 use Rattle.outcome.specs.Laws.{Ready}
-use Rattle.outcome.specs.Trail.{number, values, trail-of, trail-in, trail-refusals, trail-refusal, TrailOutcome, trail-outcome}
+use Rattle.outcome.specs.Trail.{number, values, trail-of, trail-in, trail-refusals, trail-refusal, trail-outcome}
 use Rattle.outcome.specs.Outcome.{early-refusals}
 use Rattle.outcome.specs.TrailLaws.{trail-ready, trail-set}
 use Rattle.renewal.specs.declared.Reading.{Reading}
@@ -40,7 +40,7 @@ use Rattle.renewal.specs.declared.Reading.the-variants.{NotCanonical}
 use Rattle.renewal.specs.Reading.{early-refusal, reading-refusal, told-tampered}
 use Rattle.renewal.specs.Reading as reading
 use Rattle.walking.specs.Walk.{key-of, across, across-lt, Readable, Closed}
-use Rattle.walking.specs.Cut.{Cut, met-keys, first-visit, cut-trail, met-length}
+use Rattle.walking.specs.Cut.{Cut, met-keys, first-visit, cut-trail}
 
 -- What is told of a trail L, where n is the number: how many keys it has, and its keys with zeros behind them over the old words; refused, these stay.
 pub record Told (n : ℕ) (L old : List ℕ) (t : Traced) (new : List ℕ) : Type 0 where
@@ -59,7 +59,7 @@ seat-in tabulation ws key =
     let F = tables tabulation (slots-of ws) in
     cond (eqb (key-of ws (slot-0 F key)) key) (slot-0 F key) (slot-1 F key)
 
--- A key of the set of the words, whose trail can be looked for.
+-- The words are an image, there is room for the walk, and the key is none that stands for an empty slot: its trail can be looked for.
 pub record Traceable (tabulation ws scratch : List ℕ) (r key : ℕ) : Type 0 where
   pub readable : Readable tabulation ws r
   pub image : canonical tabulation ws ≡ true

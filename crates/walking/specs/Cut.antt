@@ -15,8 +15,8 @@ use Rattle.cuckoo.specs.Settling.{Settled}
 use Rattle.cuckoo.specs.Seating.{Ends}
 use Rattle.cuckoo.specs.Places.{Seat, seat-occupant}
 use Rattle.cuckoo.specs.Trail.{trail}
-use Rattle.cuckoo.specs.Round.{path, along, path-none, path-step, path-shift, Under, under, under-path, trail-along, root-met, root-least-met}
-use Rattle.walking.specs.Walk.{Room, Walked, Closed}
+use Rattle.cuckoo.specs.Round.{path, along, path-shift, under, under-path, trail-along, root-met, root-least-met}
+use Rattle.walking.specs.Walk.{Closed}
 
 -- m is the smallest of the first n keys of K, and of all of them
 pub record SmallestTo (K : List ℕ) (n m : ℕ) : Type 0 where

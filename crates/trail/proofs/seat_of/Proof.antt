@@ -1,5 +1,4 @@
 -- `trail::seat_of` meets its contract.
-use native.Mathlib.Omega.{arith}
 use mathlib.Core.Path.{refl}
 use Rattle.trail.specs.Traced.{slot-readable, first-lt, seat-first, seat-second}
 use borrow.Author.Needs.{needs}

@@ -1,5 +1,4 @@
 -- `trail::trail` meets its contract: what `trail_words` tells and writes, and cleared scratch.
-use native.Mathlib.Omega.{arith}
 use Rattle.trail.specs.Traced.{told-outcome}
 use borrow.Author.Needs.{needs}
 use Rattle.trail.proofs.trail.Statement.{statement}

@@ -1,5 +1,4 @@
 -- `trail::trail_words` meets its contract: 1 to 3, then 4, then 5, then what the set decides.
-use native.Mathlib.Omega.{arith}
 use mathlib.Core.Path.{_≡_, sym, _∙_}
 use mathlib.Core.Bool.{true}
 use Rattle.layout.specs.Canonical.{canonical}

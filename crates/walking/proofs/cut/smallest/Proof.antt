@@ -1,7 +1,6 @@
 -- `cut::smallest` meets its contract: after i turns `least` is the smallest of the first i keys.
 use Prim.Native.Nat.{_-_, _≤_}
 use lib.ListN.{length}
-use mathlib.Core.Path.{_≡_}
 use native.Mathlib.Omega.{arith}
 use Rattle.walking.specs.Cut.{SmallestTo, smallest-one, smallest-more, smallest-all}
 use borrow.Author.Needs.{needs}

@@ -1,7 +1,6 @@
 -- `walk::walk` meets its contract: after each run the walk has come further, and it ends in a slot where it was.
 use Prim.Native.Nat.{_+_, _-_}
 use mathlib.Core.Path.{_≡_, refl, _∙_}
-use native.Mathlib.Omega.{arith}
 use lib.ListN.{length}
 use Rattle.walking.specs.Walk.{key-of, across, Room, Walked, walk-start, new-here, closed-here}
 use borrow.Author.Needs.{needs}
