@@ -1,5 +1,5 @@
 -- The trail of a key: why it sits where it sits (document 02, "Two"). `other`, `trail-from` and `trail` are definitions that compute, and what a reader must
--- believe; `seat` and the rest serve the theorems: the trail of a key of a settled set is never cut short, ends with the root, has no key twice, and stays
+-- believe; the rest is theorems: the trail of a key of a settled set is never cut short, ends with the root, has no key twice, and stays
 -- in the key's component. Assumes nothing.
 use Prim.Native.Nat.{ℕ, zero, suc, _<_, _≤_, zero-le}
 use mathlib.Core.Path.{_≡_, refl, sym, _∙_, ap}
@@ -28,10 +28,7 @@ use Rattle.cuckoo.specs.Locality.{root-component, occupant-component, sa
 use Rattle.cuckoo.specs.Rows.{board-0, board-1}
 
 module _ (a b : ℕ → ℕ) where
-  -- the slot in which the key c sits, and its other one (for a key that sits in both: table 0 and table 1)
-  unfoldable pub seat : List ℕ → ℕ → ℕ
-  seat T c = cond (eqb (occupant a b T (a c)) c) (a c) (b c)
-
+  -- The other slot of the key c: the one in which it does not sit. (Of a tree's root, which sits in both, it is never asked: there the trail ends.)
   unfoldable pub other : List ℕ → ℕ → ℕ
   other T c = cond (eqb (occupant a b T (a c)) c) (b c) (a c)
 
@@ -49,6 +46,10 @@ module _ (a b : ℕ → ℕ) where
   pub data Trail (T : List ℕ) : ℕ → List ℕ → Type 0 where
     ends : {c : ℕ} → c ≡ root a b T (a c) → Trail T c (c ∷ [])
     hands-on : {c : ℕ} {L : List ℕ} → (c ≡ root a b T (a c) → ⊥) → Trail T (occupant a b T (other T c)) L → Trail T c (c ∷ L)
+
+  -- the slot in which a key of T sits (table 0 for one that sits in both)
+  unfoldable pub seat : List ℕ → ℕ → ℕ
+  seat T c = cond (eqb (occupant a b T (a c)) c) (a c) (b c)
 
   -- one step at a time
   pub stops-at : (n : ℕ) (T : List ℕ) (c : ℕ) → c ≡ root a b T (a c) → trail-from (suc n) T c ≡ c ∷ []

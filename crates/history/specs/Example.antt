@@ -10,7 +10,10 @@ use mathlib.Core.List.{List, [], _∷_, map, List·Memᴰ·head as here, List·M
 use native.Mathlib.Omega.{arith}
 use lib.ListN.{length, replicate, drop, getD}
 use Rattle.basics.specs.Sets.{without, below}
+use Rattle.cuckoo.specs.Graph.{label, joined, component, onCycle, cyclic, spare, settle, seated, root, sits, occupant}
 use Rattle.cuckoo.specs.Placement.{Placement}
+use Rattle.cuckoo.specs.Trail.{other, trail-from}
+use Rattle.cuckoo.specs.Trail as cuckoo-trail
 use Rattle.ordered.specs.Keys.{with-key, above}
 use Rattle.refusals.specs.Refusal.{done, stash-full}
 use Rattle.tabulation.specs.Hash.{slots-in-range, blank, hash}
@@ -24,13 +27,15 @@ use Rattle.layout.specs.Look.{image-view}
 use Rattle.layout.specs.Board.{board-tabulation, board-length, board, plain, Shown, Full, shows, full, board-rows}
 use Rattle.outcome.specs.declared.Change.the-variants.{Insert, Remove}
 use Rattle.counters.specs.declared.Counters.{Counters}
+use Rattle.outcome.specs.Trail.{trail-in, trail-refusal, trail-outcome}
+use Rattle.outcome.specs.Board.{shown-trail}
 use Rattle.history.specs.Calls.{own, wrong, Call, Answer, Step, step, run, words-after, words-left}
 use Rattle.history.specs.Calls.{refused, unchanged, Allowed, none, more, Sequence}
 use Rattle.history.specs.Model.{Request, requests, Reply, reply, model, set-after, set-left}
 use Rattle.history.specs.History.{history}
 use Rattle.history.specs.NoTrace.{ComesToFull, step-after, NoTrace, part, alike-self, no-trace}
 use Rattle.history.specs.Corollaries.{same-answers}
-use Rattle.history.specs.Others.{init, reads, hashes}
+use Rattle.history.specs.Others.{init, reads, hashes, trail, trail-stands}
 
 -- the calls
 
@@ -69,6 +74,9 @@ script =
     ∷ (insert 193 0, says 8 [])
     -- a call of another kind that is accepted and leaves the words
     ∷ (count, says 0 (3 ∷ []))
+    -- two more: the trail of 65, over three words that are lent for it, is 65, 1; with one word it is refused 11
+    ∷ (Call.other (trail board-tabulation scratch 65 (8 ∷ 8 ∷ 8 ∷ [])), says 0 (2 ∷ 65 ∷ 1 ∷ 0 ∷ []))
+    ∷ (Call.other (trail board-tabulation scratch 65 (8 ∷ [])), says 11 (8 ∷ []))
     -- a tabulation of a wrong length, a scratch of 55 words, a blank key (whatever its tier), a tier above 7 (whatever the
     -- key), a key that is in the set with another tier, and with this one
     ∷ (Call.change (Insert 1) (wrong [] (λ e. omega arith)) scratch counters 17, says 1 [])
@@ -128,12 +136,17 @@ init-more : {ws : List ℕ} {cs : List Call}
     → Allowed board-tabulation ws (Call.other (init 0 1) ∷ cs)
 init-more {ws} rest = more (refused (init-refused ws)) rest
 
--- The two calls that leave the words may stand anywhere.
+-- The calls that leave the words may stand anywhere.
+trail-more : {ws : List ℕ} (sheet : List ℕ) {cs : List Call}
+    → Allowed board-tabulation (step board-tabulation ws (Call.other (trail board-tabulation scratch 65 sheet)) .words) cs
+    → Allowed board-tabulation ws (Call.other (trail board-tabulation scratch 65 sheet) ∷ cs)
+trail-more {ws} sheet rest = more (trail-stands board-tabulation ws scratch 65 sheet) rest
+
 may-stand : Allowed board-tabulation fresh calls
 may-stand =
     let rest = more (unchanged refl) (more tt (more tt (more tt (more tt (more tt (more tt none)))))) in
-    let middle = more (unchanged refl) (more tt (more tt (more tt (more tt (more tt (more tt (init-more rest))))))) in
-    more tt (more tt (more tt (more tt middle)))
+    let middle = more tt (more tt (more tt (more tt (more tt (more tt (init-more rest)))))) in
+    more tt (more tt (more tt (more tt (more (unchanged refl) (trail-more (8 ∷ 8 ∷ 8 ∷ []) (trail-more (8 ∷ []) middle))))))
 
 -- It is a sequence: the list had 30 words, all 7, before it was laid.
 pub sequence : Sequence P fresh calls
@@ -211,11 +224,20 @@ four-words =
 count-says : getD (words-left P fresh first-four) 2 0 ≡ 3
 count-says = rw four-words
 
+-- in K5 the trail of 65 is 65, 1, so that three words do for it and one does not,
+trail-says : (trail-in board-tabulation (words-left P fresh first-four) 65 ≡ 65 ∷ 1 ∷ [])
+    × ((trail-refusal board-tabulation (words-left P fresh first-four) scratch 65 3 ≡ 0)
+    × (trail-refusal board-tabulation (words-left P fresh first-four) scratch 65 1 ≡ 11))
+unfolding sizes-in-range slots-in-range blank without label joined component onCycle cyclic spare settle seated root sits occupant other trail-from cuckoo-trail.trail
+trail-says =
+    let p = shown-trail refl K5 scratch (omega arith) 65 refl refl refl in
+    rw four-words (p .0, (p .1 3, p .1 1))
+
 hashes-say : (hashes-refusal (family P) 65 ≡ 0) × (hashes-values (family P) 65 ≡ 1 ∷ 0 ∷ [])
 unfolding hashes-refusal hashes-values slots-in-range hash blank board-tabulation
 hashes-say = (refl, refl)
 
--- and all of them. Of the second init the register is fed the refusal, of the two calls that leave the words what they
+-- and all of them. Of the second init the register is fed the refusal, of the calls that leave the words what they
 -- answered.
 goes : Goes []
     (requests board-tabulation fresh calls)
@@ -223,11 +245,13 @@ goes : Goes []
     ∷ to 0 [] (one ∷ two ∷ [])
     ∷ map (λ (row : Call × Answer). record { answer = row .1; set = entries }) (drop 2 script))
     entries
-unfolding requests words-after step fresh-refusal sizes-in-range slots-in-range reply with-key below above blank
+unfolding requests words-after step fresh-refusal sizes-in-range slots-in-range reply with-key below above blank trail-outcome
 goes =
     goes-first
     (goes-fourth
     (next (rw count-says)
+    (next (rw (trail-says .1 .0, trail-says .0))
+    (next (rw (trail-says .1 .1))
     (next refl
     (next (rw board-length)
     (next (rw board-length)
@@ -242,7 +266,7 @@ goes =
     (next (rw board-length)
     (next (rw board-length)
     (next (rw stash-K5)
-    (stop entries)))))))))))))))))
+    (stop entries)))))))))))))))))))
 
 -- what the calls answer, through the theorem
 

@@ -2,17 +2,18 @@
 -- trails there. They follow from the table of images (layout/specs/Board.antt) and from what a call does to a dictionary that holds a set. Assumes nothing.
 use Prim.Native.Nat.{ℕ, zero, suc, _-_, _≤_, _<_}
 use mathlib.Core.Path.{_≡_, refl, sym, _∙_}
-use mathlib.Core.Bool.{true, false}
+use mathlib.Core.Bool.{true, false, cond}
 use mathlib.Core.List.{List, [], _∷_, _++_, List·Memᴰ as In, List·Memᴰ·head as here, List·Memᴰ·tail as there}
 use native.Mathlib.Omega.{arith}
 use borrow.Author.Tests.{ne-eqb, le-ltb}
+use lib.Dec.{ltb}
 use lib.ListN.{length, replicate}
 use Rattle.basics.specs.Sets.{member, without, below, none, some}
 use Rattle.cuckoo.specs.Graph.{label, joined, component, onCycle, cyclic, spare, settle, seated, root, sits, occupant}
 use Rattle.cuckoo.specs.Trail.{other, trail-from, trail}
 use Rattle.cuckoo.specs.Agree.{trail-agree}
 use Rattle.ordered.specs.Keys.{with-key, above}
-use Rattle.refusals.specs.Refusal.{done, stash-full}
+use Rattle.refusals.specs.Refusal.{done, stash-full, short-trail}
 use Rattle.tabulation.specs.Hash.{tabulation-length, slots-in-range, blank}
 use Rattle.layout.specs.Entries.{Entry, max-tier, keys-of}
 use Rattle.layout.specs.Layout.{ValidKeys, ValidSet, scratch-length, sizes-in-range}
@@ -26,7 +27,7 @@ use Rattle.outcome.specs.Trail.{trail-of, trail-in, trail-refusal, trail
 use Rattle.outcome.specs.TrailLaws.{held-asked, held-trail}
 
 -- the words of a row are a dictionary that holds its set
-shown-holds : {r s : ℕ} {L : List Entry} {ws : List ℕ} → sizes-in-range r s ≡ true → Shown r s L ws → Holds (board r s) L ws
+pub shown-holds : {r s : ℕ} {L : List Entry} {ws : List ℕ} → sizes-in-range r s ≡ true → Shown r s L ws → Holds (board r s) L ws
 shown-holds range h = record { range = range; is = record { valid = h .valid; fit = h .fit; is = sym (h .words-are) } }
 
 module _ {r s : ℕ} {L : List Entry} {ws : List ℕ} (range : sizes-in-range r s ≡ true) (h : Shown r s L ws) (scratch : List ℕ)
@@ -121,24 +122,29 @@ k12 tabulation scratch full-length room c x d y tier key z l small-x small-y sma
 -- Document 02's trails on the board. The trail of a key of a row is that over the plain ends.
 module _ {r s : ℕ} {L : List Entry} {ws : List ℕ} (range : sizes-in-range r s ≡ true) (h : Shown r s L ws) (scratch : List ℕ)
     (room : scratch-length r s ≤ length scratch) (key : ℕ) (b : blank key ≡ false) (m : member key (keys-of L) ≡ true) where
-  abbrev plainly : List ℕ
+  abbrev pub plainly : List ℕ
   plainly = trail (plain-0 r) (plain-1 r) (seated (plain-0 r) (plain-1 r) (keys-of L)) key
 
   trail-plainly : trail-of (board r s) (keys-of L) key ≡ plainly
   trail-plainly = trail-agree (h .valid .keys .asc) (h .known) key
+
+  -- the trail, and whether n words do for it
+  pub shown-trail : {K : List ℕ} → plainly ≡ K
+      → (trail-in board-tabulation ws key ≡ K)
+      × ((n : ℕ) → trail-refusal board-tabulation ws scratch key n ≡ cond (ltb n (length K)) short-trail done)
+  shown-trail {K} e =
+      let H = shown-holds range h in
+      let t = le-ltb (length scratch) (scratch-length r s) room in
+      (held-asked H key ∙ trail-plainly ∙ e, λ n. held-trail H key board-length scratch n ∙ (rw (t, b, m, trail-plainly, e)))
 
   trail-on-board : {K : List ℕ} → plainly ≡ K → (sheet : List ℕ) → length K ≤ length sheet
       → let o = trail-outcome board-tabulation ws scratch key sheet in
       (o .number ≡ done) × ((o .values ≡ length K ∷ []) × (o .trail ≡ K ++ replicate (length sheet - length K) 0))
   unfolding trail-outcome
   trail-on-board {K} e sheet l =
-      let H = shown-holds range h in
-      let q : trail-in board-tabulation ws key ≡ K = held-asked H key ∙ trail-plainly ∙ e in
-      let t = le-ltb (length scratch) (scratch-length r s) room in
-      let u = le-ltb (length sheet) (length K) l in
-      let n : trail-refusal board-tabulation ws scratch key (length sheet) ≡ done =
-      held-trail H key board-length scratch (length sheet) ∙ (rw (t, b, m, trail-plainly, e, u)) in
-      (n, (rw (n, q), rw (n, q)))
+      let p = shown-trail e in
+      let n : trail-refusal board-tabulation ws scratch key (length sheet) ≡ done = p .1 (length sheet) ∙ (rw (le-ltb (length sheet) (length K) l)) in
+      (n, (rw (n, p .0), rw (n, p .0)))
 
 -- three words are lent for each
 module _ (scratch : List ℕ) (room : scratch-length 4 1 ≤ length scratch) (x y z : ℕ) where

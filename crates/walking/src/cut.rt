@@ -8,6 +8,7 @@ ghost use Rattle.walking.specs.Cut.{Lesser, Smallest, Stands, First, Cut
 use words::fill;
 use words::wide;
 
+// The smaller of two keys.
 fn lesser(x: u32, y: u32) -> u32
     ensures { λ m. ⌜ Lesser x y m ⌝ }
 {
