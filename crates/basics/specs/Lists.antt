@@ -1,6 +1,6 @@
 -- Lists of numbers beyond membership (which is in Sets): equality as a test, what tests keep, what stands where, images, the smallest of an ascending list, and
 -- counting. Nothing here knows of slots. Assumes nothing.
-use Prim.Native.Nat.{ℕ, zero, suc, _+_, _%_, _<_, _≤_, zero-le}
+use Prim.Native.Nat.{ℕ, zero, suc, _+_, _-_, _%_, _<_, _≤_, zero-le}
 use mathlib.Core.Path.{_≡_, refl, sym, _∙_, ap}
 use mathlib.Core.Bool.{Bool, true, false, not, _&&_, false≢true}
 use mathlib.Core.Logic.{_⊎_, inl, inr}
@@ -124,6 +124,11 @@ map-drop f (suc i) (c ∷ S) = map-drop f i S
 pub map-zeros : (f : ℕ → ℕ) → f 0 ≡ 0 → (n : ℕ) → map f (replicate n 0) ≡ replicate n 0
 map-zeros f z zero = refl
 map-zeros f z (suc n) = rw (z, map-zeros f z n)
+
+pub drop-zeros : (k s : ℕ) → drop {A = ℕ} k (replicate s 0) ≡ replicate (s - k) 0
+drop-zeros zero s = let e : s - 0 ≡ s = omega arith in rw e
+drop-zeros (suc k) zero = let e : 0 - suc k ≡ 0 = omega arith in rw e
+drop-zeros (suc k) (suc s) = let e : suc s - suc k ≡ s - k = omega arith in rw e (drop-zeros k s)
 
 -- ascending lists
 

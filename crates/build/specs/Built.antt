@@ -7,6 +7,7 @@ use mathlib.Core.List.{List, [], _++_, List·Memᴰ as In}
 use native.Mathlib.Omega.{arith}
 use lib.ListN.{length, getD, drop, replicate, length-replicate}
 use Rattle.basics.specs.Tests.{zero-one}
+use Rattle.basics.specs.Lists.{drop-zeros}
 use Rattle.cuckoo.specs.Graph.{seated, stash, next, slot-key, slot-next}
 use Rattle.basics.specs.Sets.{Asc, in?}
 use Rattle.cuckoo.specs.Forest.{forest}
@@ -81,11 +82,6 @@ pub data Right (a b : ℕ → ℕ) (S : List ℕ) (m s : ℕ) (out : Built) : Ty
       → out ≡ made (listed (slot-key a b S) m 0) nx (stash a b S ++ replicate (s - length (stash a b S)) 0) (length (stash a b S))
       → ((c : ℕ) → In c (seated a b S) → getD nx c 0 ≡ next a b (seated a b S) c)
       → ((v : ℕ) → v < m → getD nx (slot-key a b S v) 0 ≡ slot-next a b S v) → Right a b S m s out
-
-drop-zeros : (k s : ℕ) → drop {A = ℕ} k (replicate s 0) ≡ replicate (s - k) 0
-drop-zeros zero s = let e : s - 0 ≡ s = omega arith in rw e
-drop-zeros (suc k) zero = let e : 0 - suc k ≡ 0 = omega arith in rw e
-drop-zeros (suc k) (suc s) = let e : suc s - suc k ≡ s - k = omega arith in rw e (drop-zeros k s)
 
 module _ {a b : ℕ → ℕ} {other : ℕ → ℕ → ℕ} (turn : (c v w : ℕ) → Ends a b c v w → other v c ≡ w) {m : ℕ} (few : m ≤ max-points)
     (fits : (c : ℕ) → (a c < m) × (b c < m)) (two : (c : ℕ) → a c ≡ b c → ⊥) (n : ℕ) (small : n < pair) (words : List ℕ) (long : n < length words) where

@@ -11,9 +11,10 @@ use Rattle.basics.specs.Lists.{passes, fails, picked}
 use Rattle.cuckoo.specs.Graph.{onCycle, root, occupant}
 use Rattle.cuckoo.specs.Joined.{Joined, jrefl, jsym, jtrans, mono}
 use Rattle.cuckoo.specs.Settling.{OnCycle, Settled, true-onCycle}
-use Rattle.cuckoo.specs.Seating.{Ends, from-a, from-b, ends-edge, ends-near, ends-flip, ends-cycle, one-near, root-same}
+use Rattle.cuckoo.specs.Seating.{Ends, from-a, from-b, ends-edge, ends-near, ends-flip, ends-cycle, root-same}
+use Rattle.cuckoo.specs.Tree.{far-near}
 use Rattle.cuckoo.specs.Components.{in-component, asc-component}
-use Rattle.cuckoo.specs.Places.{hung, hung-sub, Seat, seat-near, seat-occupant, slot-seat}
+use Rattle.cuckoo.specs.Places.{hung-sub, Seat, seat-near, seat-occupant, slot-seat}
 use Rattle.cuckoo.specs.Trail.{seat, other, trail, Trail, ends, hands-on, seat-other, seat-once, hangs, hung-near, whole-only, trail-whole}
 
 -- A walk by steps g from the slot v: the slot after n steps,
@@ -122,9 +123,7 @@ module _ (a b : ℕ → ℕ) {T : List ℕ} (asc : Asc T) (stop : Settled a b T)
     cycle-key : {z x y s : ℕ} → Seat a b T y x → root a b T (a x) ≡ z → (x ≡ z → ⊥) → Seat a b T s z → Joined a b (without x T) s y → OnCycle a b T x
     cycle-key {z} {x} S r n Z j =
         let F = hangs a b S (λ q. n (q ∙ r)) in
-        let k : Joined a b (without x (hung a b T (root a b T (a x)))) (F .w) (a (root a b T (a x))) =
-        elim (one-near (F .ends) (F .c-in) (hung-near a b S)) [ inl l ↦ absurd (F .cut l) | inr l ↦ l ] in
-        let up = mono (out-sub x (hung-sub a b T (root a b T (a x)))) k in
+        let up = mono (out-sub x (hung-sub a b T (root a b T (a x)))) (far-near F (hung-near a b S)) in
         let far-end = ends-near (crosses _ _ Z) (in-out x T n (Z .c-in)) in
         record { on = S .c-in; closed = ends-cycle (F .ends) (jtrans (jsym j) (jtrans (rw (← r) at far-end) (jsym up))) }
 

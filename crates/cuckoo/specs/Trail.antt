@@ -18,9 +18,9 @@ use Rattle.basics.specs.Lists.{same, keep-both, Picked, picked, pigeonhole, upt
 use Rattle.cuckoo.specs.Graph.{label, joined, component, onCycle, cyclic, spare, settle, seated, stash, root, sits, occupant}
 use Rattle.cuckoo.specs.Joined.{Joined, jrefl, jsym, jtrans, true-joined, no-joined}
 use Rattle.cuckoo.specs.Settling.{Settled, spare-mono, seated-stops, seated-joined}
-use Rattle.cuckoo.specs.Seating.{Ends, from-a, from-b, ends-edge, ends-near, ends-flip, one-near, rooted, root-same, look}
+use Rattle.cuckoo.specs.Seating.{Ends, from-a, from-b, ends-edge, ends-near, ends-flip, rooted, root-same, look}
 use Rattle.cuckoo.specs.Walks.{Distinct, nil, new}
-use Rattle.cuckoo.specs.Tree.{Far, far-once}
+use Rattle.cuckoo.specs.Tree.{Far, far-near, far-once}
 use Rattle.cuckoo.specs.Components.{in-component, component-in, component-near, asc-component, component-same}
 use Rattle.cuckoo.specs.Places.{hung, hung-sub, hung-joins, at-root, at-far, Seat, seat-near, seat-occupant, slot-seat}
 use Rattle.cuckoo.specs.Filled.{not-seated-and-stash}
@@ -112,7 +112,7 @@ module _ (a b : ℕ → ℕ) (T : List ℕ) (z : ℕ) where
   -- the key c at v is on the way from v, and not on the way from its other slot w; the other keys on the way from v are those on the way from w
   module _ {c v : ℕ} (n : c ≡ z → ⊥) (F : Far a b (hung a b T z) (a z) c v) (j : Joined a b (hung a b T z) (a z) v) where
     near-w : Joined a b (without c (hung a b T z)) (F .w) (a z)
-    near-w = elim (one-near (F .ends) (F .c-in) j) [ inl k ↦ absurd (F .cut k) | inr k ↦ k ]
+    near-w = far-near F j
 
     way-here : In c (way v)
     way-here = in-way (hung-sub a b T z c (F .c-in)) n (F .cut)

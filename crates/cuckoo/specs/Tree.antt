@@ -59,12 +59,16 @@ module _ {a b : ℕ → ℕ} {X : List ℕ} {p : ℕ} where
         | inr h ↦ absurd (n (joined-true (sym (least (joined a b Y p) X h j) ∙ true-joined {R = Y} {u = p} jrefl)))
       ]
 
+  -- its other end is joined to p without it
+  pub far-near : {c v : ℕ} (F : Far a b X p c v) → Joined a b X p v → Joined a b (without c X) (F .w) p
+  far-near F j = elim (one-near (F .ends) (F .c-in) j) [ inl k ↦ absurd (F .cut k) | inr k ↦ k ]
+
   -- a key has one far end
   pub far-once : {c v u : ℕ} → Far a b X p c v → Far a b X p c u → Joined a b X p v → u ≡ v
   far-once F G j =
       elim (ends-two (F .ends) (G .ends)) [
         | inl q ↦ q
-        | inr q ↦ elim (one-near (F .ends) (F .c-in) j) [ inl k ↦ absurd (F .cut k) | inr k ↦ absurd (G .cut (rw q k)) ]
+        | inr q ↦ absurd (G .cut (rw q (far-near F j)))
       ]
 
 module _ {a b : ℕ → ℕ} {X : List ℕ} {p : ℕ} (bare : Bare a b X p) where

@@ -27,7 +27,7 @@ use Rattle.outcome.specs.Trail.{trail-of, trail-in, trail-refusal, trail
 use Rattle.outcome.specs.TrailLaws.{held-asked, held-trail}
 
 -- the words of a row are a dictionary that holds its set
-pub shown-holds : {r s : ℕ} {L : List Entry} {ws : List ℕ} → sizes-in-range r s ≡ true → Shown r s L ws → Holds (board r s) L ws
+shown-holds : {r s : ℕ} {L : List Entry} {ws : List ℕ} → sizes-in-range r s ≡ true → Shown r s L ws → Holds (board r s) L ws
 shown-holds range h = record { range = range; is = record { valid = h .valid; fit = h .fit; is = sym (h .words-are) } }
 
 module _ {r s : ℕ} {L : List Entry} {ws : List ℕ} (range : sizes-in-range r s ≡ true) (h : Shown r s L ws) (scratch : List ℕ)

@@ -1,5 +1,6 @@
--- The user's demands 1 and 2 of insert, remove, check and init, each as one statement and one theorem for all inputs. Demand 1 of trail is
--- `trail-harmless` (TrailLaws), demand 3 `no-trace` of the crate `history`. That memory is never touched outside its ends and that every call returns is the check of the code itself. Assumes nothing.
+-- The user's demands 1 and 2 of insert, remove, check and init, each as one statement and one theorem for all inputs. Demand 1 of trail is `trail-harmless`
+-- (TrailLaws), demand 3 `no-trace` of the crate `history`. That memory is never touched outside its ends and that every call returns is the check of the code
+-- itself. Assumes nothing.
 use Prim.Native.Nat.{ℕ}
 use mathlib.Core.Path.{_≡_, refl}
 use mathlib.Core.Logic.{_↔_}

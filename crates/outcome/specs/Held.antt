@@ -3,9 +3,9 @@
 -- Assumes nothing.
 use Prim.Native.Nat.{ℕ, _+_, _≤_, _<_}
 use mathlib.Core.Path.{_≡_, refl, sym, _∙_, ap}
-use mathlib.Core.Bool.{true, false, not, cond, _&&_, true≢false}
+use mathlib.Core.Bool.{Bool, true, false, not, cond, _&&_, true≢false}
 use mathlib.Core.Logic.{_⊎_, inl, inr, _↔_}
-use mathlib.Core.List.{List, [], _∷_, List·Memᴰ as In, List·Memᴰ·head as here, List·Memᴰ·tail as there}
+use mathlib.Core.List.{List, [], _∷_, _++_, List·Memᴰ as In, List·Memᴰ·head as here, List·Memᴰ·tail as there}
 use native.Mathlib.Omega.{arith}
 use borrow.Author.Tests.{eq-eqb, ne-eqb, lt-ltb, le-ltb, ltb-false, not-false}
 use lib.Dec.{eqb, ltb}
@@ -28,7 +28,7 @@ use Rattle.layout.specs.Look.{looked-entry, image-lookup-values}
 use Rattle.layout.specs.Fitting.{without-valid, without-fits, fits-length, fits-placement, full-placement}
 use Rattle.outcome.specs.declared.Change.{Change}
 use Rattle.outcome.specs.declared.Change.the-variants.{Insert, Remove}
-use Rattle.outcome.specs.Outcome.{keys-changed, tier-changed, changed, set-refusals, change-refusal, change-outcome, check-outcome}
+use Rattle.outcome.specs.Outcome.{keys-changed, tier-changed, changed, set-refusals, first-refusals, change-refusal, change-outcome, check-outcome}
 use Rattle.outcome.specs.Laws.{Ready, change-done, change-refused, change-set, change-passed}
 
 -- The words are a dictionary that holds S: r and s are in their ranges, and the words are the image of S, a set that fits.
@@ -50,10 +50,10 @@ module _ {P : Params} {L : List Entry} {ws : List ℕ} (h : Holds P L ws) where
   pub held-shaped : shaped ws ≡ true
   held-shaped = rw (h .is .is) (image-shaped P L (h .range) (h .is .fit))
 
-  pub held-canonical : canonical (P .tabulation) ws ≡ true
+  held-canonical : canonical (P .tabulation) ws ≡ true
   held-canonical = rw (h .is .is) (image-canonical P L (h .range) (h .is .valid) (h .is .fit))
 
-  pub held-scratch : scratch-length (slots-of ws) (places-of ws) ≡ scratch-length (P .slots) (P .places)
+  held-scratch : scratch-length (slots-of ws) (places-of ws) ≡ scratch-length (P .slots) (P .places)
   held-scratch = ap (λ (Q : Params). scratch-length (Q .slots) (Q .places)) held-params
 
 -- Words that pass hold the set of the keys that stand in them.
@@ -171,28 +171,28 @@ accepts-fits (Insert tier) P key L valid e a = insert-accepts P key L tier a
 accepts-fits Remove P key L valid e a = let p = remove-accepts P key L a in (p .0, tt, without-fits P valid key e)
 
 module _ {P : Params} {L : List Entry} {ws : List ℕ} (h : Holds P L ws) (full-length : length (P .tabulation) ≡ tabulation-length) where
-  -- what a change of a dictionary that holds L answers: 2 and 4 never, and the rest with L as "the set"
+  -- what a call on a dictionary that holds L answers: 1, 2 and 4 never, and the rest comes after 3
+  pub held-head : (scratch : List ℕ) (rest : List (ℕ × Bool))
+      → first-refusal (first-refusals (P .tabulation) ws scratch ++ rest)
+      ≡ first-refusal ((short-scratch, ltb (length scratch) (scratch-length (P .slots) (P .places))) ∷ rest)
+  held-head scratch rest =
+      rw (eq-eqb (length (P .tabulation)) tabulation-length full-length, held-shaped h, held-canonical h, held-scratch h)
+
+  -- of a change: with L as "the set"
   pub held-refusal : (kind : Change) (scratch : List ℕ) (key : ℕ)
       → change-refusal kind (P .tabulation) ws scratch key
       ≡ first-refusal
       ((short-scratch, ltb (length scratch) (scratch-length (P .slots) (P .places))) ∷ (blank-key, blank key) ∷ set-refusals kind P key L)
   unfolding change-refusal
   held-refusal kind scratch key =
-      rw (
-        eq-eqb (length (P .tabulation)) tabulation-length full-length,
-        held-shaped h,
-        held-canonical h,
-        held-scratch h,
-        held-params h,
-        held-set-in h,
-      )
+      held-head scratch ((blank-key, blank key) ∷ set-refusals kind (params-of (P .tabulation) ws) key (set-in (P .tabulation) ws))
+      ∙ (rw (held-params h, held-set-in h))
 
   pub held-check : (scratch : List ℕ)
       → check-outcome (P .tabulation) ws scratch .answer
       ≡ first-refusal ((short-scratch, ltb (length scratch) (scratch-length (P .slots) (P .places))) ∷ [])
   unfolding check-outcome
-  held-check scratch =
-      rw (eq-eqb (length (P .tabulation)) tabulation-length full-length, held-shaped h, held-canonical h, held-scratch h)
+  held-check scratch = held-head scratch []
 
   module _ (scratch : List ℕ) (room : scratch-length (P .slots) (P .places) ≤ length scratch) (key : ℕ) where
     held-set : (kind : Change)

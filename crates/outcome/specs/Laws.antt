@@ -146,7 +146,7 @@ module _ (tabulation ws scratch : List ℕ) where
         front-passes (early-refusals tabulation ws (length scratch)) ((not-canonical, not (canonical tabulation ws)) ∷ rest) (ready-none h)
 
     -- where none of 1 to 4 is given, none of them applies
-    pub head-passed : Late head → Ready × (canonical tabulation ws ≡ true)
+    head-passed : Late head → Ready × (canonical tabulation ws ≡ true)
     head-passed late = none-canonical (front-none (first-refusals tabulation ws scratch) rest refl (late-other late))
 
 -- none of 1 to 4 is among the refusals of a change that come after them
@@ -173,6 +173,17 @@ module _ (tabulation ws scratch : List ℕ) where
   -- "the list is the canonical image of no set"
   abbrev pub Tampered : Type 0
   Tampered = (P : Params) (L : List Entry) → P .tabulation ≡ tabulation → ImageOf P L ws → ⊥
+
+  -- 4 is given exactly then, whatever comes after it, if that is none of 1 to 4
+  pub head-tampered : (rest : List (ℕ × Bool)) → Late (first-refusal rest) → Ready tabulation ws scratch
+      → (head tabulation ws scratch rest ≡ not-canonical) ↔ Tampered
+  head-tampered rest late h = (
+    λ e. not-canonical-iff tabulation ws (h .shape) .0 (elim (test (canonical tabulation ws)) [
+      | inl c ↦ absurd (true≢false (late-other (rw (rw c at (sym (head-ready tabulation ws scratch rest h) ∙ e)) at late)))
+      | inr c ↦ c
+    ]),
+    λ n. let c = not-canonical-iff tabulation ws (h .shape) .1 n in head-ready tabulation ws scratch rest h ∙ (rw c),
+  )
 
   -- rows 1 to 4 of insert and remove
   module _ (kind : Change) (key : ℕ) where
@@ -209,13 +220,8 @@ module _ (tabulation ws scratch : List ℕ) where
     change-passed = head-passed tabulation ws scratch rest
 
     pub change-tampered : Ready tabulation ws scratch → (change-outcome kind tabulation ws scratch key .answer ≡ not-canonical) ↔ Tampered
-    change-tampered h = (
-      λ e. not-canonical-iff tabulation ws (h .shape) .0 (elim (test (canonical tabulation ws)) [
-        | inl c ↦ absurd (true≢false (late-other (rw (← change-set h c, e) at (rest-late kind (params-of tabulation ws) key (set-in tabulation ws)))))
-        | inr c ↦ c
-      ]),
-      λ n. let c = not-canonical-iff tabulation ws (h .shape) .1 n in change-ready h ∙ (rw c),
-    )
+    unfolding change-outcome change-refusal
+    change-tampered = head-tampered rest (rest-late kind (params-of tabulation ws) key (set-in tabulation ws))
 
   -- rows 1 to 4 of check, and its 0
   pub check-tabulation : (length tabulation ≡ tabulation-length → ⊥) → check-outcome tabulation ws scratch .answer ≡ wrong-tabulation
@@ -236,13 +242,8 @@ module _ (tabulation ws scratch : List ℕ) where
   check-ready = head-ready tabulation ws scratch []
 
   pub check-tampered : Ready tabulation ws scratch → (check-outcome tabulation ws scratch .answer ≡ not-canonical) ↔ Tampered
-  check-tampered h = (
-    λ e. not-canonical-iff tabulation ws (h .shape) .0 (elim (test (canonical tabulation ws)) [
-      | inl c ↦ absurd (let z = rw c at (sym (check-ready h) ∙ e) in omega arith)
-      | inr c ↦ c
-    ]),
-    λ n. let c = not-canonical-iff tabulation ws (h .shape) .1 n in check-ready h ∙ (rw c),
-  )
+  unfolding check-outcome
+  check-tampered = head-tampered [] (inl refl)
 
   pub check-done : (check-outcome tabulation ws scratch .answer ≡ done)
       ↔ (Ready tabulation ws scratch × ((L : List Entry) × ImageOf (params-of tabulation ws) L ws))

@@ -2,14 +2,13 @@
 -- scratch and the old words of the trail have no say. Then the trail of a dictionary that holds a set: what document 02 says of it. Assumes nothing.
 use Prim.Native.Nat.{ℕ, suc, _+_, _-_, _≤_, _<_}
 use mathlib.Core.Path.{_≡_, refl, sym, _∙_, ap}
-use mathlib.Core.Bool.{true, false, not, cond, true≢false}
+use mathlib.Core.Bool.{true, false, not, cond}
 use mathlib.Core.Logic.{inl, inr, _↔_}
 use mathlib.Core.List.{List, [], _∷_, _++_, List·Memᴰ as In, List·Memᴰ·head as here, List·Memᴰ·tail as there}
 use native.Mathlib.Omega.{arith}
 use borrow.Author.Tests.{eq-eqb, ne-eqb, le-ltb}
 use lib.Dec.{ltb}
 use lib.ListN.{length, getD, replicate}
-use Rattle.basics.specs.Tests.{test}
 use Rattle.basics.specs.Sets.{member, first, last, Sub, in?}
 use Rattle.basics.specs.Lists.{Picked}
 use Rattle.cuckoo.specs.Graph.{component, onCycle, seated, stash, occupant}
@@ -21,11 +20,11 @@ use Rattle.tabulation.specs.Hash.{tabulation-length, blank}
 use Rattle.tabulation.specs.Slots.{slot-0, slot-1, slot-0-lt, slot-1-lt}
 use Rattle.layout.specs.Entries.{Entry, keys-of}
 use Rattle.layout.specs.Layout.{Params, ValidKeys, family, slots-of, places-of, scratch-length, shaped, keys-in}
-use Rattle.layout.specs.Canonical.{canonical, image-of-keys, not-canonical-iff}
+use Rattle.layout.specs.Canonical.{canonical, image-of-keys}
 use Rattle.outcome.specs.declared.Change.the-variants.{Remove}
 use Rattle.outcome.specs.Outcome.{first-refusals, change-refusal, change-outcome}
-use Rattle.outcome.specs.Laws.{Ready, Late, late-other, late-first, Tampered, head-tabulation, head-shape, head-scratch, head-ready, later-refusals}
-use Rattle.outcome.specs.Held.{Holds, held-some, held-params, held-set-in, held-shaped, held-canonical, held-scratch}
+use Rattle.outcome.specs.Laws.{Ready, late-first, Tampered, head-tabulation, head-shape, head-scratch, head-ready, head-tampered, later-refusals}
+use Rattle.outcome.specs.Held.{Holds, held-some, held-params, held-set-in, held-head}
 use Rattle.outcome.specs.Demands.{Harmless}
 use Rattle.outcome.specs.Trail.{trail-of, trail-in, trail-refusals, trail-refusal, TrailOutcome, trail-outcome}
 
@@ -92,19 +91,13 @@ module _ (tabulation ws scratch : List ℕ) (key : ℕ) where
     trail-set h c = trail-ready h ∙ (rw c)
 
     pub trail-tampered : Ready tabulation ws scratch → (o .number ≡ not-canonical) ↔ Tampered tabulation ws scratch
-    trail-tampered h = (
-      λ e. not-canonical-iff tabulation ws (h .shape) .0 (elim (test (canonical tabulation ws)) [
-        | inl c ↦ absurd (true≢false (late-other (rw (← trail-set h c, e) at later)))
-        | inr c ↦ c
-      ]),
-      λ n. let c = not-canonical-iff tabulation ws (h .shape) .1 n in trail-ready h ∙ (rw c),
-    )
-      where
-        later : Late (first-refusal (trail-refusals tabulation ws key (length sheet)))
-        later = late-first (trail-refusals tabulation ws key (length sheet)) (λ n i. elim i [
+    unfolding trail-outcome trail-refusal
+    trail-tampered =
+        head-tampered tabulation ws scratch (trail-refusals tabulation ws key (length sheet))
+        (late-first (trail-refusals tabulation ws key (length sheet)) (λ n i. elim i [
           | here q ↦ omega arith
           | there j ↦ elim j [ here q ↦ omega arith | there k ↦ elim k [ here q ↦ omega arith | there l ↦ elim l [ ] ] ]
-        ])
+        ]))
 
     -- "Checks run as for withdraw": what a removal of this key would be refused with, the trail is refused with;
     pub trail-as-remove : (change-outcome Remove tabulation ws scratch key .answer ≡ done → ⊥)
@@ -206,14 +199,7 @@ module _ {P : Params} {L : List Entry} {ws : List ℕ} (h : Holds P L ws) (key :
       ∷ (key-absent, not (member key (keys-of L))) ∷ (short-trail, ltb n (length (trail-of P (keys-of L) key))) ∷ [])
   unfolding trail-refusal
   held-trail full-length scratch n =
-      rw (
-        eq-eqb (length (P .tabulation)) tabulation-length full-length,
-        held-shaped h,
-        held-canonical h,
-        held-scratch h,
-        held-set-in h,
-        held-asked,
-      )
+      held-head h full-length scratch (trail-refusals (P .tabulation) ws key n) ∙ (rw (held-set-in h, held-asked))
 
   -- With 2r words lent for it, it is never refused with 11.
   pub never-short : length (P .tabulation) ≡ tabulation-length → (scratch sheet : List ℕ) → P .slots + P .slots ≤ length sheet

@@ -234,19 +234,26 @@ settable-traceable {ws = ws} {key = key} Z e =
       some-key = not-blank key (Z .not-blank);
     }
 
+-- What the set decides: 7,
+module _ (tabulation ws : List ℕ) (key : ℕ) (old : List ℕ) where
+  abbrev pub ToldOfSet : Traced → List ℕ → Type 0
+  ToldOfSet t new =
+      Told (first-refusal
+      ((key-absent, not (member key (keys-of (set-in tabulation ws)))) ∷ (short-trail, ltb (length old) (length (trail-in tabulation ws key))) ∷ []))
+      (trail-in tabulation ws key) old t new
+
+  pub told-absent : member key (keys-of (set-in tabulation ws)) ≡ false → ToldOfSet (Refused key-absent) old
+  told-absent m = told-refused (rw m) (λ q. omega arith)
+
+  -- and then the trail: 11, or nothing.
+  pub told-listed : member key (keys-of (set-in tabulation ws)) ≡ true → {t : Traced} {new : List ℕ}
+      → ToldOfTrail tabulation ws key old t new → ToldOfSet t new
+  told-listed m = told-as (rw m)
+
 -- The refusals of the call: 1 to 3,
 module _ (tabulation ws scratch : List ℕ) (key : ℕ) (old : List ℕ) where
   abbrev pub ToldOfCall : Traced → List ℕ → Type 0
   ToldOfCall t new = Told (trail-refusal tabulation ws scratch key (length old)) (trail-in tabulation ws key) old t new
-
-  -- what the set decides: 7 and 11
-  abbrev pub set-answer : ℕ
-  set-answer =
-      first-refusal
-      ((key-absent, not (member key (keys-of (set-in tabulation ws)))) ∷ (short-trail, ltb (length old) (length (trail-in tabulation ws key))) ∷ [])
-
-  abbrev pub ToldOfSet : Traced → List ℕ → Type 0
-  ToldOfSet t new = Told set-answer (trail-in tabulation ws key) old t new
 
   number-is : trail-outcome tabulation ws scratch key old .number ≡ trail-refusal tabulation ws scratch key (length old)
   unfolding trail-outcome
@@ -274,14 +281,5 @@ module _ (tabulation ws scratch : List ℕ) (key : ℕ) (old : List ℕ) where
       told-blank t = told-refused (sym (set-is ∙ (rw t))) (λ q. omega arith)
 
       -- and what the set decides.
-      pub told-set : blank key ≡ false → {t : Traced} {new : List ℕ} → ToldOfSet t new → ToldOfCall t new
+      pub told-set : blank key ≡ false → {t : Traced} {new : List ℕ} → ToldOfSet tabulation ws key old t new → ToldOfCall t new
       told-set b = told-as (sym (set-is ∙ (rw b)))
-
-  -- 7
-  pub told-absent : member key (keys-of (set-in tabulation ws)) ≡ false → ToldOfSet (Refused key-absent) old
-  told-absent m = told-refused (rw m) (λ q. omega arith)
-
-  -- and what the trail decides: 11, or nothing
-  pub told-listed : member key (keys-of (set-in tabulation ws)) ≡ true → {t : Traced} {new : List ℕ}
-      → ToldOfTrail tabulation ws key old t new → ToldOfSet t new
-  told-listed m = told-as (rw m)

@@ -77,8 +77,8 @@ fn trace_listed(
     trail: &mut [u32],
 ) -> Traced
     requires { ⌜ Settable (now tabulation) (now words) (now scratch) n key ⌝ }
-    ensures { λ t. ⌜ ToldOfSet (now (tabulation .entry)) (now (words .entry)) (now (scratch .entry)) key
-        (now (trail .entry)) t (now (trail .exit)) ⌝ }
+    ensures { λ t. ⌜ ToldOfSet (now (tabulation .entry)) (now (words .entry)) key (now (trail .entry)) t
+        (now (trail .exit)) ⌝ }
 {
     let header = access::read_header(words);
     let at = place_of(&*scratch, n, key);

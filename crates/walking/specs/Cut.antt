@@ -10,6 +10,7 @@ use borrow.Rule.Slice.PartMut.{midOf}
 use lib.Seq.{getD-take, getD-drop, length-take-le, take-length, take-all, paste, paste-suc, ext-getD}
 use Rattle.basics.specs.Tests.{eq?}
 use Rattle.basics.specs.Sets.{Asc}
+use Rattle.basics.specs.Lists.{drop-zeros}
 use Rattle.cuckoo.specs.Graph.{root, occupant}
 use Rattle.cuckoo.specs.Settling.{Settled}
 use Rattle.cuckoo.specs.Seating.{Ends}
@@ -78,12 +79,14 @@ pub smallest-one : (K : List ℕ) → SmallestTo K 1 (getD K 0 0)
 smallest-one K = record { place = 0; inside = omega arith; met = refl; low = λ i l. let e : i ≡ 0 = omega arith in rw e (omega arith) }
 
 pub smallest-more : {K : List ℕ} {n m k : ℕ} → SmallestTo K n m → Lesser m (getD K n 0) k → SmallestTo K (n + 1) k
-smallest-more {K} {n} {m} {k} S L = record {
-  place = elim (L .one) [ inl e ↦ S .place | inr e ↦ n ];
-  inside = elim (L .one) as (λ (o : (k ≡ m) ⊎ (k ≡ getD K n 0)). elim o [ inl e ↦ S .place | inr e ↦ n ] < n + 1) [ inl e ↦ omega (arith, S .inside) | inr e ↦ omega arith ];
-  met = elim (L .one) as (λ (o : (k ≡ m) ⊎ (k ≡ getD K n 0)). getD K (elim o [ inl e ↦ S .place | inr e ↦ n ]) 0 ≡ k) [ inl e ↦ S .met ∙ sym e | inr e ↦ sym e ];
-  low = λ i l. elim (eq? i n) [ inl e ↦ rw e (L .also) | inr d ↦ omega (arith, L .low, S .low i (omega arith)) ];
-}
+smallest-more {K} {n} {m} {k} S L = go (L .one)
+  where
+    low : (i : ℕ) → i < n + 1 → k ≤ getD K i 0
+    low i l = elim (eq? i n) [ inl e ↦ rw e (L .also) | inr d ↦ omega (arith, L .low, S .low i (omega arith)) ]
+
+    go : (k ≡ m) ⊎ (k ≡ getD K n 0) → SmallestTo K (n + 1) k
+    go (inl e) = record { place = S .place; inside = omega (arith, S .inside); met = S .met ∙ sym e; low = low }
+    go (inr e) = record { place = n; inside = omega arith; met = sym e; low = low }
 
 pub smallest-all : {K : List ℕ} {n m : ℕ} → n ≡ length K → SmallestTo K n m → Smallest K m
 smallest-all e S = rw (← e) S
@@ -121,12 +124,11 @@ pub copied-all : (d s : List ℕ) → paste d 0 s (length s) ≡ s ++ drop (leng
 copied-all d s = let e : 0 + length s ≡ length s = omega arith in rw (e, take-length s)
 
 pub copied-zeros : (k : ℕ) (s : List ℕ) → s ++ drop (length s) (replicate k 0) ≡ s ++ replicate (k - length s) 0
-copied-zeros k s = ap (λ (t : List ℕ). s ++ t) (drop-zeros k (length s))
-  where
-    drop-zeros : (k n : ℕ) → drop {A = ℕ} n (replicate k 0) ≡ replicate (k - n) 0
-    drop-zeros k zero = let e : k - 0 ≡ k = omega arith in rw e
-    drop-zeros zero (suc n) = let e : 0 - suc n ≡ 0 = omega arith in rw e
-    drop-zeros (suc k) (suc n) = let e : suc k - suc n ≡ k - n = omega arith in rw e (drop-zeros k n)
+copied-zeros k s = rw (drop-zeros (length s) k)
+
+-- as many keys as steps
+met-size : (r n : ℕ) (X : List ℕ) → r + r + (r + r) ≤ length X → n ≤ r + r → length (met-keys r X n) ≡ n
+met-size r n X long few = simp (length-take, length-drop) (omega arith)
 
 -- What a walk that is over knows: it stands where it was after j steps.
 module _ {g h : ℕ → ℕ} {u r n v : ℕ} {X : List ℕ} (C : Closed g h u r X n v) where
@@ -134,17 +136,17 @@ module _ {g h : ℕ → ℕ} {u r n v : ℕ} {X : List ℕ} (C : Closed g h u r 
   few = omega (arith, C .room .count)
 
   pub met-length : length (met-keys r X n) ≡ n
-  met-length = simp (length-take, length-drop) (omega (arith, C .room .long, few))
+  met-length = met-size r n X (C .room .long) few
 
-  pub met-at : (i : ℕ) → i < n → getD (met-keys r X n) i 0 ≡ h (path g u i)
+  met-at : (i : ℕ) → i < n → getD (met-keys r X n) i 0 ≡ h (path g u i)
   met-at i l = rw (getD-take n (drop (r + r) X) i 0 l, getD-drop (r + r) X i 0) (C .walked .keys i l)
 
-  pub record Back : Type 0 where
-    pub earlier : first-visit X v < n
-    pub noted : getD X v 0 ≡ first-visit X v + 1
-    pub same : path g u (first-visit X v) ≡ path g u n
+  record Back : Type 0 where
+    earlier : first-visit X v < n
+    noted : getD X v 0 ≡ first-visit X v + 1
+    same : path g u (first-visit X v) ≡ path g u n
 
-  pub back : Back
+  back : Back
   back = elim (C .walked .visits v (C .room .inside)) [
     | inl e ↦ absurd (C .visited e)
     | inr k ↦
@@ -159,15 +161,12 @@ met-lent X {r} {n} p q =
     rw (p, q, e, f)
 
 -- code reads the keys as a part of scratch, K, and the visit of v as a word, x
-pub stretch-length : {r n : ℕ} {X : List ℕ} → Stretch r X n → length (met-keys r X n) ≡ n
-stretch-length S = simp (length-take, length-drop) (omega (arith, S .long, S .few))
-
 pub visited-at : {r n v i x : ℕ} {X : List ℕ} → Met r X n v → i ≡ v → x ≡ getD X i 0 → x ≡ first-visit X v + 1
 visited-at {X = X} M q e = e ∙ ap (λ (k : ℕ). getD X k 0) q ∙ M .visited
 
 module _ {r n v x : ℕ} {X K : List ℕ} (M : Met r X n v) (part : K ≡ met-keys r X n) (e : x ≡ first-visit X v + 1) where
-  pub part-length : length K ≡ n
-  part-length = ap length part ∙ stretch-length (M .stretch)
+  part-length : length K ≡ n
+  part-length = ap length part ∙ met-size r n X (M .stretch .long) (M .stretch .few)
 
   pub behind : x - 1 < length K
   behind = omega (arith, part-length, M .earlier)

@@ -33,7 +33,7 @@ returns : tie.Need-returns
 returns c =
     let i = c .before in
     let s = start (headed i) in
-    told-absent _ _ (s .args .scratch .now) _ _ (sym (stands-listed (s .pre) (i .is-at .ensures)) ∙ not-true _ (c .if1 .taken))
+    told-absent _ _ _ _ (sym (stands-listed (s .pre) (i .is-at .ensures)) ∙ not-true _ (c .if1 .taken))
 
 trace-requires : tie.Need-trace-requires
 trace-requires c κs = let h = headed (c .before .before .before) in settable-traceable (start h .pre) (h .read-header .ensures .0)
@@ -50,7 +50,7 @@ returns-2 c =
     let e = r .before .before .before in
     let i = e .before in
     let s = start (headed i) in
-    told-listed _ _ (s .args .scratch .now) _ _ (sym (stands-listed (s .pre) (i .is-at .ensures)) ∙ not-false _ (e .if1 .left)) (r .trace .ensures)
+    told-listed _ _ _ _ (sym (stands-listed (s .pre) (i .is-at .ensures)) ∙ not-false _ (e .if1 .left)) (r .trace .ensures)
 
 pub trace-listed-spec : {M : Type 1} → statement M
 trace-listed-spec = tie.close (tie.spec read-header-requires place-of-requires is-at-requires same-length returns trace-requires same-length-2 same-length-3 returns-2)

@@ -207,3 +207,15 @@ pub fn all_sets(keys: &[u32], tiers: &[u32]) -> Vec<Vec<Member>> {
     }
     sets
 }
+
+/// Hashes of the keys 1 to `count`, each below r, by a number: every choice has one below r to the
+/// power of 2 `count`. Key 0 has hashes, too, so that a key is its own index.
+pub fn numbered_ends(number: usize, r: usize, count: usize) -> Vec<[u16; 2]> {
+    let mut left = number;
+    let mut ends = vec![[0, 0]];
+    for _ in 0..count {
+        ends.push([(left % r) as u16, (left / r % r) as u16]);
+        left /= r * r;
+    }
+    ends
+}

@@ -16,7 +16,7 @@ use reference::samples::{
 };
 use reference::set::{members, set, Member, Set};
 
-use crate::common::{many_keys, on_cycle, Harness, Tally};
+use crate::common::{many_keys, numbered_ends, on_cycle, Harness, Tally};
 
 /// Compares the engines for one set and says what kinds of board it was.
 fn compare(tabulation: &[u16], r: u32, s: u32, members: &[Member], tally: &mut Tally) {
@@ -73,12 +73,7 @@ fn fast_and_slow_agree_under_all_hashes() {
     for (r, most_keys) in [(1usize, 6), (2, 6), (3, 4)] {
         for count in 0..=most_keys {
             for number in 0..(r * r).pow(count as u32) {
-                let mut ends = vec![[0, 0]];
-                let mut left = number;
-                for _ in 0..count {
-                    ends.push([(left % r) as u16, (left / r % r) as u16]);
-                    left /= r * r;
-                }
+                let ends = numbered_ends(number, r, count);
                 let s = (number % 5) as u32;
                 // The tiers change with the board and from key to key.
                 let tier = |key: u32| (number as u32 + 3 * key) % 8;

@@ -19,7 +19,7 @@ use reference::samples::{
 };
 use reference::set::Member;
 
-use crate::common::{engines, many_keys, on_cycle, subset, Harness, Tally};
+use crate::common::{engines, many_keys, numbered_ends, on_cycle, subset, Harness, Tally};
 
 /// A board of the paper, or one of ours, on the test tabulation.
 struct Board {
@@ -326,12 +326,7 @@ fn trails_under_all_hashes() {
     for (r, most_keys) in [(1usize, 5), (2, 5), (3, 3)] {
         for count in 0..=most_keys {
             for number in 0..(r * r).pow(count as u32) {
-                let mut ends = vec![[0, 0]];
-                let mut left = number;
-                for _ in 0..count {
-                    ends.push([(left % r) as u16, (left / r % r) as u16]);
-                    left /= r * r;
-                }
+                let ends = numbered_ends(number, r, count);
                 let keys: Vec<u32> = (1..=count as u32).collect();
                 let s = (number % 4) as u32;
                 let tabulation = chosen_tabulation(&ends);
