@@ -2,17 +2,18 @@
 // both hashes or a refusal. Crates above use what it promises and the laws of specs/; the worked rows K1 to K12 alone
 // compute with its text. The till maker links it alone.
 ghost use mathlib.Core.Path.{_≡_};
-ghost use Prim.Native.Nat.{_+_, _*_, _≤_, _<_};
-ghost use lib.ListN.{length};
+ghost use Prim.Native.Nat.{_<_};
 ghost use Rattle.tabulation.specs.Slots.{slot-0, slot-1};
-ghost use Rattle.tabulation.specs.Hash.{tabulation-length, slots-in-range, tables, Hashing, blank, entry, hash};
+ghost use Rattle.tabulation.specs.Hash.{slots-in-range, tables, Hashing, blank, hash};
 ghost use Rattle.tabulation.specs.Answer.{number, values, hashes-refusal, hashes-values, written};
 use refusals::BLANK_KEY;
 use refusals::WRONG_SHAPE;
 use refusals::WRONG_TABULATION;
 
-// The length of a tabulation, and the most slots of a table.
+// The length of a tabulation, that of a table's half of it, and the most slots of a table.
 pub const TABULATION_LENGTH: usize = 2048;
+
+const HALF_LENGTH: usize = 1024;
 
 pub const MAX_SLOTS: u32 = 1024;
 
@@ -36,30 +37,27 @@ pub fn in_range(r: u32) -> bool
     1 <= r && r <= MAX_SLOTS
 }
 
+// An entry of a tabulation as a 32-bit number.
 fn wide(x: u16) -> u32
-    ensures { λ r. ⌜ r ≡ x ⌝ }
+    ensures { λ e. ⌜ (e ≡ x) × (e < 65536) ⌝ }
 {
     x as u32
 }
 
-// The entry of the tabulation for byte i of a key, b, in a table.
-fn entry_at(tabulation: &[u16], table: usize, i: usize, b: u32) -> u32
-    requires { ⌜ (length (now tabulation) ≡ tabulation-length) × (table < 2) × (i < 4) × (b < 256) ⌝ }
-    ensures { λ e. ⌜ (e ≡ entry (now (tabulation .entry)) table i b) × (e < 65536) ⌝ }
-{
-    wide(tabulation[1024 * table + 256 * i + b as usize])
-}
-
-// The hash of a key in a table of r slots.
+// The hash of a key in a table of r slots. The table's half of the tabulation and r are taken before the loop over the
+// key's bytes, and neither anew for a byte.
 pub fn hash_in(tabulation: &[u16], table: usize, r: u32, key: u32) -> u32
     requires { ⌜ Hashing (now tabulation) r × (table < 2) ⌝ }
     ensures { λ h. ⌜ h ≡ hash (tables (now (tabulation .entry)) r) table key ⌝ }
 {
+    let start = HALF_LENGTH * table;
+    let end = start + HALF_LENGTH;
+    let half = &tabulation[start..end];
     let mut sum: u32 = 0;
     let mut rest = key;
     let mut i: usize = 0;
     while i < 4 {
-        sum = sum + entry_at(tabulation, table, i, rest % 256);
+        sum = sum + wide(half[256 * i + (rest % 256) as usize]);
         rest = rest / 256;
         i = i + 1;
     }

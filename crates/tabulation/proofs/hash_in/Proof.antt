@@ -1,24 +1,70 @@
--- `tabulation::hash_in` meets its contract: the loop sums the entries as `total` does, and no sum exceeds 32 bits.
-use Prim.Native.Nat.{_≤_, _*_, _-_}
+-- `tabulation::hash_in` meets its contract: what it reads from the table's half are that table's entries, the loop sums them as `total`
+-- does, and no sum exceeds 32 bits.
+use Prim.Native.Nat.{ℕ, _≤_, _<_, _+_, _*_, _-_, _%_}
 use mathlib.Core.Path.{_≡_, _∙_}
+use mathlib.Core.List.{List}
+use native.Mathlib.Nat.{add-assoc}
 use native.Mathlib.Omega.{arith}
 use borrow.Author.Needs.{needs}
+use lib.ListN.{getD, take, drop}
+use lib.Seq.{getD-drop, getD-take}
+use Rattle.tabulation.specs.Hash.{entry}
 use Rattle.tabulation.specs.Sum.{total, total-step, total-hash}
 use Rattle.tabulation.proofs.hash_in.Statement.{statement}
 use Rattle.tabulation.proofs.hash_in.Tie as tie
 
+-- an entry of a table's half is the tabulation's entry for that table
+half-entry : (tabulation : List ℕ) (table i b : ℕ) → i < 4 → b < 256
+    → getD (take (1024 * table + 1024 - 1024 * table) (drop (1024 * table) tabulation)) (256 * i + b) 0 ≡ entry tabulation table i b
+half-entry tabulation table i b low byte =
+    let within : 256 * i + b < 1024 * table + 1024 - 1024 * table = omega arith in
+    rw (getD-take, getD-drop, add-assoc)
+
 abbrev Inv-loop : tie.InvT-loop
-Inv-loop tabulation table r key sum₀ rest₀ i₀ sum rest i =
+Inv-loop tabulation table r key start end half sum₀ rest₀ i₀ sum rest i =
     (i ≤ 4) × (sum ≤ 65535 * i) × (total tabulation table sum i (4 - i) rest ≡ total tabulation table 0 0 4 key)
 
 abbrev μ-loop : tie.MeasureT-loop
-μ-loop tabulation table r key sum₀ rest₀ i₀ sum rest i = 4 - i
+μ-loop tabulation table r key start end half sum₀ rest₀ i₀ sum rest i = 4 - i
+
+mul-start : tie.Need-mul-start Inv-loop μ-loop
+mul-start c = search needs
+
+add-end : tie.Need-add-end Inv-loop μ-loop
+add-end c = search needs
+
+mul-half : tie.Need-mul-half Inv-loop μ-loop
+mul-half c = search needs
+
+sub-half : tie.Need-sub-half Inv-loop μ-loop
+sub-half c = search needs
+
+part-half-start : tie.Need-part-half-start Inv-loop μ-loop
+part-half-start c = search needs
+
+part-half-end : tie.Need-part-half-end Inv-loop μ-loop
+part-half-end c = search needs
 
 loop-holds : tie.Need-loop-holds Inv-loop μ-loop
 loop-holds c = search needs
 
-entry-at-requires : tie.Need-entry-at-requires Inv-loop μ-loop
-entry-at-requires c κs = search needs
+mul-wide : tie.Need-mul-wide Inv-loop μ-loop
+mul-wide c = search needs
+
+cast-wide : tie.Need-cast-wide Inv-loop μ-loop
+cast-wide c = search needs
+
+add-wide : tie.Need-add-wide Inv-loop μ-loop
+add-wide c = search needs
+
+mul-wide-2 : tie.Need-mul-wide-2 Inv-loop μ-loop
+mul-wide-2 c = search needs
+
+shared-slice-read-wide : tie.Need-shared-slice-read-wide Inv-loop μ-loop
+shared-slice-read-wide c = search needs
+
+wide-requires : tie.Need-wide-requires Inv-loop μ-loop
+wide-requires c κs = search needs
 
 add-sum : tie.Need-add-sum Inv-loop μ-loop
 add-sum c = search needs
@@ -30,13 +76,12 @@ loop-less : tie.Need-loop-less Inv-loop μ-loop
 loop-less c = search needs
 
 loop-again : tie.Need-loop-again Inv-loop μ-loop
-loop-again c = (
-  search needs,
-  search needs,
-  rw (c .entry-at .ensures .0)
-      (total-step _ _ (c .before .before .loop .sum) (c .before .before .loop .rest) (c .before .before .loop .i) (c .before .loop-test .taken)
-      ∙ c .before .before .loop .inv .2),
-)
+loop-again c =
+    let a = c .before .before .before .before .before .before .args in
+    let l = c .before .before .before .loop in
+    let low = c .before .before .loop-test .taken in
+    let e = c .wide .ensures .0 ∙ half-entry (a .tabulation .now) (a .table) (l .i) (l .rest % 256) low (omega arith) in
+    (search needs, search needs, rw e (total-step _ _ (l .sum) (l .rest) (l .i) low ∙ l .inv .2))
 
 rem-result : tie.Need-rem-result Inv-loop μ-loop
 rem-result c = search needs
@@ -53,8 +98,19 @@ hash-in-spec =
     (tie.spec
     Inv-loop
     μ-loop
+    mul-start
+    add-end
+    mul-half
+    sub-half
+    part-half-start
+    part-half-end
     loop-holds
-    entry-at-requires
+    mul-wide
+    cast-wide
+    add-wide
+    mul-wide-2
+    shared-slice-read-wide
+    wide-requires
     add-sum
     add-i
     loop-less
