@@ -9,5 +9,6 @@ pub mod Reads
 pub mod Others
 pub mod History
 pub mod NoTrace
+pub mod Sales
 pub mod Corollaries
 pub mod Example

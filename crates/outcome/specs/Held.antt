@@ -102,7 +102,7 @@ tier-bound : (kind : Change) (key : ℕ) (L : List Entry) → SmallTier kind →
 tier-bound (Insert tier) key L small h c = elim (eq? c key) [ inl e ↦ rw (eq-eqb c key e) small | inr n ↦ rw (ne-eqb c key n) (h c) ]
 tier-bound Remove key L small h c = h c
 
-tier-of-bound : (L : List Entry) → ((e : Entry) → In e L → e .tier ≤ max-tier) → (c : ℕ) → tier-of L c ≤ max-tier
+pub tier-of-bound : (L : List Entry) → ((e : Entry) → In e L → e .tier ≤ max-tier) → (c : ℕ) → tier-of L c ≤ max-tier
 tier-of-bound [] h c = omega arith
 tier-of-bound (e ∷ L) h c = elim (eq? c (e .key)) [
   | inl q ↦ rw (eq-eqb c (e .key) q) (h e (here refl))

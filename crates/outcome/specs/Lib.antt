@@ -7,3 +7,5 @@ pub mod Demands
 pub mod Board
 pub mod Trail
 pub mod TrailLaws
+pub mod Sale
+pub mod SaleLaws

@@ -56,14 +56,18 @@ other-tier = 10
 abbrev pub short-trail : ℕ
 short-trail = 11
 
+-- 12, "base or a step outside its range, or this card's price below 1"
+abbrev pub wrong-price : ℕ
+wrong-price = 12
+
 -- the number of the first refusal whose test holds, or done
 abbrev pub first-refusal : List (ℕ × Bool) → ℕ
 first-refusal [] = done
 first-refusal (r ∷ rs) = cond (r .1) (r .0) (first-refusal rs)
 
 -- The laws. The numbers are those of document 01's table, and after them those of document 02.
-pub table : done ∷ wrong-tabulation ∷ wrong-shape ∷ short-scratch ∷ not-canonical ∷ blank-key ∷ key-present ∷ key-absent ∷ stash-full ∷ wrong-tier ∷ other-tier ∷ short-trail ∷ []
-    ≡ 0 ∷ 1 ∷ 2 ∷ 3 ∷ 4 ∷ 5 ∷ 6 ∷ 7 ∷ 8 ∷ 9 ∷ 10 ∷ 11 ∷ []
+pub table : done ∷ wrong-tabulation ∷ wrong-shape ∷ short-scratch ∷ not-canonical ∷ blank-key ∷ key-present ∷ key-absent ∷ stash-full ∷ wrong-tier ∷ other-tier ∷ short-trail ∷ wrong-price ∷ []
+    ≡ 0 ∷ 1 ∷ 2 ∷ 3 ∷ 4 ∷ 5 ∷ 6 ∷ 7 ∷ 8 ∷ 9 ∷ 10 ∷ 11 ∷ 12 ∷ []
 table = refl
 
 -- The first that applies is given: the first of the list, if its test holds,

@@ -33,3 +33,6 @@ pub const OTHER_TIER: u32 = 10;
 
 // The words that are lent for a trail are fewer than it has keys.
 pub const SHORT_TRAIL: u32 = 11;
+
+// A sale's base price or a step is outside its range, or the key's price is below 1.
+pub const WRONG_PRICE: u32 = 12;
