@@ -12,7 +12,7 @@ use Rattle.layout.specs.Entries.{Entry}
 use Rattle.layout.specs.Layout.{Params}
 use Rattle.outcome.specs.declared.Sale.{Sale}
 use Rattle.outcome.specs.Sale.{record-values, sale-refusal, sale-of, sale-values, closed}
-use Rattle.outcome.specs.SaleLaws.{Priced, sale-done, opened-key, opened-priced, held-tier}
+use Rattle.outcome.specs.SaleLaws.{Priced, same-record, sale-done, opened-key, opened-priced, held-tier}
 use Rattle.history.specs.Calls.{Answer, Other, Call, Step, step, run, words-after, words-left, Allowed, none, more, Sequence}
 use Rattle.history.specs.Model.{set-left}
 use Rattle.history.specs.Others.{reads, reads-stands}
@@ -94,10 +94,6 @@ with-sales {P} {ws} acts q = record {
 -- and two sequences that differ in sales alone end in one set.
 pub same-set-left : {P : Params} {ws : List ℕ} (acts : List Act) → Sequence P ws (without-sales acts) → set-left P ws (all-calls acts) ≡ set-left P ws (without-sales acts)
 same-set-left {P} {ws} acts q = no-trace (with-sales acts q) .same-words q .0 (same-words-left (P .tabulation) ws acts)
-
--- the values of a record say the record
-same-record : {s u : Sale} → record-values s ≡ record-values u → s ≡ u
-same-record e = λ i. record { key = getD (e i) 0 0; tier = getD (e i) 1 0; price = getD (e i) 2 0 }
 
 -- A sale that is opened after the calls cs of a sequence, and what becomes of its record s.
 pub record SaleOf (P : Params) (ws : List ℕ) (cs : List Call) (key base : ℕ) (steps : List ℤ) (s : Sale) : Type 0 where

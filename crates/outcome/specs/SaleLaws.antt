@@ -30,6 +30,10 @@ pub sale-answer-in : (tabulation ws : List ℕ) (key base : ℕ) (steps : List �
 unfolding sale-refusal
 sale-answer-in tabulation ws key base steps = first-refusal-in (sale-refusals tabulation ws key base steps)
 
+-- The values of a record say the record.
+pub same-record : {s u : Sale} → record-values s ≡ record-values u → s ≡ u
+same-record e = λ i. record { key = getD (e i) 0 0; tier = getD (e i) 1 0; price = getD (e i) 2 0 }
+
 -- What a lookup among entries says of them: it finds the key, and its tier, or it does not.
 looked-listed : (L : List Entry) (key tier : ℕ) → looked-up L key ≡ 1 ∷ tier ∷ [] → (member key (keys-of L) ≡ true) × (tier-of L key ≡ tier)
 looked-listed L key tier e = elim (test (member key (keys-of L))) [
