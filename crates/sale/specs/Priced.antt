@@ -23,8 +23,9 @@ use Rattle.layout.specs.Answers.{lookup-refusal, lookup-values}
 use Rattle.layout.specs.declared.Found.{Found}
 use Rattle.layout.specs.declared.Found.the-variants.{Listed, Absent, Refused}
 use Rattle.outcome.specs.Sale.{record-values, base-in-range, step-in-range, all-in-range, steps-in-range, litre-price, unpriced}
-use Rattle.outcome.specs.Sale.{sale-refusal, sale-values, sale-of}
-use Rattle.outcome.specs.SaleLaws.{fair-iff, untold, sale-refused, sale-as-lookup, sale-absent, sale-listed}
+use Rattle.outcome.specs.Sale.{sale-refusal, sale-values, sale-of, sale-left}
+use Rattle.outcome.specs.declared.Sale.{Sale}
+use Rattle.outcome.specs.SaleLaws.{same-record, fair-iff, untold, sale-refused, sale-done, sale-as-lookup, sale-absent, sale-listed}
 
 -- the price for a tier, 0 where 12 applies
 unfoldable pub price-or-0 : ℕ → List ℤ → ℕ → ℕ
@@ -207,3 +208,18 @@ pub is-absent : (f : Found) → ((tier : ℕ) → f ≡ Listed tier → ⊥) →
 is-absent (Listed tier) p q = absurd (p tier refl)
 is-absent Absent p q = refl
 is-absent (Refused n) p q = absurd (q n refl)
+
+-- What a lent record holds, by what the opening answered.
+module _ (tabulation ws : List ℕ) (key base : ℕ) (steps : List ℤ) (old : Sale) where
+  pub open-left : {s : Sale} → done ≡ sale-refusal tabulation ws key base steps → record-values s ≡ sale-values tabulation ws key base steps
+      → (done ≡ sale-refusal tabulation ws key base steps) × (s ≡ sale-left tabulation ws key base steps old)
+  open-left e v =
+      let d = sale-done tabulation ws key base steps (sym e) in
+      (e, same-record (v ∙ d .0) ∙ sym (d .1 old))
+
+  pub refused-left : {n : ℕ} → n ≡ sale-refusal tabulation ws key base steps → [] ≡ sale-values tabulation ws key base steps
+      → (n ≡ sale-refusal tabulation ws key base steps) × (old ≡ sale-left tabulation ws key base steps old)
+  refused-left e v =
+      let some : sale-refusal tabulation ws key base steps ≡ done → ⊥ =
+      λ d. omega (arith, ap length (v ∙ sale-done tabulation ws key base steps d .0)) in
+      (e, sym (sale-refused tabulation ws key base steps some .1 old))
