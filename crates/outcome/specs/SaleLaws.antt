@@ -22,7 +22,7 @@ use Rattle.layout.specs.Look.{looked-entry, image-found}
 use Rattle.outcome.specs.declared.Sale.{Sale}
 use Rattle.outcome.specs.Held.{Holds, held-some, held-shaped, tier-of-bound}
 use Rattle.outcome.specs.Sale.{record-values, max-base, base-in-range, max-step, step-in-range, all-in-range, steps-in-range, litre-price, unpriced}
-use Rattle.outcome.specs.Sale.{found-refusals, sale-refusals, sale-refusal, sale-of, sale-values, sale-left}
+use Rattle.outcome.specs.Sale.{found-refusals, sale-refusals, sale-refusal, sale-of, sale-values, sale-left, closed}
 
 -- the numbers that it can answer
 pub sale-answer-in : (tabulation ws : List ℕ) (key base : ℕ) (steps : List ℤ)
@@ -33,6 +33,11 @@ sale-answer-in tabulation ws key base steps = first-refusal-in (sale-refusals ta
 -- The values of a record say the record.
 pub same-record : {s u : Sale} → record-values s ≡ record-values u → s ≡ u
 same-record e = λ i. record { key = getD (e i) 0 0; tier = getD (e i) 1 0; price = getD (e i) 2 0 }
+
+-- "closing gives the record's price"
+pub closed-price : (s : Sale) → s .price ≡ closed s
+unfolding closed
+closed-price s = refl
 
 -- What a lookup among entries says of them: it finds the key, and its tier, or it does not.
 looked-listed : (L : List Entry) (key tier : ℕ) → looked-up L key ≡ 1 ∷ tier ∷ [] → (member key (keys-of L) ≡ true) × (tier-of L key ≡ tier)

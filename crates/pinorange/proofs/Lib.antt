@@ -1,3 +1,4 @@
 -- What the proofs of several exported calls share.
+mod Lent
 mod Counting
 mod Updating

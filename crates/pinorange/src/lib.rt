@@ -8,6 +8,7 @@ ghost use Rattle.tabulation.specs.Answer.{hashes-refusal, written};
 ghost use Rattle.layout.specs.Answers.{lookup-refusal, view-refusal, fresh-refusal, fresh-words};
 ghost use Rattle.outcome.specs.Outcome.{change-outcome, check-outcome};
 ghost use Rattle.outcome.specs.Trail.{trail-outcome};
+ghost use Rattle.outcome.specs.Sale.{sale-refusal, sale-left, closed};
 ghost use Rattle.counters.specs.Counters.{counted};
 ghost use Rattle.pinorange.specs.House.{house-answer, housed};
 ghost use Rattle.pinorange.specs.Out.{listed-out, tier-out, offset-out, length-out, count-out};
@@ -15,6 +16,7 @@ use access::PLACE_WIDTH;
 use counters::Counters;
 use layout::Found;
 use outcome::Change;
+use outcome::Sale;
 use outcome::Traced;
 use refusals::WRONG_TABULATION;
 use tabulation::TABULATION_LENGTH;
@@ -163,6 +165,35 @@ pub extern "C" fn pinorange_trail(
         }
         Traced::Refused(n) => n,
     }
+}
+
+// Opens a sale: document 02's number. Done, `sale` is its record; refused, it stays. The words are only read.
+#[no_mangle]
+pub extern "C" fn pinorange_open_sale(
+    tabulation: &[u16],
+    words: &[u32],
+    key: u32,
+    base: u32,
+    steps: &[i32],
+    sale: &mut Sale,
+) -> u32
+    ensures numbered { λ n. ⌜ n ≡ sale-refusal (now (tabulation .entry)) (now (words .entry)) key base
+        (now (steps .entry)) ⌝ }
+    ensures left { λ n. ⌜ now (sale .exit) ≡ sale-left (now (tabulation .entry)) (now (words .entry)) key base
+        (now (steps .entry)) (now (sale .entry)) ⌝ }
+{
+    let old = *sale;
+    let new = sale::open_over(tabulation, words, key, base, steps, old);
+    *sale = new.sale;
+    new.number
+}
+
+// Closes a sale: the price of its record, as often as it is asked.
+#[no_mangle]
+pub extern "C" fn pinorange_close_sale(sale: &Sale) -> u32
+    ensures { λ n. ⌜ n ≡ closed (now (sale .entry)) ⌝ }
+{
+    sale.price
 }
 
 // The house tabulation, written into a lent one; 1 if that is not of the right length, and it stays.
