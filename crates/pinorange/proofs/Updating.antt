@@ -39,7 +39,8 @@ use Rattle.outcome.proofs.Change as K
 use Rattle.outcome.proofs.Change.Laws as K′
 use Rattle.counters.proofs.Counters as T
 use Rattle.counted.proofs.update as callee
-use Rattle.pinorange.proofs.Counting.{slice-val, counters-val, seen, lent}
+use Rattle.pinorange.proofs.Lent.{slice-val}
+use Rattle.pinorange.proofs.Counting.{counters-val, seen, lent}
 
 -- ---- the kind, as a machine value: an insert's tier is a 32-bit number
 abbrev pub kind-val : Change → Val

@@ -51,7 +51,8 @@ use Rattle.counted.proofs.init as callee
 use Rattle.counted.proofs.init.Symbol as callee-def
 use Rattle.counted.proofs.init.Symbol.{name as #callee}
 use Rattle.counted.proofs.init.Met as callee-thm
-use Rattle.pinorange.proofs.Counting.{slice-val, ref-val, counters-val, seen, lent, opens-counters, closes-counters, counters-of, answer-fits, spelled, shown, with-fact, says}
+use Rattle.pinorange.proofs.Lent.{slice-val, ref-val, shown, with-fact, says, opens-struct, closes-struct}
+use Rattle.pinorange.proofs.Counting.{counters-val, seen, lent, counters-of, answer-fits, spelled}
 use Rattle.pinorange.proofs.pinorange_init.Key.{name as #self}
 use Rattle.pinorange.proofs.pinorange_init as self
 use Rattle.pinorange.proofs.pinorange_init.Statement as stated
@@ -142,7 +143,7 @@ module _ {M : Type 1} (𝓤 : URA M) (H : Heap 𝓤) (A : Atoms 𝓤) (W : Given
         move ! (19 ∷ []) $ fsplit ! $ move ! (1 ∷ []) $ fsplit ! $ drop ! $ fsplit ! $ drop ! $ fsplit ! $ fsplit3 ! $ drop ! $
         move ! (22 ∷ []) $ split ! $ move ! (1 ∷ []) $ split ! $
         -- [the counters' token; true; the words' token; the seen counters; the borrow; true; what words own; _8; …]
-        move ! (3 ∷ 4 ∷ 0 ∷ []) $ opens-counters ! tt m (λ is.
+        move ! (3 ∷ 4 ∷ 0 ∷ []) $ opens-struct T.the-type T′.the-laws ! tt m (λ is.
         -- [the stored counters; what they own; the open borrow; obs; auth; true; the words' token; true; what words own; _8; …]
         assigns ! (of-opd ! (load ! (from ! (hop ! (look ! 17 refl) (stop !))) (look-raw ! 0 refl))) (from ! (stop !))
         (init ! 15 refl (LL.lawful T.the-type T′.the-laws 𝓤 H A W .typed (m .now) _ is .0)) $
@@ -169,7 +170,7 @@ module _ {M : Type 1} (𝓤 : URA M) (H : Heap 𝓤) (A : Atoms 𝓤) (W : Given
         (store-raw ! 4 refl (LL.lawful T.the-type T′.the-laws 𝓤 H A W .typed (c .counters) _ (counters-of c w is′) .0)) $
         assigns ! (of-opd ! (load ! (from ! (fld ! refl (stop !))) (look-in ! 14 (sub ! 0 refl (whole !))))) (from ! (stop !))
         (init ! 26 refl (tt, record { fits = answer-fits c w is′ })) $
-        move ! (4 ∷ 5 ∷ 6 ∷ 7 ∷ []) $ closes-counters ! tt m (c .counters) (counters-of c w is′) $ move ! (3 ∷ []) $ drop ! $
+        move ! (4 ∷ 5 ∷ 6 ∷ 7 ∷ []) $ closes-struct T.the-type T′.the-laws T′.the-plain ! tt m (c .counters) (counters-of c w is′) $ move ! (3 ∷ []) $ drop ! $
         -- [the seen counters; the borrow; the counters' token; the words' token; the last words; …; true; true; _8; …]
         returns ! (look ! 24 refl) $ forget ! 8 refl $ forget ! 10 refl $ forget ! 12 refl $ forget ! 14 refl $ forget ! 16 refl $ forget ! 18 refl $
         forget ! 20 refl $ forget ! 22 refl $ forget ! 24 refl $ move ! (24 ∷ 25 ∷ []) $ free1 ! $ move ! (22 ∷ 23 ∷ []) $ free1 ! $

@@ -54,7 +54,8 @@ use Rattle.counted.proofs.update as callee
 use Rattle.counted.proofs.update.Symbol as callee-def
 use Rattle.counted.proofs.update.Symbol.{name as #callee}
 use Rattle.counted.proofs.update.Met as callee-thm
-use Rattle.pinorange.proofs.Counting.{slice-val, ref-val, opens-counters, closes-counters, counters-of, answer-fits, spelled, shown, with-fact, says}
+use Rattle.pinorange.proofs.Lent.{slice-val, ref-val, shown, with-fact, says, opens-struct, closes-struct}
+use Rattle.pinorange.proofs.Counting.{counters-of, answer-fits, spelled}
 use Rattle.pinorange.proofs.Updating.{kind-of, Callee, Changed, Moved, Tokens, Had, Passed, passed, to-callee, goes-callee}
 use Rattle.pinorange.proofs.pinorange_insert.Key.{name as #self}
 use Rattle.pinorange.proofs.pinorange_insert as self
@@ -131,7 +132,7 @@ module _ {M : Type 1} (𝓤 : URA M) (H : Heap 𝓤) (A : Atoms 𝓤) (W : Given
         move ! (29 ∷ []) $ fsplit ! $ move ! (1 ∷ []) $ fsplit ! $ move ! (1 ∷ []) $ fsplit ! $ move ! (1 ∷ []) $ fsplit ! $ fsplit3 ! $ drop ! $
         move ! (34 ∷ []) $ split ! $ move ! (1 ∷ []) $ split ! $ move ! (1 ∷ []) $ split ! $ move ! (1 ∷ []) $ split ! $
         -- [the counters' token; true; scratch's; words'; tabulation's; the seen counters; the borrow; what key and tier, scratch, words and tabulation own; _13; …]
-        move ! (5 ∷ 6 ∷ 0 ∷ []) $ opens-counters ! tt m (λ is.
+        move ! (5 ∷ 6 ∷ 0 ∷ []) $ opens-struct T.the-type T′.the-laws ! tt m (λ is.
         -- [the stored counters; what they own; the open borrow; obs; auth; true; three tokens; what key and tier, scratch, words and tabulation own; _13; …]
         assigns ! (of-opd ! (load ! (from ! (hop ! (look ! 31 refl) (stop !))) (look-raw ! 0 refl))) (from ! (stop !))
         (init ! 25 refl (LL.lawful T.the-type T′.the-laws 𝓤 H A W .typed (m .now) _ is .0)) $
@@ -171,7 +172,7 @@ module _ {M : Type 1} (𝓤 : URA M) (H : Heap 𝓤) (A : Atoms 𝓤) (W : Given
         (store-raw ! 4 refl (LL.lawful T.the-type T′.the-laws 𝓤 H A W .typed (c .counters) _ (counters-of c w is′) .0)) $
         assigns ! (of-opd ! (load ! (from ! (fld ! refl (stop !))) (look-in ! 19 (sub ! 0 refl (whole !))))) (from ! (stop !))
         (init ! 35 refl (tt, record { fits = answer-fits c w is′ })) $
-        move ! (4 ∷ 5 ∷ 6 ∷ 7 ∷ []) $ closes-counters ! tt m (c .counters) (counters-of c w is′) $ move ! (3 ∷ []) $ drop ! $
+        move ! (4 ∷ 5 ∷ 6 ∷ 7 ∷ []) $ closes-struct T.the-type T′.the-laws T′.the-plain ! tt m (c .counters) (counters-of c w is′) $ move ! (3 ∷ []) $ drop ! $
         -- [the seen counters; the borrow; the counters' token; the other tokens; the last scratch; the last words; what key and tier own; _13; …]
         returns ! (look ! 33 refl) $ forget ! 7 refl $ forget ! 9 refl $ forget ! 11 refl $ forget ! 13 refl $ forget ! 15 refl $ forget ! 17 refl $ forget ! 19 refl $ forget ! 21 refl $ forget ! 23 refl $ forget ! 25 refl $ forget ! 27 refl $ forget ! 29 refl $ forget ! 31 refl $ forget ! 33 refl $
         move ! (33 ∷ 34 ∷ []) $ free1 ! $ move ! (31 ∷ 32 ∷ []) $ free1 ! $ move ! (29 ∷ 30 ∷ []) $ free1 ! $ move ! (27 ∷ 28 ∷ []) $ free1 ! $ move ! (25 ∷ 26 ∷ []) $ free1 ! $ move ! (23 ∷ 24 ∷ []) $ free1 ! $ move ! (21 ∷ 22 ∷ []) $ free1 ! $ move ! (19 ∷ 20 ∷ []) $ free1 ! $ move ! (17 ∷ 18 ∷ []) $ free1 ! $ move ! (15 ∷ 16 ∷ []) $ free1 ! $ move ! (13 ∷ 14 ∷ []) $ free1 ! $ move ! (11 ∷ 12 ∷ []) $ free1 ! $ move ! (9 ∷ 10 ∷ []) $ free1 ! $ move ! (7 ∷ 8 ∷ []) $ free1 ! $ free0 ! $
