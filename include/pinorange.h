@@ -20,20 +20,24 @@
 extern "C" {
 #endif
 
-/* The other numbers that a call answers. A call tries those that it can give in the order 1, 2, 3, 4, 5, 9, 10, 6, 7, 11, 8. Of a call on words,
- * PINORANGE_WRONG_SHAPE (2) says: there are fewer than 4 words, word 0 (r) is not 1 to 1,024, word 1 (s) is above 64, or there are not
- * PINORANGE_WORDS(r, s). */
+/* The other numbers that a call answers. A call tries those that it can give in the order 1, 2, 3, 4, 5, 9, 10, 6, 7, 11, 12, 8; only the opening of a sale
+ * tries 4 behind 7. Of a call on words, PINORANGE_WRONG_SHAPE (2) says: there are fewer than 4 words, word 0 (r) is not 1 to 1,024, word 1 (s) is above 64, or
+ * there are not PINORANGE_WORDS(r, s). */
 #define PINORANGE_SHORT_SCRATCH 3u /* the scratch is shorter than PINORANGE_SCRATCH(r, s) */
-#define PINORANGE_NOT_CANONICAL 4u /* under the lent tabulation the words are the canonical image of no set */
+#define PINORANGE_NOT_CANONICAL 4u /* under the lent tabulation the words are the canonical image of no set; of a sale: the tier found is above 7 */
 #define PINORANGE_WRONG_TIER 9u    /* insert with a tier above PINORANGE_MAX_TIER */
 #define PINORANGE_OTHER_TIER 10u   /* insert of a key that is in the set with another tier, which it keeps */
 #define PINORANGE_KEY_PRESENT 6u   /* insert of a key that is in the set with this tier */
-#define PINORANGE_KEY_ABSENT 7u    /* remove or trail of a key that is not in the set */
+#define PINORANGE_KEY_ABSENT 7u    /* remove or trail of a key that is not in the set, sale of one that lookup does not find */
 #define PINORANGE_SHORT_TRAIL 11u  /* the trail has more keys than `trail_length` */
+#define PINORANGE_WRONG_PRICE 12u  /* sale: base price or a step outside its range, not eight steps, or a price below 1 */
 #define PINORANGE_STASH_FULL 8u    /* the new set cannot be placed: its stash would have more than s keys */
 
-#define PINORANGE_MAX_PLACES 64u /* the most places of a stash, s */
-#define PINORANGE_MAX_TIER 7u    /* the largest tier */
+#define PINORANGE_MAX_PLACES 64u  /* the most places of a stash, s */
+#define PINORANGE_MAX_TIER 7u     /* the largest tier */
+#define PINORANGE_STEPS 8u        /* the steps of a price list: one for each tier, 0 to PINORANGE_MAX_TIER */
+#define PINORANGE_MAX_BASE 99999u /* the largest base price, in tenths of a cent; the smallest is 1 */
+#define PINORANGE_MAX_STEP 500    /* the largest step, up or down, in tenths of a cent */
 
 /* Sizes in 32-bit words, for r slots in each table and s stash places: the dictionary, and the scratch that insert, remove, check and trail borrow. The
  * words are r, s, the number of keys and that of the stashed ones; then the slots of table 0 and of table 1, three words each: key, next number, tier; then
@@ -102,6 +106,36 @@ uint32_t pinorange_stash(const uint32_t *words, size_t words_length, uint32_t *o
  * dictionary: with these 11 is never answered. */
 uint32_t pinorange_trail(const uint16_t *tabulation, size_t tabulation_length, const uint32_t *words, size_t words_length,
                          uint32_t *scratch, size_t scratch_length, uint32_t key, uint32_t *trail, size_t trail_length, uint32_t *count);
+
+/* The record of a sale: what a head keeps from nozzle lift to hang-up. It is the caller's own memory, a plain struct, to be kept, copied and thrown away like
+ * any other: the library holds no sale, and no word of a dictionary shows that one is open. */
+struct pinorange_sale {
+    uint32_t key;   /* the card */
+    uint32_t tier;  /* the tier at which it was listed at nozzle lift, 0 to PINORANGE_MAX_TIER */
+    uint32_t price; /* the price of a litre in this sale, in tenths of a cent: at least 1 */
+};
+
+/* Opens a sale: what a head does at nozzle lift, when it has read the card.
+ *
+ * `base` is the base price, 1 to PINORANGE_MAX_BASE tenths of a cent; `steps[t]` is what tier t adds to it, -PINORANGE_MAX_STEP to PINORANGE_MAX_STEP, for the
+ * PINORANGE_STEPS tiers. All eight must be in their range, those of other tiers, too. The price of a litre is `base + steps[tier]`, tier being the one that
+ * pinorange_lookup tells: on a canonical image that of the set.
+ * Between nozzle lift and hang-up: show the price of the record and count litres by it, keep the record, and call what you like. Keys may be inserted and
+ * removed meanwhile, this one, too, and prices may change: neither changes the record, and opening or closing changes no word. So the head's list stays equal
+ * to that of any other head with the same set, whoever is filling up. There may be any number of open sales, of one key, too: each has its own record.
+ *
+ * Reads: the tabulation, the words and the steps, of any length and content. Writes: nothing but `*sale`. No scratch, no counters.
+ * Done (0): `*sale` holds the key, its tier and the price.
+ * Refused (1, 2, 5, 7, 4 or 12, tried in that order): `*sale` stays as it was; it need not have been written before. 4 only where the tier word that lookup
+ *   finds is above PINORANGE_MAX_TIER: words that are no canonical image in another way are not found out here (pinorange_check does that).
+ * PINORANGE_WRONG_PRICE (12): `base` or one of the steps is outside its range, `steps_length` is not PINORANGE_STEPS, or the price for this key's tier would be
+ *   below 1. */
+uint32_t pinorange_open_sale(const uint16_t *tabulation, size_t tabulation_length, const uint32_t *words, size_t words_length, uint32_t key,
+                             uint32_t base, const int32_t *steps, size_t steps_length, struct pinorange_sale *sale);
+
+/* Closes a sale: what a head does at hang-up. Gives the price of the record, whatever happened since it was opened, though the card may be gone from the list.
+ * Never refused; it reads nothing but `*sale` and writes nothing, so that it may be asked as often as you like. */
+uint32_t pinorange_close_sale(const struct pinorange_sale *sale);
 
 /* Writes the house tabulation into a lent one of PINORANGE_TABULATION_LENGTH entries. Refused (1): another length, and it stays. */
 uint32_t pinorange_house(uint16_t *tabulation, size_t tabulation_length);

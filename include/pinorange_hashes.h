@@ -14,7 +14,7 @@ extern "C" {
 #endif
 
 /* The version of the library and of the layout of the words. Heads whose first numbers differ must not be mixed: see CHANGELOG.md. */
-#define PINORANGE_VERSION "2.1.0"
+#define PINORANGE_VERSION "2.2.0"
 
 /* The numbers that a call answers. */
 #define PINORANGE_DONE 0u             /* accepted */
