@@ -1,12 +1,14 @@
 //! What a call gives back: accepted, one of the refusals of document 01's table (with those that
-//! requests One and Two add to it), or what a lookup found.
+//! requests One, Two and Four add to it), or what a lookup found.
 //! Every other module names refusals by this enum; the paper's numbers stand only here.
 
 /// Why a call was refused.
 ///
 /// Paper: the table under "What a call gives back". "They are tried in this order, and none is
-/// given otherwise." Request One puts 9 and 10 between 5 and 6, request Two 11 after 7; the
-/// variants stand in the order in which they are tried.
+/// given otherwise." Request One puts 9 and 10 between 5 and 6, request Two 11 after 7, request
+/// Four 12 after that; the variants stand in the order of this table, in which they are tried. Only
+/// opening a sale tries 4 after 7: "Opening checks as look-up does, then 7, then 4 if the tier
+/// found is above 7."
 #[derive(Clone, Copy, Debug, PartialEq, Eq, PartialOrd, Ord, Hash)]
 pub enum Refusal {
     /// Paper: 1, "wrong book": "book not 2,048 long".
@@ -18,7 +20,7 @@ pub enum Refusal {
     /// 12r + 8s".
     ShortScratch = 3,
     /// Paper: 4, "tampered": "the list is the canonical image of no set". (For the stash view: "4
-    /// when word 3 exceeds s".)
+    /// when word 3 exceeds s". For opening a sale, request Four: "4 if the tier found is above 7".)
     NotCanonical = 4,
     /// Paper: 5, "blank card": "number 0".
     BlankKey = 5,
@@ -29,10 +31,14 @@ pub enum Refusal {
     /// Paper: 6, "listed": "add of a card in the set".
     Listed = 6,
     /// Paper: 7, "not listed": "withdrawal of a card outside the set". Request Two asks the same of
-    /// a trail: "Checks run as for withdraw".
+    /// a trail: "Checks run as for withdraw". Opening a sale gives it where lookup finds no key:
+    /// request Four, "Opening a sale takes a listed card".
     NotListed = 7,
     /// Request Two: "11 (trail sheet shorter than the trail) after 7".
     ShortTrailSheet = 11,
+    /// Request Four: "12 (base or a step outside its range, or this card's price below 1) after
+    /// that".
+    WrongPrice = 12,
     /// Paper: 8, "full drawer": "the new set's canonical drawer would have more than s cards".
     FullStash = 8,
 }

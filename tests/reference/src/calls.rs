@@ -1,6 +1,7 @@
-//! The calls on a list: init, insert, remove, lookup, check, the stash view and the trail. All are
-//! total: tabulation, words, scratch and trail sheet may have any length and content. The engine
-//! given says how images and trails are worked out.
+//! The calls on a list: init, insert, remove, lookup, check, the stash view and the trail; request
+//! Four's opening of a sale stands in [`crate::sale`]. All are total: tabulation, words, scratch
+//! and trail sheet may have any length and content. The engine given says how images and trails are
+//! worked out.
 
 use crate::answer::{Answer, Found, Refusal};
 use crate::counters::Counters;

@@ -6,6 +6,7 @@ use crate::answer::{Answer, Found, Refusal};
 use crate::hash::TABULATION_LEN;
 use crate::image::Engine;
 use crate::layout::{Shape, HEADER_LEN};
+use crate::sale::{price, Sale};
 use crate::set::{members, Set, MAX_TIER};
 
 /// A call of a sequence, as the model is fed it.
@@ -13,7 +14,7 @@ use crate::set::{members, Set, MAX_TIER};
 /// Paper: "is fed each call's kind and arguments, what the sheet and the meter hold aside". Of a
 /// tabulation borrowed by a single call only the length counts: "One book of the right length goes
 /// through it; a call may lend one of a wrong length instead."
-#[derive(Clone, Copy, Debug, PartialEq, Eq)]
+#[derive(Clone, Debug, PartialEq, Eq)]
 pub enum Call {
     /// The paper's "add".
     Insert {
@@ -64,6 +65,24 @@ pub enum Call {
         /// Length of the borrowed trail sheet.
         trail_sheet_len: usize,
     },
+    /// Request Four's opening of a sale. As with a trail: by the paper's letter it stands in a
+    /// sequence only when it is refused, it changes no word either way, and the model answers it in
+    /// full.
+    Open {
+        /// Length of the borrowed tabulation.
+        tabulation_len: usize,
+        /// The key that the sale is for.
+        key: u32,
+        /// The base price.
+        base: u32,
+        /// The steps, of which there should be one for each tier.
+        steps: Vec<i32>,
+    },
+    /// Request Four's closing of a sale. It borrows nothing of the list, so any record will do.
+    Close {
+        /// The record.
+        sale: Sale,
+    },
     /// Paper: "any other call on it may stand there if it is refused".
     Other {
         /// The refusal the call gave.
@@ -83,6 +102,10 @@ pub enum Reply {
     Stash(Vec<u32>),
     /// To a trail: its keys, first key first.
     Trail(Result<Vec<u32>, Refusal>),
+    /// To the opening of a sale: the record.
+    Open(Result<Sale, Refusal>),
+    /// To the closing of a sale, which is never refused: the price.
+    Close(u32),
 }
 
 /// The reference model.
@@ -149,6 +172,11 @@ impl<E: Engine> Model<E> {
             Call::Trail { tabulation_len, scratch_len, key, trail_sheet_len } => {
                 Reply::Trail(self.try_trail(tabulation_len, scratch_len, key, trail_sheet_len))
             }
+            Call::Open { tabulation_len, key, base, ref steps } => {
+                Reply::Open(self.try_open(tabulation_len, key, base, steps))
+            }
+            // Request Four: "closing gives the record's price, though the card may have gone".
+            Call::Close { sale } => Reply::Close(sale.price),
             // Paper: "For a call of another kind nothing is tried: the register is fed the refusal,
             // answers it, and the set stays."
             Call::Other { refusal } => Reply::Answer(Err(refusal)),
@@ -216,6 +244,22 @@ impl<E: Engine> Model<E> {
             return Err(Refusal::ShortTrailSheet);
         }
         Ok(trail)
+    }
+
+    /// Request Four: "Opening checks as look-up does, then 7, then 4 if the tier found is above 7.
+    /// Answers: 12 [..] after that." No tier of the set is above 7: "2 and 4 never do".
+    fn try_open(
+        &self,
+        tabulation_len: usize,
+        key: u32,
+        base: u32,
+        steps: &[i32],
+    ) -> Result<Sale, Refusal> {
+        let Found::Listed(tier) = self.try_lookup(tabulation_len, key)? else {
+            return Err(Refusal::NotListed);
+        };
+        let price = price(tier, base, steps)?;
+        Ok(Sale { key, tier, price })
     }
 
     fn image(&self, set: &Set) -> Option<Vec<u32>> {

@@ -1,5 +1,5 @@
 //! What the tests share: the two engines, lists written out by hand, a list with everything that
-//! its calls borrow, and tallies that must not stay at zero.
+//! its calls borrow, prices of sales, and tallies that must not stay at zero.
 
 use std::collections::{BTreeMap, BTreeSet};
 
@@ -10,6 +10,7 @@ use reference::fast::Fast;
 use reference::graph::{reachable, Edge};
 use reference::image::{Engine, Slow};
 use reference::rng::Rng;
+use reference::sale::{self, Sale};
 use reference::set::Member;
 
 /// Both engines with their names.
@@ -108,6 +109,10 @@ impl<'a> Harness<'a> {
         Ok(trail_sheet)
     }
 
+    pub fn open(&self, key: u32, base: u32, steps: &[i32]) -> Result<Sale, Refusal> {
+        sale::open(&self.tabulation, &self.words, key, base, steps)
+    }
+
     fn change(
         &mut self,
         call: impl Fn(&dyn Engine, &[u16], &mut [u32], &mut [u32], &mut Counters) -> Answer,
@@ -151,6 +156,33 @@ impl Tally {
             assert!(self.0.get(what).is_some_and(|&times| times > 0), "{title}: no {what}");
         }
     }
+}
+
+/// The price that a sale at this tier has, and `None` where 12 is due. Deliberately not by `sale`.
+pub fn hand_price(tier: u32, base: u32, steps: &[i32]) -> Option<u32> {
+    let steps = <&[i32; 8]>::try_from(steps).ok()?;
+    let farthest = steps.iter().map(|step| step.unsigned_abs()).max()?;
+    let price = base.checked_add_signed(steps[tier as usize])?;
+    (base != 0 && base < 100_000 && farthest <= 500 && price != 0).then_some(price)
+}
+
+/// A base price and steps for an opening: right ones, of which small bases can come to a price
+/// below 1; now and then something at its limit or over it, or a wrong number of steps.
+pub fn random_prices(rng: &mut Rng) -> (u32, Vec<i32>) {
+    let base = match rng.below(10) {
+        0 => rng.pick(&[0, 100_000, u32::MAX]),
+        1 => rng.pick(&[1, 99_999]),
+        2..=4 => 1 + rng.below(500) as u32,
+        _ => 1 + rng.below(99_999) as u32,
+    };
+    let mut steps: Vec<i32> = (0..8).map(|_| rng.below(1_001) as i32 - 500).collect();
+    match rng.below(10) {
+        0 => steps[rng.below(8)] = rng.pick(&[-501, 501, i32::MIN, i32::MAX]),
+        1 => steps[rng.below(8)] = rng.pick(&[-500, 500]),
+        2 => steps.resize(rng.pick(&[0, 7, 9]), 0),
+        _ => {}
+    }
+    (base, steps)
 }
 
 /// Whether a key lies on a cycle: its slots hang together without it.

@@ -231,7 +231,7 @@ fn answered(model: &mut Model<Slow>, line: &str, line_number: usize, tally: &mut
         Reply::Lookup(Ok(Found::Listed(tier))) => tier.to_string(),
         Reply::Lookup(Ok(Found::Absent)) => "N".to_string(),
         Reply::Lookup(Err(refusal)) => format!("R{}", refusal.number()),
-        Reply::Stash(_) | Reply::Trail(_) => unreachable!("no view or trail was asked for"),
+        other => unreachable!("{other:?} was not asked for"),
     };
     tally.add(format!("{letter} {answer}"));
     format!("{line},{answer}\n")

@@ -1,12 +1,14 @@
 //! The order of refusals. An input is built with each combination of defects, and the first in the
 //! paper's order must be the answer. Some pairs cannot both apply by their nature: a blank key is
 //! in no set (5 with 6, 7, 8 or 10), and a listed key leaves the set as it is (6 or 10 with 8).
+//! Opening a sale has an order of its own.
 
 use reference::answer::{number, Answer, Found};
 use reference::calls::{check, insert, lookup, remove, stash, stash_answer, trail};
 use reference::counters::Counters;
 use reference::fast;
 use reference::image::Engine;
+use reference::sale::{open, Sale};
 use reference::samples::test_tabulation;
 
 use crate::common::{engines, hand_words, Tally};
@@ -208,6 +210,51 @@ fn trail_refuses_in_order() {
     }
     let wanted =
         ["trail 0", "trail 1", "trail 2", "trail 3", "trail 4", "trail 5", "trail 7", "trail 11"];
+    tally.report("order of refusals", &wanted);
+}
+
+/// Opens a sale for key 129, which is in the stash with tier 6, or for a key with a defect.
+///
+/// Request Four takes 4 from the tier found alone. As a defect all keys of the words have a tier
+/// above 7, and so the words are no image whether the key is listed or not (7).
+fn opened(defects: Defects, way: usize) -> Answer {
+    let (tabulation, mut words) = (input_tabulation(defects, way), input_words(defects, way));
+    for at in [9, 18, 29].into_iter().filter(|_| defects.has(4)) {
+        if let Some(tier) = words.get_mut(at) {
+            *tier = [8, 9, u32::MAX][way % 3];
+        }
+    }
+    let key = if input_key(defects) == 2 { 129 } else { input_key(defects) };
+    let (mut base, mut steps) = (500, vec![1, 2, 3, 4, 5, 6, -499, 8]);
+    if defects.has(12) {
+        match way {
+            0 => base = 0,
+            1 => base = 100_000,
+            2 => base = 499,
+            3 => steps[6] = 501,
+            4 => steps[2] = -501,
+            _ => steps.push(0),
+        }
+    }
+    let sale = open(&tabulation, &words, key, base, &steps)?;
+    assert_eq!(sale, Sale { key: 129, tier: 6, price: 1 });
+    Ok(())
+}
+
+#[test]
+fn opening_a_sale_refuses_in_order() {
+    // Request Four: "Opening checks as look-up does, then 7, then 4 if the tier found is above 7.
+    // Answers: 12 [..] after that."
+    const POSSIBLE: &[u32] = &[1, 2, 5, 7, 4, 12];
+    let mut tally = Tally::default();
+    for defects in Defects::all(POSSIBLE) {
+        for way in 0..WRONG_SHAPES {
+            let answer = number(opened(defects, way));
+            assert_eq!(answer, defects.first(POSSIBLE), "{:b}, way {way}", defects.0);
+            tally.add(format!("open {answer}"));
+        }
+    }
+    let wanted = ["open 0", "open 1", "open 2", "open 4", "open 5", "open 7", "open 12"];
     tally.report("order of refusals", &wanted);
 }
 

@@ -1,6 +1,6 @@
 //! Random sequences of calls on borrowed words against the reference model: every answer, the words
-//! after every call, the scratch, the trail sheet and the counters. Then calls on arbitrary
-//! borrowed memory.
+//! after every call, the scratch, the trail sheet, the counters and the sales that stay open. Then
+//! calls on arbitrary borrowed memory.
 
 use reference::answer::{number, Answer, Found, Refusal};
 use reference::calls::{check, init, insert, lookup, remove, stash, stash_answer, trail};
@@ -9,9 +9,11 @@ use reference::fast::{self, Fast};
 use reference::image::{Engine, Slow};
 use reference::model::{Call, Model, Reply};
 use reference::rng::Rng;
+use reference::sale::{close, open, Sale};
 use reference::samples::{random_keys, random_tabulation, random_tiers};
+use reference::set::Set;
 
-use crate::common::{engines, Tally};
+use crate::common::{engines, hand_price, random_prices, Tally};
 
 /// A tier for an insert: mostly one of three, so that a listed key comes again with its own tier
 /// and with another; now and then one above 7.
@@ -53,6 +55,8 @@ struct Sequence<'a> {
     counters: Counters,
     /// Always by the definition, whichever engine stands behind the calls.
     model: Model<Slow>,
+    /// The sales opened so far, each with its price worked out beside it.
+    sales: Vec<(Sale, u32)>,
 }
 
 impl<'a> Sequence<'a> {
@@ -68,7 +72,7 @@ impl<'a> Sequence<'a> {
             model.words(),
             "with no call at all the words are the image of the empty set"
         );
-        Sequence { engine, tabulation, r, s, words, counters, model }
+        Sequence { engine, tabulation, r, s, words, counters, model, sales: Vec::new() }
     }
 
     /// The sequence's tabulation, or now and then one of a wrong length.
@@ -100,7 +104,7 @@ impl<'a> Sequence<'a> {
         let (tabulation_len, scratch_len) = (tabulation.len(), scratch.len());
         let (key, trail_sheet) = (rng.below(10) as u32, self.input_trail_sheet(rng));
         let (words, counters) = (&mut self.words, &mut self.counters);
-        let (call, reply) = match rng.below(14) {
+        let (call, reply) = match rng.below(18) {
             0..=4 => {
                 let tier = input_tier(rng);
                 let answer =
@@ -131,6 +135,8 @@ impl<'a> Sequence<'a> {
                 let call = Call::Trail { tabulation_len, scratch_len, key, trail_sheet_len };
                 (call, Reply::Trail(keys))
             }
+            13 | 14 => return self.open(rng, &tabulation, key),
+            15 | 16 => return self.close(rng),
             _ => {
                 // A call of another kind that is refused: an init with another shape.
                 let (r, s) = rng.pick(&[
@@ -147,10 +153,33 @@ impl<'a> Sequence<'a> {
         assert!(scratch.iter().all(|&word| word == 0), "the scratch ends as zeros");
         (call, reply)
     }
+
+    /// Opens a sale with random prices and keeps it; mostly for a listed key instead of this one.
+    fn open(&mut self, rng: &mut Rng, tabulation: &[u16], key: u32) -> (Call, Reply) {
+        let listed: Vec<u32> = self.model.set().keys().copied().collect();
+        let key = if listed.is_empty() || rng.one_in(4) { key } else { rng.pick(&listed) };
+        let (base, steps) = random_prices(rng);
+        let opened = open(tabulation, &self.words, key, base, &steps);
+        if matches!(opened, Ok(_) | Err(Refusal::WrongPrice)) {
+            let price = hand_price(self.model.set()[&key], base, &steps);
+            assert_eq!(opened.ok().map(|sale| sale.price), price, "{base}, {steps:?}");
+            self.sales.extend(opened.ok().zip(price));
+        }
+        (Call::Open { tabulation_len: tabulation.len(), key, base, steps }, Reply::Open(opened))
+    }
+
+    /// Closes a sale opened before, perhaps not for the first time; before any opening, a record
+    /// that no opening gave.
+    fn close(&self, rng: &mut Rng) -> (Call, Reply) {
+        let no_sale = (Sale { key: 0, tier: 8, price: u32::MAX }, u32::MAX);
+        let (sale, price) = if self.sales.is_empty() { no_sale } else { rng.pick(&self.sales) };
+        assert_eq!(close(sale), price);
+        (Call::Close { sale }, Reply::Close(close(sale)))
+    }
 }
 
-/// A name for a call and its reply in the tally.
-fn label(call: &Call, reply: &Reply) -> String {
+/// A name for a call and its reply in the tally; the set is the one after the call.
+fn label(call: &Call, reply: &Reply, set: &Set) -> String {
     let kind = match call {
         Call::Insert { .. } => "insert",
         Call::Remove { .. } => "remove",
@@ -158,6 +187,13 @@ fn label(call: &Call, reply: &Reply) -> String {
         Call::Check { .. } => "check",
         Call::Stash => "stash",
         Call::Trail { .. } => "trail",
+        Call::Open { .. } => "open",
+        Call::Close { sale } if sale.key == 0 => "close, no sale",
+        Call::Close { sale } => match set.get(&sale.key) {
+            Some(&tier) if tier == sale.tier => "close, as listed",
+            Some(_) => "close, other tier",
+            None => "close, key gone",
+        },
         Call::Other { .. } => "other",
     };
     match reply {
@@ -169,6 +205,8 @@ fn label(call: &Call, reply: &Reply) -> String {
         Reply::Stash(_) => format!("{kind} filled"),
         Reply::Trail(Ok(keys)) => format!("{kind} of {}", keys.len().min(3)),
         Reply::Trail(Err(refusal)) => format!("{kind} {}", refusal.number()),
+        Reply::Open(opened) => format!("{kind} {}", number(opened.map(|_| ()))),
+        Reply::Close(_) => kind.to_string(),
     }
 }
 
@@ -189,13 +227,13 @@ fn sequences_answer_as_the_reference_model() {
     for (name, engine) in engines() {
         for _ in 0..if name == "slow" { 150 } else { 1_000 } {
             let mut sequence = Sequence::start(engine, &mut rng);
-            for _ in 0..rng.below(40) {
+            for _ in 0..rng.below(60) {
                 let counters = sequence.counters;
                 let (call, reply) = sequence.call(&mut rng);
                 assert_eq!(sequence.model.feed(&call), reply, "{name}, {call:?}");
                 assert_eq!(sequence.words, sequence.model.words(), "{name}, {call:?}");
                 assert_eq!(sequence.counters, counted(counters, &call, &reply), "{name}, {call:?}");
-                tally.add(label(&call, &reply));
+                tally.add(label(&call, &reply, sequence.model.set()));
             }
             tally.add("sequences");
         }
@@ -235,6 +273,15 @@ fn sequences_answer_as_the_reference_model() {
         "trail 5",
         "trail 7",
         "trail 11",
+        "open 0",
+        "open 1",
+        "open 5",
+        "open 7",
+        "open 12",
+        "close, as listed",
+        "close, other tier",
+        "close, key gone",
+        "close, no sale",
         "other 2",
     ];
     tally.report("sequences", &wanted);
@@ -287,6 +334,23 @@ fn almost_image(tabulation: &[u16], rng: &mut Rng) -> Option<Vec<u32>> {
     Some(words)
 }
 
+/// What opening a sale should give after what a lookup gave.
+fn opening_after(
+    found: Result<Found, Refusal>,
+    key: u32,
+    base: u32,
+    steps: &[i32],
+) -> Result<Sale, Refusal> {
+    match found? {
+        Found::Absent => Err(Refusal::NotListed),
+        Found::Listed(8..) => Err(Refusal::NotCanonical),
+        Found::Listed(tier) => {
+            let price = hand_price(tier, base, steps).ok_or(Refusal::WrongPrice)?;
+            Ok(Sale { key, tier, price })
+        }
+    }
+}
+
 /// What a call on arbitrary memory left.
 type Outcome = (Answer, Vec<u32>, Vec<u32>, Counters);
 
@@ -336,6 +400,12 @@ fn calls_are_total_and_the_engines_agree_on_any_memory() {
         assert!(checked.is_ok() || answer == checked, "1 to 4 as a check gives them");
         tally.add(format!("trail {}", number(answer)));
         assert_eq!(lookup(&tabulation, &words, key), fast::lookup(&tabulation, &words, key));
+        for key in 0..8 {
+            let (base, steps) = random_prices(&mut rng);
+            let opened = open(&tabulation, &words, key, base, &steps);
+            assert_eq!(opened, opening_after(lookup(&tabulation, &words, key), key, base, &steps));
+            tally.add(format!("open {}", number(opened.map(|_| ()))));
+        }
         tally.add(format!("stash {}", number(stash_answer(&words))));
         assert!(stash_answer(&words).is_ok() || stash(&words).is_empty());
     }
@@ -373,6 +443,13 @@ fn calls_are_total_and_the_engines_agree_on_any_memory() {
         "trail 5",
         "trail 7",
         "trail 11",
+        "open 0",
+        "open 1",
+        "open 2",
+        "open 4",
+        "open 5",
+        "open 7",
+        "open 12",
     ];
     tally.report("any memory", &wanted);
 }
