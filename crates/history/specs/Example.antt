@@ -6,8 +6,9 @@
 use Prim.Native.Nat.{ℕ}
 use mathlib.Core.Path.{_≡_, refl, sym, _∙_, ap}
 use mathlib.Core.Bool.{true}
-use mathlib.Core.List.{List, [], _∷_, map, List·Memᴰ·head as here, List·Memᴰ·tail as there}
+use mathlib.Core.List.{List, [], _∷_, _++_, map, List·Memᴰ·head as here, List·Memᴰ·tail as there}
 use native.Mathlib.Omega.{arith}
+use lib.IntN.{ℤ, pos, negsuc}
 use lib.ListN.{length, replicate, drop, getD}
 use Rattle.basics.specs.Sets.{without, below}
 use Rattle.cuckoo.specs.Graph.{label, joined, component, onCycle, cyclic, spare, settle, seated, root, sits, occupant}
@@ -20,7 +21,7 @@ use Rattle.tabulation.specs.Hash.{slots-in-range, blank, hash}
 use Rattle.tabulation.specs.Answer.{hashes-refusal, hashes-values}
 use Rattle.tabulation.specs.Slots.{slot-0, slot-1}
 use Rattle.layout.specs.Entries.{Entry, keys-of, tier-of}
-use Rattle.layout.specs.Layout.{Params, family, sizes-in-range, shaped, stash-of, fits, image, place-words}
+use Rattle.layout.specs.Layout.{Params, family, sizes-in-range, shaped, stash-of, fits, image, place-words, place-entries, tier-in}
 use Rattle.layout.specs.Answers.{view-refusal, view-of, fresh-refusal, fresh-words}
 use Rattle.layout.specs.Fitting.{without-valid, without-fits}
 use Rattle.layout.specs.Look.{image-view}
@@ -28,12 +29,15 @@ use Rattle.layout.specs.Board.{board-tabulation, board-length, board, plain, Sh
 use Rattle.outcome.specs.declared.Change.the-variants.{Insert, Remove}
 use Rattle.counters.specs.declared.Counters.{Counters}
 use Rattle.outcome.specs.Trail.{trail-in, trail-refusal, trail-outcome}
+use Rattle.outcome.specs.declared.Sale.{Sale}
+use Rattle.outcome.specs.Sale.{all-in-range, unpriced, sale-refusal, sale-of, sale-values}
 use Rattle.outcome.specs.Board.{shown-trail}
 use Rattle.history.specs.Calls.{own, wrong, Call, Answer, Step, step, run, words-after, words-left}
 use Rattle.history.specs.Calls.{refused, unchanged, Allowed, none, more, Sequence}
 use Rattle.history.specs.Model.{Request, requests, Reply, reply, model, set-after, set-left}
 use Rattle.history.specs.History.{history}
 use Rattle.history.specs.NoTrace.{ComesToFull, step-after, NoTrace, part, alike-self, no-trace}
+use Rattle.history.specs.Sales.{opening, closing, sale-stays}
 use Rattle.history.specs.Corollaries.{same-answers}
 use Rattle.history.specs.Others.{init, reads, hashes, trail, trail-stands}
 
@@ -344,3 +348,21 @@ same-end = leaves-no-trace .same-words other-sequence .1 (set-is ∙ sym other-s
 pub same-then : (ds : List Call)
     → run board-tabulation (words-left P fresh calls) ds ≡ run board-tabulation (words-left P fresh other-calls) ds
 same-then ds = leaves-no-trace .same-later other-sequence (set-is ∙ sym other-set) (alike-self board-tabulation ds)
+
+-- a sale
+
+-- At the end of the first sequence a sale of 129 is opened, at a base price of 15,000 and with a step of -500 for its tier, 7:
+abbrev pub steps : List ℤ
+steps = pos 0 ∷ pos 0 ∷ pos 0 ∷ negsuc 249 ∷ pos 0 ∷ pos 20 ∷ pos 0 ∷ negsuc 499 ∷ []
+
+abbrev pub sale : Sale
+sale = record { key = 129; tier = 7; price = 14500 }
+
+pub sale-opened : step-after P fresh calls (Call.other (opening board-tabulation 129 15000 steps)) .answer ≡ says 0 (129 ∷ 7 ∷ 14500 ∷ [])
+unfolding step sale-refusal sale-values sale-of unpriced all-in-range tier-in place-entries shaped sizes-in-range slots-in-range hash blank board-tabulation
+sale-opened = rw words-are
+
+-- 129 is withdrawn; closing the sale gives 14,500.
+pub sale-closed : step-after P fresh (calls ++ (Call.other (opening board-tabulation 129 15000 steps) ∷ remove 129 ∷ [])) (Call.other (closing sale)) .answer
+    ≡ says 0 (14500 ∷ [])
+sale-closed = sale-stays sequence 129 15000 steps sale sale-opened .closing-says (remove 129 ∷ [])

@@ -4,15 +4,18 @@
 -- Assumes nothing.
 use Prim.Native.Nat.{ℕ}
 use mathlib.Core.Path.{_≡_, refl, sym, _∙_, ap}
-use mathlib.Core.List.{List, [], _∷_, _++_, map, List·Memᴰ as In}
+use mathlib.Core.Bool.{not}
+use mathlib.Core.List.{List, [], _∷_, _++_, List·Memᴰ as In}
 use lib.IntN.{ℤ, pos, _+ℤ_}
 use lib.ListN.{getD}
-use Rattle.refusals.specs.Refusal.{done}
-use Rattle.layout.specs.Entries.{Entry}
+use Rattle.basics.specs.Sets.{member}
+use Rattle.refusals.specs.Refusal.{done, blank-key, key-absent, wrong-price, first-refusal}
+use Rattle.tabulation.specs.Hash.{blank}
+use Rattle.layout.specs.Entries.{keys-of, tier-of}
 use Rattle.layout.specs.Layout.{Params}
 use Rattle.outcome.specs.declared.Sale.{Sale}
-use Rattle.outcome.specs.Sale.{record-values, sale-refusal, sale-of, sale-values, closed}
-use Rattle.outcome.specs.SaleLaws.{Priced, same-record, sale-done, opened-key, opened-priced, held-tier}
+use Rattle.outcome.specs.Sale.{record-values, unpriced, sale-refusal, sale-of, sale-values, closed}
+use Rattle.outcome.specs.SaleLaws.{Priced, same-record, sale-done, opened-key, opened-priced, held-sale, held-tier}
 use Rattle.history.specs.Calls.{Answer, Other, Call, Step, step, run, words-after, words-left, Allowed, none, more, Sequence}
 use Rattle.history.specs.Model.{set-left}
 use Rattle.history.specs.Others.{reads, reads-stands}
@@ -94,6 +97,14 @@ with-sales {P} {ws} acts q = record {
 -- and two sequences that differ in sales alone end in one set.
 pub same-set-left : {P : Params} {ws : List ℕ} (acts : List Act) → Sequence P ws (without-sales acts) → set-left P ws (all-calls acts) ≡ set-left P ws (without-sales acts)
 same-set-left {P} {ws} acts q = no-trace (with-sales acts q) .same-words q .0 (same-words-left (P .tabulation) ws acts)
+
+-- What an opening answers at the end of a sequence: it tries its refusals as the register would, "the set" being the register's.
+pub opening-number : {P : Params} {ws : List ℕ} {cs : List Call} → Sequence P ws cs → (key base : ℕ) (steps : List ℤ)
+    → let L = set-left P ws cs in
+    step-after P ws cs (Call.other (opening (P .tabulation) key base steps)) .answer .number
+    ≡ first-refusal ((blank-key, blank key) ∷ (key-absent, not (member key (keys-of L))) ∷ (wrong-price, unpriced base steps (tier-of L key)) ∷ [])
+unfolding step
+opening-number q key base steps = held-sale (history q .final) (q .full-length) key base steps
 
 -- A sale that is opened after the calls cs of a sequence, and what becomes of its record s.
 pub record SaleOf (P : Params) (ws : List ℕ) (cs : List Call) (key base : ℕ) (steps : List ℤ) (s : Sale) : Type 0 where
