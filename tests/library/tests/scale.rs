@@ -187,6 +187,7 @@ impl Board {
                 assert_eq!(trail, answer.clone().unwrap_or_default());
                 answer.map_or_else(Refusal::number, |_| 0)
             }
+            Reply::Open(_) | Reply::Close(_) => unreachable!("{call:?} is no call of a sale"),
         };
         assert_eq!(answer, expected, "the register answers {call:?} otherwise");
         assert_eq!(self.words, self.register.words(), "not the image of the register's set");
