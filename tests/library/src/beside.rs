@@ -1,14 +1,14 @@
-//! One call of the library beside the same call of the program by another hand: answer, every word, scratch, tabulation, counters and out-parameters, on
-//! memory with guards around every lent slice. The answers are counted, call by call.
+//! One call of the library beside the same call of the program by another hand: answer, every word, scratch, tabulation, steps, counters and out-parameters, on
+//! memory with guards around every lent slice and every record of a sale. The answers are counted, call by call.
 
 use reference::answer::{number, Found};
 use reference::counters::Counters as Meter;
 use reference::fast::Fast;
 
 use crate::guarded::Guarded;
-use crate::{Change, Counters};
+use crate::{Change, Counters, Sale};
 
-/// The calls.
+/// The calls that answer with a number. The closing of a sale gives a price, and is never refused.
 #[derive(Clone, Copy, Debug, PartialEq, Eq)]
 pub enum Kind {
     Init,
@@ -18,12 +18,13 @@ pub enum Kind {
     Lookup,
     Stash,
     Trail,
+    Open,
     Hashes,
     House,
 }
 
 /// The answers that each call can give, refusals in the order in which they are tried. Specification, "What a call gives back".
-pub const ANSWERS: [(Kind, &[u32]); 9] = [
+pub const ANSWERS: &[(Kind, &[u32])] = &[
     (Kind::Init, &[0, 2]),
     (Kind::Insert, &[0, 1, 2, 3, 4, 5, 9, 10, 6, 8]),
     (Kind::Remove, &[0, 1, 2, 3, 4, 5, 7]),
@@ -31,22 +32,36 @@ pub const ANSWERS: [(Kind, &[u32]); 9] = [
     (Kind::Lookup, &[0, 1, 2, 5]),
     (Kind::Stash, &[0, 2, 4]),
     (Kind::Trail, &[0, 1, 2, 3, 4, 5, 7, 11]),
+    (Kind::Open, &[0, 1, 2, 5, 7, 4, 12]),
     (Kind::Hashes, &[0, 1, 2, 5]),
     (Kind::House, &[0, 1]),
 ];
 
+/// The largest number that is an answer.
+const LARGEST: usize = 12;
+
 /// Marks an out-parameter that a refused call must leave.
 const OLD: u32 = 0xDEAD_BEEF;
 const GUARD: u32 = 0xABCD_1234;
+/// No step: where it is taken for one, the sale is refused.
+const GUARD_STEP: i32 = 0x0BAD_57E9;
+
+/// The record that an opening finds, and what stands around it.
+const OLD_SALE: Sale = Sale { key: OLD, tier: !OLD, price: OLD >> 1 };
+const GUARD_SALE: Sale = Sale { key: GUARD, tier: GUARD, price: GUARD };
 
 /// Calls the library beside the reference and counts the answers.
 #[derive(Default)]
 pub struct Beside {
-    seen: [[u64; 12]; 9],
+    seen: [[u64; LARGEST + 1]; ANSWERS.len()],
     /// Of the lookups that were not refused: how many did not find their key, and how many did.
     found: [u64; 2],
     /// Of the trails that were not refused: how many had no key, since theirs is stashed, how many had one key, and how many had more.
     trails: [u64; 3],
+    /// Of the sales that were opened: how many had a step below 0, how many one of 0, and how many one above.
+    steps: [u64; 3],
+    /// How many sales were closed.
+    closed: u64,
 }
 
 impl Beside {
@@ -61,7 +76,7 @@ impl Beside {
 
     /// How many calls there were.
     pub fn calls(&self) -> u64 {
-        self.seen.iter().flatten().sum()
+        self.seen.iter().flatten().sum::<u64>() + self.closed
     }
 
     /// How often a call gave an answer.
@@ -70,31 +85,42 @@ impl Beside {
     }
 
     /// Prints how often each call gave each answer. Fails where one of these calls never gave an answer that it can give; of lookups also where all found
-    /// their key, or none did, and of trails where none was empty, or none longer than one key.
+    /// their key, or none did, of trails where none was empty, or none longer than one key, and of openings where no step was below 0, none 0, or none above.
     pub fn report(&self, kinds: &[Kind]) {
-        for (kind, answers) in ANSWERS {
-            let seen = &self.seen[kind as usize];
-            if !kinds.contains(&kind) {
-                continue;
-            }
+        for (kind, answers) in ANSWERS.iter().filter(|(kind, _)| kinds.contains(kind)) {
+            let seen = &self.seen[*kind as usize];
             let counts: Vec<String> =
                 answers.iter().map(|a| format!("{a}: {}", seen[*a as usize])).collect();
             println!("{kind:?}: {}", counts.join(", "));
-            for answer in answers {
+            for answer in *answers {
                 assert!(seen[*answer as usize] > 0, "{kind:?} never answered {answer}");
             }
             let given: u64 = answers.iter().map(|a| seen[*a as usize]).sum();
             assert_eq!(given, seen.iter().sum::<u64>(), "{kind:?} gave an answer it cannot give");
-            if kind == Kind::Lookup {
+            self.report_done(*kind);
+        }
+    }
+
+    /// What a call that is not refused can tell: of some kinds all that must have come up.
+    fn report_done(&self, kind: Kind) {
+        match kind {
+            Kind::Lookup => {
                 let [no, yes] = self.found;
                 println!("{kind:?}: {yes} listed, {no} not listed");
                 assert!(yes > 0 && no > 0, "lookups found every key, or none");
             }
-            if kind == Kind::Trail {
+            Kind::Trail => {
                 let [empty, single, longer] = self.trails;
                 println!("{kind:?}: {empty} empty, {single} of one key, {longer} longer");
                 assert!(empty > 0 && longer > 0, "no trail was empty, or none longer than one key");
             }
+            Kind::Open => {
+                let [below, zero, above] = self.steps;
+                println!("{kind:?}: {below} with a step below 0, {zero} with 0, {above} above");
+                println!("{} closings", self.closed);
+                assert!(self.steps.iter().all(|times| *times > 0), "steps of one sign are missing");
+            }
+            _ => {}
         }
     }
 
@@ -232,6 +258,44 @@ impl Beside {
         (self.count(Kind::Trail, got), expected)
     }
 
+    /// An opening, over a record with marks: its answer, and the record, if a sale is opened. Refused, the record stays as it was.
+    pub fn open(
+        &mut self,
+        tabulation: &[u16],
+        words: &[u32],
+        key: u32,
+        base: u32,
+        steps: &[i32],
+    ) -> (u32, Option<Sale>) {
+        let opened = reference::sale::open(tabulation, words, key, base, steps).map(Sale::from);
+        let answer = number(opened.map(|_| ()));
+        let mut book = Guarded::new(tabulation, 0x5A5A);
+        let mut lent = Guarded::new(words, GUARD);
+        let mut price_list = Guarded::new(steps, GUARD_STEP);
+        let mut sale = Guarded::new(&[OLD_SALE], GUARD_SALE);
+        let record = &mut sale.lent()[0];
+        let got = crate::open_sale(book.lent(), lent.lent(), key, base, price_list.lent(), record);
+        let why = || format!("a sale of {key} at {base} with {steps:?} in {words:?}");
+        assert_eq!(got, answer, "{}", why());
+        assert_eq!(sale.content(), [opened.unwrap_or(OLD_SALE)], "{}", why());
+        assert_eq!((book.content(), lent.content()), (tabulation, words), "opening changed memory");
+        assert_eq!(price_list.content(), steps, "opening changed the steps");
+        if let Ok(sale) = opened {
+            self.steps[(sale.price.cmp(&base) as i8 + 1) as usize] += 1;
+        }
+        (self.count(Kind::Open, got), opened.ok())
+    }
+
+    /// The closing of a sale, or of any other record, which stays as it was: its price.
+    pub fn close(&mut self, sale: &Sale) -> u32 {
+        let mut record = Guarded::new(&[*sale], GUARD_SALE);
+        let got = crate::close_sale(&record.lent()[0]);
+        assert_eq!(got, reference::sale::close((*sale).into()), "closing of {sale:?}");
+        assert_eq!(record.content(), [*sale], "closing changed the record");
+        self.closed += 1;
+        got
+    }
+
     pub fn hashes(&mut self, tabulation: &[u16], r: u32, key: u32) -> u32 {
         let (answer, both) = match reference::hash::hashes(tabulation, r, key) {
             Ok(both) => (0, both),
@@ -253,6 +317,18 @@ impl Beside {
             assert_eq!((got, lent.content()), (1, &vec![3; length][..]));
         }
         self.count(Kind::House, got)
+    }
+}
+
+impl From<reference::sale::Sale> for Sale {
+    fn from(sale: reference::sale::Sale) -> Sale {
+        Sale { key: sale.key, tier: sale.tier, price: sale.price }
+    }
+}
+
+impl From<Sale> for reference::sale::Sale {
+    fn from(sale: Sale) -> reference::sale::Sale {
+        reference::sale::Sale { key: sale.key, tier: sale.tier, price: sale.price }
     }
 }
 

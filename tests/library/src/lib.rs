@@ -12,6 +12,15 @@ pub struct Counters {
     pub refused: u32,
 }
 
+/// The record of a sale, as it crosses.
+#[repr(C)]
+#[derive(Clone, Copy, Debug, PartialEq, Eq)]
+pub struct Sale {
+    pub key: u32,
+    pub tier: u32,
+    pub price: u32,
+}
+
 #[rustfmt::skip]
 extern "C" {
     fn pinorange_init(words: *mut u32, words_length: usize, r: u32, s: u32, counters: *mut Counters) -> u32;
@@ -40,6 +49,13 @@ extern "C" {
         tabulation: *const u16, tabulation_length: usize, words: *const u32, words_length: usize,
         scratch: *mut u32, scratch_length: usize, key: u32, trail: *mut u32, trail_length: usize, count: *mut u32,
     ) -> u32;
+
+    fn pinorange_open_sale(
+        tabulation: *const u16, tabulation_length: usize, words: *const u32, words_length: usize, key: u32,
+        base: u32, steps: *const i32, steps_length: usize, sale: *mut Sale,
+    ) -> u32;
+
+    fn pinorange_close_sale(sale: *const Sale) -> u32;
 
     fn pinorange_stash(words: *const u32, words_length: usize, offset: *mut u32, length: *mut u32) -> u32;
 
@@ -130,6 +146,22 @@ pub fn trail(tabulation: &[u16], words: &[u32], scratch: &mut [u32], key: u32, t
             scratch.as_mut_ptr(), scratch.len(), key, trail.as_mut_ptr(), trail.len(), count,
         )
     }
+}
+
+/// Opens a sale: writes its record.
+#[rustfmt::skip]
+pub fn open_sale(tabulation: &[u16], words: &[u32], key: u32, base: u32, steps: &[i32], sale: &mut Sale) -> u32 {
+    unsafe {
+        pinorange_open_sale(
+            tabulation.as_ptr(), tabulation.len(), words.as_ptr(), words.len(), key,
+            base, steps.as_ptr(), steps.len(), sale,
+        )
+    }
+}
+
+/// Closes a sale: gives its price.
+pub fn close_sale(sale: &Sale) -> u32 {
+    unsafe { pinorange_close_sale(sale) }
 }
 
 /// What the stash view answers, and the offset and length of the stretch that it names.
