@@ -1,12 +1,13 @@
 //! Tests at scale, against the program by another hand: random sequences of calls on small boards, where cycles and full stashes are common, and on the largest;
-//! extreme tabulations; two histories of one set; the same keys with other tiers; trails on sheets of all lengths, and the longest; damaged and random words.
-//! Every call is compared in answer, words, scratch, counters, out-parameters and guards, and every answer that a call can give must come up.
+//! extreme tabulations; two histories of one set; the same keys with other tiers; trails on sheets of all lengths, and the longest; sales that stay open while
+//! keys come and go, and prices at their limits; damaged and random words. Every call is compared in answer, words, scratch, counters, out-parameters and
+//! guards, and every answer that a call can give must come up.
 
 use std::collections::{BTreeMap, BTreeSet};
 
 use library::beside::{Beside, Kind};
 use library::Change::{Insert, Remove};
-use library::{change, fresh, scratch_length, words_length, Change, Counters};
+use library::{change, fresh, scratch_length, words_length, Change, Counters, Sale};
 use reference::answer::Refusal;
 use reference::fast::{image, Fast};
 use reference::hash::hashes;
@@ -69,6 +70,49 @@ fn trail_sheet(rng: &mut Rng, r: u32, count: usize) -> Vec<u32> {
     random_words(rng, length)
 }
 
+/// A price list for the tests that ask about tiers: every tier has a price of its own, and all are right.
+const BASE: u32 = 1_799;
+const STEPS: [i32; 8] = [0, -500, 500, -1, 1, 25, -25, 499];
+
+/// What an opening at these prices gives for a key that lookup finds with this tier, or does not find.
+fn sale_at(key: u32, tier: Option<u32>) -> (u32, Option<Sale>) {
+    match tier {
+        None => (7, None),
+        Some(8..) => (4, None),
+        Some(tier) => {
+            let price = [1_799, 1_299, 2_299, 1_798, 1_800, 1_824, 1_774, 2_298][tier as usize];
+            (0, Some(Sale { key, tier, price }))
+        }
+    }
+}
+
+/// A step that is in its range: often 0, or at a limit.
+fn random_step(rng: &mut Rng) -> i32 {
+    match rng.below(6) {
+        0 => 0,
+        1 => rng.pick(&[-500, 500]),
+        _ => rng.below(1_001) as i32 - 500,
+    }
+}
+
+/// A base price and steps for an opening: mostly right ones, of which the low bases can come to a price below 1; now and then one at its limit or outside it,
+/// or not eight steps.
+fn random_prices(rng: &mut Rng) -> (u32, Vec<i32>) {
+    let base = match rng.below(12) {
+        0 => rng.pick(&[0, 100_000, u32::MAX]),
+        1 => rng.pick(&[1, 99_999]),
+        2..=4 => 1 + rng.below(500) as u32,
+        _ => 1 + rng.below(99_999) as u32,
+    };
+    let mut steps: Vec<i32> = (0..8).map(|_| random_step(rng)).collect();
+    match rng.below(10) {
+        0 => steps[rng.below(8)] = rng.pick(&[-501, 501, i32::MIN, i32::MAX]),
+        1 => steps.resize(rng.below(10), 0),
+        _ => {}
+    }
+    (base, steps)
+}
+
 /// A dictionary in the middle of a sequence of calls, with the register that must answer the same.
 struct Board {
     r: u32,
@@ -78,6 +122,10 @@ struct Board {
     words: Vec<u32>,
     counters: Counters,
     register: Model<Fast>,
+    /// Some sales that are open, each with the price that the register gave.
+    sales: Vec<(Sale, u32)>,
+    /// Of the closings of sales: how many keys were listed as at the opening, how many at another tier, and how many not at all.
+    closed: [u64; 3],
 }
 
 impl Board {
@@ -89,7 +137,8 @@ impl Board {
         let mut counters = Counters { done: rng.next_u32(), refused: u32::MAX - 3 };
         assert_eq!(beside.init(&mut words, r, s, &mut counters), 0);
         let register = Model::new(Fast, &tabulation, r, s).expect("a sound book and sizes");
-        Board { r, s, tabulation, keys, words, counters, register }
+        let (sales, closed) = (Vec::new(), [0; 3]);
+        Board { r, s, tabulation, keys, words, counters, register, sales, closed }
     }
 
     /// What a call lends: mostly a sound book and enough scratch, now and then not.
@@ -116,8 +165,8 @@ impl Board {
         }
     }
 
-    /// A key to ask the trail of: half of the time one that is listed, where any is; else this one.
-    fn key_of_a_trail(&self, rng: &mut Rng, key: u32) -> u32 {
+    /// A key for a trail or a sale: half of the time one that is listed, where any is; else this one.
+    fn listed_or(&self, rng: &mut Rng, key: u32) -> u32 {
         let listed: Vec<u32> = self.register.set().keys().copied().collect();
         if listed.is_empty() || rng.one_in(2) {
             key
@@ -161,7 +210,7 @@ impl Board {
             }
             11 => (Call::Stash, beside.stash(&self.words)),
             12 | 13 => {
-                let key = self.key_of_a_trail(rng, key);
+                let key = self.listed_or(rng, key);
                 let sheet = self.trail_sheet(rng, key);
                 let trail_sheet_len = sheet.len();
                 let (answer, keys) = beside.trail(&book, &self.words, &scratch, key, &sheet);
@@ -193,6 +242,54 @@ impl Board {
         assert_eq!(self.words, self.register.words(), "not the image of the register's set");
     }
 
+    /// An opening, which the register answers, too. The last few sales stay open, and the one before them is closed.
+    fn open(&mut self, rng: &mut Rng, beside: &mut Beside) {
+        let (book, _, key) = self.lent(rng);
+        let key = self.listed_or(rng, key);
+        let (base, steps) = random_prices(rng);
+        let opened = beside.open(&book, &self.words, key, base, &steps);
+        let call = Call::Open { tabulation_len: book.len(), key, base, steps };
+        let Reply::Open(expected) = self.register.feed(&call) else { panic!("{call:?}") };
+        let answer = expected.map_or_else(Refusal::number, |_| 0);
+        assert_eq!(opened, (answer, expected.ok().map(Sale::from)), "{call:?}");
+        self.sales.extend(opened.1.zip(expected.ok().map(|sale| sale.price)));
+        if self.sales.len() > 4 {
+            let (sale, price) = self.sales.remove(0);
+            self.close(beside, sale, price);
+        }
+    }
+
+    /// The closing of a sale, at the price of its opening, whatever became of its key. It may be closed again later.
+    fn close(&mut self, beside: &mut Beside, sale: Sale, price: u32) {
+        assert_eq!(beside.close(&sale), price, "{sale:?}");
+        let call = Call::Close { sale: sale.into() };
+        assert_eq!(self.register.feed(&call), Reply::Close(price), "{call:?}");
+        let now = match self.register.set().get(&sale.key) {
+            Some(tier) if *tier == sale.tier => 0,
+            Some(_) => 1,
+            None => 2,
+        };
+        self.closed[now] += 1;
+    }
+
+    /// The closing of one of the open sales; where there is none, of a record that no opening gave.
+    fn close_any(&mut self, rng: &mut Rng, beside: &mut Beside) {
+        if self.sales.is_empty() {
+            let [key, tier, price] = [(); 3].map(|()| rng.next_u32());
+            assert_eq!(beside.close(&Sale { key, tier, price }), price);
+        } else {
+            let (sale, price) = rng.pick(&self.sales);
+            self.close(beside, sale, price);
+        }
+    }
+
+    /// The end of a sequence: the sales that are still open are closed.
+    fn close_all(&mut self, beside: &mut Beside) {
+        for (sale, price) in std::mem::take(&mut self.sales) {
+            self.close(beside, sale, price);
+        }
+    }
+
     /// One call on a copy of the words that is damaged; the sequence goes on with the sound ones.
     fn call_damaged(&self, rng: &mut Rng, beside: &mut Beside) {
         let (book, scratch, key) = self.lent(rng);
@@ -210,12 +307,16 @@ impl Board {
         if rng.one_in(12) {
             words.truncate(rng.below(words.len()));
         }
-        match rng.below(6) {
+        match rng.below(7) {
             0 => beside.change(Insert(tier), &book, &mut words, &scratch, &mut counters, key),
             1 => beside.change(Remove, &book, &mut words, &scratch, &mut counters, key),
             2 => beside.check(&book, &words, &scratch),
             3 => beside.lookup(&book, &words, key).0,
             4 => beside.trail(&book, &words, &scratch, key, &self.trail_sheet(rng, key)).0,
+            5 => {
+                let (base, steps) = random_prices(rng);
+                beside.open(&book, &words, self.listed_or(rng, key), base, &steps).0
+            }
             _ => beside.stash(&words),
         };
     }
@@ -226,19 +327,23 @@ impl Board {
 fn sequences_on_small_boards() {
     let mut rng = Rng::new(41);
     let mut beside = Beside::new();
+    let mut closed = [0; 3];
     for _ in 0..7_000 {
         let mut board = Board::random(&mut rng, &mut beside);
         for _ in 0..60 {
-            if rng.one_in(8) {
-                board.call_damaged(&mut rng, &mut beside);
-            } else {
-                board.call(&mut rng, &mut beside);
+            match rng.below(16) {
+                0 | 1 => board.call_damaged(&mut rng, &mut beside),
+                2 | 3 => board.open(&mut rng, &mut beside),
+                4 => board.close_any(&mut rng, &mut beside),
+                _ => board.call(&mut rng, &mut beside),
             }
             let r = rng.pick(&[0, 1, board.r, 1_024, 1_025]);
             let key = if rng.one_in(9) { 0 } else { rng.next_u32() };
             let end = if rng.one_in(9) { rng.below(2_048) } else { 2_048 };
             beside.hashes(&board.tabulation[..end], r, key);
         }
+        board.close_all(&mut beside);
+        closed = [0, 1, 2].map(|now| closed[now] + board.closed[now]);
     }
     println!("{} calls on small boards", beside.calls());
     assert!(beside.calls() > 800_000);
@@ -250,12 +355,16 @@ fn sequences_on_small_boards() {
         Kind::Lookup,
         Kind::Stash,
         Kind::Trail,
+        Kind::Open,
         Kind::Hashes,
     ]);
     for refusal in [9, 10, 6] {
         assert!(beside.given(Kind::Insert, refusal) > 5_000, "{refusal} is rare");
     }
     assert!(beside.given(Kind::Trail, 0) > 5_000 && beside.given(Kind::Trail, 11) > 2_000);
+    assert!(beside.given(Kind::Open, 0) > 5_000 && beside.given(Kind::Open, 12) > 2_000);
+    println!("sales closed with the key as at the opening, at another tier, gone: {closed:?}");
+    assert!(closed.iter().all(|times| *times > 300));
 }
 
 /// Thousands of calls at r = 1,024, from nearly empty to full.
@@ -289,7 +398,7 @@ fn sequences_on_the_largest_board() {
                 tier = any_tier(&mut rng);
             }
             let scratch = vec![rng.next_u32(); scratch_length(r, s)];
-            match rng.below(10) {
+            match rng.below(12) {
                 0..=2 => {
                     let answer = beside.change(
                         Insert(tier),
@@ -324,6 +433,14 @@ fn sequences_on_the_largest_board() {
                     let sheet = trail_sheet(&mut rng, r, count);
                     beside.trail(&tabulation, &words, &scratch, key, &sheet);
                 }
+                9 | 10 => {
+                    let (key, tier) = inside[at];
+                    let (base, steps) = random_prices(&mut rng);
+                    beside.open(&tabulation, &words, strange.0, base, &steps);
+                    beside.open(&tabulation, &words, key, base, &steps);
+                    let opened = beside.open(&tabulation, &words, key, BASE, &STEPS);
+                    assert_eq!(opened, sale_at(key, Some(tier)));
+                }
                 _ => {
                     let (key, tier) = inside[at];
                     assert_eq!(beside.lookup(&tabulation, &words, key), (0, Some(tier)));
@@ -333,13 +450,16 @@ fn sequences_on_the_largest_board() {
         assert_eq!(words[2] as usize, inside.len());
     }
     println!("{} calls at r = 1,024", beside.calls());
-    assert!(beside.calls() > 4_500);
+    assert!(beside.calls() > 6_000);
     for refusal in [9, 10, 6, 8] {
         assert!(beside.given(Kind::Insert, refusal) > 50, "{refusal} is rare");
     }
     let trails = [0, 7, 11].map(|answer| (answer, beside.given(Kind::Trail, answer)));
     println!("trails, answer and how often: {trails:?}");
     assert!(trails.iter().all(|(_, times)| *times > 50));
+    let sales = [0, 7, 12].map(|answer| (answer, beside.given(Kind::Open, answer)));
+    println!("openings, answer and how often: {sales:?}");
+    assert!(sales.iter().all(|(_, times)| *times > 50));
 }
 
 /// Every r under a tabulation of extremes, whose sums are the largest there are.
@@ -357,7 +477,8 @@ fn extreme_tabulations() {
         for key in [u32::MAX, 0x00FF_00FF, rng.next_u32().max(1), 1, rng.next_u32().max(1)] {
             let tier = random_tier(&mut rng);
             beside.change(Insert(tier), &tabulation, &mut words, &scratch, &mut counters, key);
-            beside.lookup(&tabulation, &words, key);
+            let (_, tier) = beside.lookup(&tabulation, &words, key);
+            assert_eq!(beside.open(&tabulation, &words, key, BASE, &STEPS), sale_at(key, tier));
             let sheet = random_words(&mut rng, 2 * r as usize);
             beside.trail(&tabulation, &words, &scratch, key, &sheet);
         }
@@ -431,7 +552,7 @@ fn trails_of(
     keys.iter().map(&mut trail).collect()
 }
 
-/// Two random histories of one set leave the same words, and those are the image of the set. Both tell the same trails.
+/// Two random histories of one set leave the same words, and those are the image of the set. Both tell the same trails, and give the same sales.
 #[test]
 fn two_histories_of_one_set() {
     let mut rng = Rng::new(44);
@@ -449,12 +570,18 @@ fn two_histories_of_one_set() {
         let mut trails =
             |words: &[u32]| trails_of(&mut rng, &mut beside, &tabulation, words, &keys);
         assert_eq!(trails(&one), trails(&two), "trails after two histories of {members:?}");
+        let (base, steps) = random_prices(&mut rng);
+        let mut sale = |words: &[u32], key: u32| beside.open(&tabulation, words, key, base, &steps);
+        for key in keys.iter().chain(&strangers) {
+            assert_eq!(sale(&one, *key), sale(&two, *key), "a sale of {key}, {members:?}");
+        }
         sets += 1;
         stashed += canonical[3];
     }
+    let [trails, sales] = [Kind::Trail, Kind::Open].map(|kind| beside.given(kind, 0));
     println!("{sets} sets by two histories each, {stashed} keys stashed");
-    println!("{} trails", beside.calls());
-    assert!(sets > 1_000 && stashed > 500 && beside.calls() > 10_000);
+    println!("{trails} trails, {sales} sales");
+    assert!(sets > 1_000 && stashed > 500 && trails > 10_000 && sales > 5_000);
 }
 
 /// The trails of all keys of many sets, on sheets of no word, one too few, just enough, 2r, and more: 11 exactly where the trail is longer than the sheet.
@@ -594,6 +721,166 @@ fn the_same_keys_with_other_tiers() {
     assert!(sets > 500 && both > 100 && single > 100 && stashed > 20);
 }
 
+/// All eight steps 0, but for that of one tier.
+fn one_step(tier: u32, step: i32) -> [i32; 8] {
+    let mut steps = [0; 8];
+    steps[tier as usize] = step;
+    steps
+}
+
+/// What a sale at a tier must cost, or 12: by its base price, and the step of its tier, the others being 0.
+const LIMITS: [(u32, i32, Result<u32, u32>); 29] = [
+    (0, 0, Err(12)),
+    (0, 1, Err(12)),
+    (0, 500, Err(12)),
+    // 1, 0 and -1, with the smallest base
+    (1, 0, Ok(1)),
+    (1, -1, Err(12)),
+    (1, -2, Err(12)),
+    (1, 500, Ok(501)),
+    (1, 501, Err(12)),
+    // 1, 0 and -1, with the smallest step
+    (501, -500, Ok(1)),
+    (500, -500, Err(12)),
+    (499, -500, Err(12)),
+    (501, -501, Err(12)),
+    (1_000, -501, Err(12)),
+    (1_000, -500, Ok(500)),
+    (1_000, 500, Ok(1_500)),
+    (1_000, 501, Err(12)),
+    (1_000, i32::MIN, Err(12)),
+    (1_000, i32::MAX, Err(12)),
+    // the largest price
+    (99_999, 500, Ok(100_499)),
+    (99_999, 501, Err(12)),
+    (99_999, 0, Ok(99_999)),
+    (99_999, -500, Ok(99_499)),
+    // a wrong base is not made good by its step, nor by a sum that wraps
+    (100_000, 0, Err(12)),
+    (100_000, -500, Err(12)),
+    (u32::MAX, 0, Err(12)),
+    (u32::MAX, 2, Err(12)),
+    (u32::MAX, -500, Err(12)),
+    (u32::MAX, i32::MIN, Err(12)),
+    (1 << 31, i32::MIN, Err(12)),
+];
+
+/// Prices at their limits, of a key at each tier: its own step, the step of each other tier, which must be in its range but may lead to a price below 1, and
+/// every number of steps up to nine.
+#[test]
+fn prices_at_their_limits() {
+    let mut beside = Beside::new();
+    let members: Vec<Member> = (0..8).map(|tier| (1_000 + tier, tier)).collect();
+    let words = image(&HOUSE, 8, 8, &members).expect("they fit");
+    for (key, tier) in members {
+        let mut price = |base, steps: &[i32]| {
+            let (answer, sale) = beside.open(&HOUSE, &words, key, base, steps);
+            sale.map_or(Err(answer), |sale| {
+                assert_eq!((sale.key, sale.tier), (key, tier));
+                Ok(sale.price)
+            })
+        };
+        for (base, step, expected) in LIMITS {
+            assert_eq!(price(base, &one_step(tier, step)), expected, "tier {tier}: {base}, {step}");
+        }
+        for other in (0..8).filter(|other| *other != tier) {
+            for step in [-501, 501, i32::MIN, i32::MAX] {
+                assert_eq!(price(1, &one_step(other, step)), Err(12), "{step} at {other}");
+            }
+            for step in [-500, -1, 500] {
+                assert_eq!(price(1, &one_step(other, step)), Ok(1), "{step} at {other}");
+            }
+        }
+        for length in 0..=9 {
+            let expected = if length == 8 { Ok(1_010) } else { Err(12) };
+            assert_eq!(price(1_000, &[10; 9][..length]), expected, "{length} steps");
+        }
+    }
+}
+
+/// Makes these changes on fresh words, and asks about the key of each; before each change `meanwhile` has the words. Gives all answers and what was told with
+/// them, the words and the counters.
+fn run(
+    tabulation: &[u16],
+    [r, s]: [u32; 2],
+    changes: &[(Change, u32)],
+    mut meanwhile: impl FnMut(&[u32]),
+) -> (Vec<u32>, Vec<u32>, Counters) {
+    let (mut words, mut counters, mut told) = (fresh(r, s), Counters::default(), Vec::new());
+    let mut scratch = vec![9; scratch_length(r, s)];
+    for (way, key) in changes {
+        meanwhile(&words);
+        told.push(library::update(*way, tabulation, &mut words, &mut scratch, &mut counters, *key));
+        let [mut listed, mut tier, mut count] = [9; 3];
+        let mut sheet = vec![9; 2 * r as usize];
+        told.push(library::lookup(tabulation, &words, *key, &mut listed, &mut tier));
+        told.push(library::check(tabulation, &words, &mut scratch));
+        told.push(library::trail(tabulation, &words, &mut scratch, *key, &mut sheet, &mut count));
+        told.extend([listed, tier, count]);
+        told.extend(sheet);
+    }
+    (told, words, counters)
+}
+
+/// The sales of a run: those that are open, each with its price, and how many were opened, refused and closed.
+#[derive(Default)]
+struct Till {
+    open: Vec<(Sale, u32)>,
+    opened: u64,
+    refused: u64,
+    closed: u64,
+}
+
+impl Till {
+    /// A few openings, and the closing of some of the sales that are open.
+    fn serve(&mut self, rng: &mut Rng, tabulation: &[u16], words: &[u32], keys: &[u32]) {
+        for _ in 0..rng.below(4) {
+            let (base, steps) = random_prices(rng);
+            let mut sale = Sale { key: 0, tier: 0, price: 0 };
+            let key = rng.pick(keys);
+            if library::open_sale(tabulation, words, key, base, &steps, &mut sale) == 0 {
+                let price = i64::from(base) + i64::from(steps[sale.tier as usize]);
+                self.open.push((sale, price as u32));
+                self.opened += 1;
+            } else {
+                self.refused += 1;
+            }
+        }
+        while !self.open.is_empty() && rng.one_in(2) {
+            let (sale, price) = self.open.swap_remove(rng.below(self.open.len()));
+            assert_eq!(library::close_sale(&sale), price, "{sale:?}");
+            self.closed += 1;
+        }
+    }
+}
+
+/// A run with openings and closings between its calls, and the same run without them: words, answers and counters are alike.
+#[test]
+fn sales_leave_no_trace() {
+    let mut rng = Rng::new(52);
+    let mut till = Till::default();
+    let mut done = 0;
+    for _ in 0..2_000 {
+        let sizes = [1 + rng.below(6) as u32, rng.below(4) as u32];
+        let tabulation = narrow_tabulation(&mut rng);
+        let keys = random_keys(&mut rng, 12);
+        let mut change = || {
+            let way = if rng.one_in(3) { Remove } else { Insert(any_tier(&mut rng)) };
+            (way, rng.pick(&keys))
+        };
+        let changes: Vec<(Change, u32)> = (0..40).map(|_| change()).collect();
+        till.open.clear();
+        let serve = |words: &[u32]| till.serve(&mut rng, &tabulation, words, &keys);
+        let with = run(&tabulation, sizes, &changes, serve);
+        let without = run(&tabulation, sizes, &changes, |_| ());
+        assert_eq!(with, without, "{changes:?}");
+        done += with.2.done;
+    }
+    let Till { opened, refused, closed, .. } = till;
+    println!("{done} changes; {opened} sales opened, {refused} refused, {closed} closed");
+    assert!(done > 20_000 && opened > 20_000 && refused > 20_000 && closed > 10_000);
+}
+
 /// A set of `count` keys of any size, ascending.
 fn any_keys(rng: &mut Rng, count: usize) -> Vec<u32> {
     let mut keys: Vec<u32> = (0..count).map(|_| rng.next_u32().max(1)).collect();
@@ -693,13 +980,32 @@ fn as_check(answer: u32) -> u32 {
     }
 }
 
+/// The answer of an opening on words that may be damaged, and of which check answers this: beyond a wrong shape only the tier counts that a lookup finds.
+fn damaged_sale(
+    beside: &mut Beside,
+    tabulation: &[u16],
+    words: &[u32],
+    key: u32,
+    checked: u32,
+) -> u32 {
+    let mut open = |key| beside.open(tabulation, words, key, BASE, &STEPS);
+    if checked == 2 {
+        assert_eq!([open(key), open(0)], [(2, None); 2], "{words:?}");
+        return 2;
+    }
+    let tier = copies(tabulation, words, key).first().copied();
+    assert_eq!([open(key), open(0)], [sale_at(key, tier), (5, None)], "{key} in {words:?}");
+    sale_at(key, tier).0
+}
+
 /// Each word of 300 small images changed to eight values: 2 for words 0 and 1, and otherwise as the reference says. Every kind of word, of filled and of empty
-/// slots and places, must be found out, by check and by trail, of a key of the set and of none.
+/// slots and places, must be found out, by check and by trail, of a key of the set and of none. A sale finds out the tier of its key alone.
 #[test]
 fn damages_of_one_word() {
     let mut rng = Rng::new(46);
     let mut beside = Beside::new();
     let mut tampered: BTreeMap<(Word, bool), u32> = BTreeMap::new();
+    let mut sales: BTreeMap<(u32, Word, u32), u32> = BTreeMap::new();
     let mut another = 0;
     for _ in 0..300 {
         let (r, s) = (1 + rng.below(4) as u32, rng.below(3) as u32);
@@ -722,6 +1028,9 @@ fn damages_of_one_word() {
                     let (traced, _) = beside.trail(&tabulation, &words, &scratch, asked, &sheet);
                     assert_eq!(as_check(traced), answer, "trail of {asked}, {value} at {at}");
                 }
+                let asked = if key == 0 { first } else { key };
+                let opened = damaged_sale(&mut beside, &tabulation, &words, asked, answer);
+                *sales.entry((answer, word, opened)).or_default() += 1;
                 match answer {
                     4 => *tampered.entry((word, key != 0)).or_default() += 1,
                     0 if words != sound => another += 1,
@@ -734,16 +1043,27 @@ fn damages_of_one_word() {
     // Headings stand with no key; every other word stands with one, or is empty.
     assert_eq!(tampered.len(), 11);
     assert!(tampered.values().all(|times| *times > 50) && another > 0);
+    println!("sales, by the answer of check, the word and their own answer: {sales:?}");
+    let words_of = |check, answer| {
+        let these = sales.keys().filter(|key| (key.0, key.2) == (check, answer));
+        these.map(|(_, word, _)| *word).collect::<Vec<Word>>()
+    };
+    // Words that are no image: a sale is refused with 4 for a tier alone, and can be opened whatever the damaged word is.
+    assert_eq!(words_of(4, 4), [Word::Tier, Word::StashTier]);
+    assert_eq!(words_of(4, 0).len(), 6);
+    assert_eq!(words_of(0, 4), []);
 }
 
 /// Each tier word of many small images changed: 4 beside an empty slot or place, above 7, and where the key's other slot has the old tier; else the words are
-/// the image of another set, which has this tier. Insert, remove and trail find it out, too, and lookup gives the first tier word as it stands.
+/// the image of another set, which has this tier. Insert, remove and trail find it out, too, and lookup gives the first tier word as it stands; a sale has the
+/// price of that one, and is refused with 4 exactly where it is above 7.
 #[test]
 fn damages_of_a_tier() {
     let mut rng = Rng::new(49);
     let mut beside = Beside::new();
     let mut counters = Counters::default();
     let mut times: BTreeMap<(Word, &str), u32> = BTreeMap::new();
+    let mut sales: BTreeMap<(&str, u32), u32> = BTreeMap::new();
     for _ in 0..400 {
         let (r, s) = (1 + rng.below(4) as u32, rng.below(4) as u32);
         let tabulation = narrow_tabulation(&mut rng);
@@ -773,6 +1093,9 @@ fn damages_of_a_tier() {
                 if key != 0 {
                     let first = copies(&tabulation, &words, key)[0];
                     assert_eq!(beside.lookup(&tabulation, &words, key), (0, Some(first)), "{why}");
+                    let opened = beside.open(&tabulation, &words, key, BASE, &STEPS);
+                    assert_eq!(opened, sale_at(key, Some(first)), "{why}: {words:?}");
+                    *sales.entry((why, opened.0)).or_default() += 1;
                 }
                 let asked = keys.first().copied().unwrap_or(9);
                 for way in [Insert(value), Insert(0), Remove] {
@@ -791,6 +1114,11 @@ fn damages_of_a_tier() {
     // In slots all four, in the stash all but unlike tiers, since no key stands there twice.
     assert_eq!(times.len(), 7);
     assert!(times.values().all(|times| *times > 30));
+    println!("sales: {sales:?}");
+    // A tier above 7 in a key's second slot is not met.
+    let expected = [("above 7", 0), ("above 7", 4), ("another set", 0), ("unlike tiers", 0)];
+    assert_eq!(sales.keys().copied().collect::<Vec<_>>(), expected);
+    assert!(sales.values().all(|times| *times > 30));
 }
 
 /// The tier words of all copies of a key that a lookup can meet, in word order: in its slot of table 0, in its slot of table 1, in the stash places.
@@ -838,6 +1166,11 @@ fn random_memory() {
                 None if answer == 0 => no += 1,
                 None => {}
             }
+            let opened = beside.open(&tabulation, &words, key, BASE, &STEPS);
+            let refused = (answer, None);
+            assert_eq!(opened, if answer == 0 { sale_at(key, found) } else { refused });
+            let (base, steps) = random_prices(&mut rng);
+            beside.open(&tabulation, &words, key, base, &steps);
             if !any_length {
                 let copies = copies(&tabulation, &words, key);
                 assert_eq!(found, copies.first().copied(), "{key} in {words:?}");
@@ -848,4 +1181,7 @@ fn random_memory() {
     println!("{} calls on random memory: lookups {yes} yes, {no} no", beside.calls());
     println!("{several} lookups of a key that stands with several tiers");
     assert!(yes > 5_000 && no > 5_000 && several > 1_000);
+    let sales = [0, 2, 7, 4, 12].map(|answer| (answer, beside.given(Kind::Open, answer)));
+    println!("openings, answer and how often: {sales:?}");
+    assert!(sales.iter().all(|(_, times)| *times > 1_000));
 }
