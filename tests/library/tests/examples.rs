@@ -1,9 +1,10 @@
 //! Worked examples through the built library: the edges of the sizes, and the test board of the specification, with tier 0 throughout and with others, and the
-//! trails of its keys.
+//! trails and the sales of its keys.
 
 use library::beside::{Beside, Kind};
 use library::Change::{Insert, Remove};
-use library::{change, fresh, lookup, scratch_length, stash, trail, words_length, Counters};
+use library::{change, close_sale, fresh, lookup, open_sale, scratch_length, stash, trail};
+use library::{words_length, Counters, Sale};
 use reference::samples::test_tabulation;
 use reference::set::Member;
 
@@ -167,6 +168,15 @@ fn tiers_on_the_test_board() {
     call(Insert(0), 193, 0, &other, [193, 0]);
 }
 
+/// The words of K5 with tiers: 1 and 65 on a cycle, at the tiers 3 and 0, and 129 in the stash, at tier 6. That is full.
+fn k5_with_tiers() -> Vec<u32> {
+    let mut words = fresh(4, 1);
+    for (key, tier) in [(1, 3), (65, 0), (129, 6)] {
+        assert_eq!(change(Insert(tier), &test_tabulation(), &mut words, key), 0);
+    }
+    words
+}
+
 /// Of all refusals that one insert deserves, the first in the order 4, 5, 9, 10, 6, 8 is given. A key that is listed keeps its tier.
 #[test]
 fn nine_and_ten_in_their_order() {
@@ -174,11 +184,7 @@ fn nine_and_ten_in_their_order() {
     let mut counters = Counters::default();
     let tabulation = test_tabulation();
     let scratch = vec![3; scratch_length(4, 1)];
-    // K5: the stash is full.
-    let mut words = fresh(4, 1);
-    for (key, tier) in [(1, 3), (65, 0), (129, 6)] {
-        assert_eq!(change(Insert(tier), &tabulation, &mut words, key), 0);
-    }
+    let mut words = k5_with_tiers();
     let mut insert = |words: &mut [u32], key, tier| {
         beside.change(Insert(tier), &tabulation, words, &scratch, &mut counters, key)
     };
@@ -322,8 +328,107 @@ fn the_refusals_of_a_trail_in_their_order() {
     beside.report(&[Kind::Trail]);
 }
 
+/// The steps of the sales below, from tier 0 to tier 7.
+const STEPS: [i32; 8] = [0, -10, 25, -50, 5, 120, 500, -500];
+
+/// Records of sales of K5, written out, before and after the opening: a card at 179.9 cents and the step of its tier, and refusals, which leave the record.
+#[test]
+fn records_of_sales_by_hand() {
+    let words = k5_with_tiers();
+    let old = [71, 72, 73];
+    for (key, base, answer, after) in [
+        (1, 1_799, 0, [1, 3, 1_749]),
+        (65, 1_799, 0, [65, 0, 1_799]),
+        (129, 1_799, 0, [129, 6, 2_299]),
+        (129, 99_999, 0, [129, 6, 100_499]),
+        (1, 51, 0, [1, 3, 1]),
+        (1, 50, 12, old),
+        (1, 49, 12, old),
+        (65, 1, 0, [65, 0, 1]),
+        (65, 0, 12, old),
+        (129, 100_000, 12, old),
+        (193, 1_799, 7, old),
+        (0, 1_799, 5, old),
+    ] {
+        let mut sale = Sale { key: 71, tier: 72, price: 73 };
+        let got = open_sale(&test_tabulation(), &words, key, base, &STEPS, &mut sale);
+        assert_eq!((got, [sale.key, sale.tier, sale.price]), (answer, after), "{key} at {base}");
+        assert_eq!(close_sale(&sale), after[2], "{key} at {base}");
+    }
+    assert_eq!(words, k5_with_tiers());
+}
+
+/// Sales that stay open while their cards go and come again at another tier: they are closed at the price of nozzle lift, and new ones have the new price. The
+/// list becomes what it would be without them.
+#[test]
+fn sales_that_stay_open() {
+    let tabulation = test_tabulation();
+    let mut words = k5_with_tiers();
+    let open = |words: &[u32], key| {
+        let mut sale = Sale { key: 71, tier: 72, price: 73 };
+        (open_sale(&tabulation, words, key, 1_799, &STEPS, &mut sale), sale)
+    };
+    let [(_, of_1), (_, of_129)] = [1, 129].map(|key| open(&words, key));
+    for key in [1, 129] {
+        assert_eq!(change(Remove, &tabulation, &mut words, key), 0);
+    }
+    assert_eq!(open(&words, 1), (7, Sale { key: 71, tier: 72, price: 73 }));
+    assert_eq!([close_sale(&of_1), close_sale(&of_129)], [1_749, 2_299]);
+    assert_eq!(change(Insert(7), &tabulation, &mut words, 1), 0);
+    let (answer, later) = open(&words, 1);
+    assert_eq!((answer, later), (0, Sale { key: 1, tier: 7, price: 1_299 }));
+    assert_eq!([close_sale(&of_1), close_sale(&later), close_sale(&of_129)], [1_749, 1_299, 2_299]);
+    let mut others = fresh(4, 1);
+    for (key, tier) in [(1, 7), (65, 0)] {
+        assert_eq!(change(Insert(tier), &tabulation, &mut others, key), 0);
+    }
+    assert_eq!(words, others);
+}
+
+/// Of all refusals that one opening deserves, the first in the order 1, 2, 5, 7, 4, 12 is given: one cause after the other is mended. Key 0 stands nowhere in
+/// the tampered words, whose tiers are all above 7, so that 5 goes with 7; where it stands beside such a tier, 5 goes with 4.
+#[test]
+fn the_refusals_of_a_sale_in_their_order() {
+    let mut beside = Beside::new();
+    let tabulation = test_tabulation();
+    let sound = k5_with_tiers();
+    // Key 0 has the slots 0 and 4, of which 4 is taken, as the one stash place is; the tiers are those of slot 1, slot 4 and the stash place.
+    let mut tampered = sound.clone();
+    tampered[4] = 2;
+    for (at, tier) in [(9, 8), (18, 9), (29, u32::MAX)] {
+        tampered[at] = tier;
+    }
+    let mut blank = tampered.clone();
+    (blank[4], blank[6]) = (0, 8);
+    let mut miscounted = sound.clone();
+    miscounted[2] += 1;
+    for (book, words, key, base, steps, answer) in [
+        (&tabulation[1..], &tampered[1..], 0, 0, &[][..], 1),
+        (&tabulation, &tampered[1..], 0, 0, &[], 2),
+        (&tabulation, &tampered, 0, 0, &[], 5),
+        (&tabulation, &blank, 0, 0, &[], 5),
+        (&tabulation, &tampered, 193, 0, &[], 7),
+        (&tabulation, &tampered, 1, 0, &[], 4),
+        (&tabulation, &tampered, 65, 0, &[], 4),
+        (&tabulation, &tampered, 129, 0, &[], 4),
+        (&tabulation, &tampered, 1, 1_799, &STEPS, 4),
+        (&tabulation, &sound, 193, 0, &[], 7),
+        (&tabulation, &sound, 1, 0, &[], 12),
+        (&tabulation, &sound, 1, 1_799, &STEPS[1..], 12),
+        (&tabulation, &sound, 1, 1_799, &STEPS, 0),
+        (&tabulation, &sound, 65, 1_799, &STEPS, 0),
+        (&tabulation, &sound, 129, 1_799, &STEPS, 0),
+        // no image, but the tier found is right
+        (&tabulation, &miscounted, 1, 1_799, &STEPS, 0),
+    ] {
+        let (got, _) = beside.open(book, words, key, base, steps);
+        assert_eq!(got, answer, "{key} at {base} with {steps:?}");
+    }
+    beside.report(&[Kind::Open]);
+}
+
 /// Key 17 in each of its two slots, in each of three stash places, and in a slot that is not its own, with a tier of its own in each: a lookup gives the first
-/// of the five where it may stand. The words are no image.
+/// of the five where it may stand, and a sale has its price, or is refused with 4. The words are no image.
 #[test]
 fn the_first_of_several_copies() {
     let mut beside = Beside::new();
@@ -339,6 +444,15 @@ fn the_first_of_several_copies() {
         }
         let first = (0..5).find(|bit| mask >> bit & 1 == 1).map(|bit| tiers[bit]);
         assert_eq!(beside.lookup(&tabulation, &words, 17), (0, first), "{mask:05b}");
+        let (answer, sale) = beside.open(&tabulation, &words, 17, 1_799, &STEPS);
+        let expected = match first {
+            None => (7, None),
+            Some(4) => (0, Some(1_804)),
+            Some(7) => (0, Some(1_299)),
+            Some(0) => (0, Some(1_799)),
+            Some(_) => (4, None),
+        };
+        assert_eq!((answer, sale.map(|sale| sale.price)), expected, "{mask:05b}");
         assert_eq!(beside.check(&tabulation, &words, &vec![1; scratch_length(4, 3)]), 4);
     }
 }
@@ -372,6 +486,9 @@ fn huge_headings_and_wrong_lengths() {
                 beside.lookup(&tabulation[1..], &words, 7);
                 beside.check(&tabulation, &words, &[1; 40]);
                 beside.trail(&tabulation, &words, &[1; 40], 4, &[2; 3]);
+                beside.open(&tabulation, &words, length as u32 % 3, 1_799, &STEPS);
+                beside.open(&tabulation, &words, 4, 1_799, &STEPS);
+                beside.open(&tabulation[1..], &words, 7, 1_799, &STEPS);
             }
         }
     }
