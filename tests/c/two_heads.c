@@ -1,5 +1,6 @@
-/* Two pump heads with different pasts: one loads a promotion and cancels it, and mends a card's tier, the other never saw any of it. Their lists are compared
- * word by word, as a station console does. Exits with 0 when they are alike, and when a third head with another set differs, and a fourth with other tiers. */
+/* Two pump heads with different pasts: one loads a promotion and cancels it, and mends a card's tier, while customers with such cards are filling up; the other
+ * never saw any of it. Their lists are compared word by word, as a station console does. Exits with 0 when they are alike, and when a third head with another
+ * set differs, and a fourth with other tiers; and when every sale is closed at the price that it was opened with. */
 #include "pinorange.h"
 
 #include <stdio.h>
@@ -54,6 +55,36 @@ static void expect_tier(const char *what, const struct head *h, uint32_t key, ui
     expect(what, tier, wanted);
 }
 
+/* The price of a litre is 179.9 cents and the step of the card's tier, in tenths of a cent. */
+#define BASE 1799u
+static const int32_t steps[PINORANGE_STEPS] = {0, -5, -10, -15, -20, -25, 15, -120};
+
+static uint32_t nozzle_lift(const struct head *h, uint32_t key, struct pinorange_sale *sale)
+{
+    return pinorange_open_sale(tabulation, PINORANGE_TABULATION_LENGTH, h->words, PINORANGE_WORDS(R, S), key, BASE, steps, PINORANGE_STEPS, sale);
+}
+
+/* Opens a sale: its record must hold this card, tier and price. */
+static struct pinorange_sale expect_sale(const char *what, const struct head *h, uint32_t key, uint32_t tier, uint32_t price)
+{
+    struct pinorange_sale sale = {7, 77, 777};
+    expect(what, nozzle_lift(h, key, &sale), PINORANGE_DONE);
+    expect(what, sale.key, key);
+    expect(what, sale.tier, tier);
+    expect(what, sale.price, price);
+    return sale;
+}
+
+/* Opens no sale, since the card is not listed: the record must stay as it was. */
+static void expect_no_sale(const char *what, const struct head *h, uint32_t key)
+{
+    struct pinorange_sale sale = {7, 77, 777};
+    expect(what, nozzle_lift(h, key, &sale), PINORANGE_KEY_ABSENT);
+    expect(what, sale.key, 7);
+    expect(what, sale.tier, 77);
+    expect(what, sale.price, 777);
+}
+
 /* The regular cards: number and tier. */
 static uint32_t number(uint32_t card)
 {
@@ -68,6 +99,7 @@ static uint32_t tier_of(uint32_t card)
 int main(void)
 {
     static struct head one, two, three, four;
+    struct pinorange_sale promotion, regular, later;
     uint32_t offset = 9, length = 9;
 
     expect("house", pinorange_house(tabulation, PINORANGE_TABULATION_LENGTH), PINORANGE_DONE);
@@ -88,9 +120,15 @@ int main(void)
     expect("listed", add(&two, number(1), tier_of(1)), PINORANGE_KEY_PRESENT);
     expect("blank", add(&two, 0, 0), PINORANGE_BLANK_KEY);
     expect("wrong tier", add(&two, number(1), PINORANGE_MAX_TIER + 1), PINORANGE_WRONG_TIER);
+
+    /* a customer with a card of the promotion, and one with card 5, lift their nozzles at head two; then the promotion is cancelled */
+    promotion = expect_sale("nozzle lift, promotion", &two, 900001u, 7, 1679);
+    regular = expect_sale("nozzle lift", &two, number(5), 2, 1789);
     for (uint32_t card = 1; card <= 20; card++)
         expect("cancelled", withdraw(&two, 900000u + card), PINORANGE_DONE);
     expect("not listed", withdraw(&two, 900001u), PINORANGE_KEY_ABSENT);
+    expect_no_sale("no sale of a cancelled card", &two, 900001u);
+    expect("hang-up, promotion", pinorange_close_sale(&promotion), 1679);
 
     /* card 5 came to head two at tier 2: an add with the right tier is refused and leaves it; withdrawn and added again it has the right one */
     expect("other tier", add(&two, number(5), tier_of(5)), PINORANGE_OTHER_TIER);
@@ -98,6 +136,7 @@ int main(void)
     expect("withdrawn", withdraw(&two, number(5)), PINORANGE_DONE);
     expect_tier("not listed", &two, number(5), 77);
     expect("added again", add(&two, number(5), tier_of(5)), PINORANGE_DONE);
+    later = expect_sale("nozzle lift at the right tier", &two, number(5), 5, 1774);
 
     /* head three: one card fewer; head four: every card, one of them at another tier */
     for (uint32_t card = 1; card <= 60; card++) {
@@ -106,6 +145,7 @@ int main(void)
         expect("add", add(&four, number(card), card == 60 ? 0 : tier_of(card)), PINORANGE_DONE);
     }
 
+    /* two sales of card 5 are open at head two, and none at head one */
     if (memcmp(one.words, two.words, sizeof one.words) != 0) {
         printf("two heads with the same cards at the same tiers differ\n");
         failures++;
@@ -118,6 +158,8 @@ int main(void)
         printf("two heads with the same cards at different tiers are alike\n");
         failures++;
     }
+    expect("hang-up", pinorange_close_sale(&regular), 1789);
+    expect("hang-up at the right tier", pinorange_close_sale(&later), 1774);
     expect("check", pinorange_check(tabulation, PINORANGE_TABULATION_LENGTH, two.words, PINORANGE_WORDS(R, S), scratch,
                                     PINORANGE_SCRATCH(R, S)), PINORANGE_DONE);
     for (uint32_t card = 1; card <= 60; card++)
@@ -132,7 +174,8 @@ int main(void)
     for (size_t i = 0; i < PINORANGE_SCRATCH(R, S); i++)
         expect("scratch", scratch[i], 0);
 
-    printf("two_heads.c: %d failures; both heads hold %u cards, %u of them in the stash\n", failures, (unsigned)two.words[2],
-           (unsigned)two.words[3]);
+    printf("two_heads.c: %d failures; both heads hold %u cards, %u of them in the stash; sales closed at %u with a cancelled card, at %u and %u with one whose "
+           "tier was mended\n", failures, (unsigned)two.words[2], (unsigned)two.words[3], (unsigned)promotion.price, (unsigned)regular.price,
+           (unsigned)later.price);
     return failures != 0;
 }
