@@ -1,7 +1,7 @@
 /* Every call on memory from malloc that is exactly as long as the call is told, from no word to one too many, with scratch that was never written, and with
- * sheets for trails that were not either. Run under a memory checker (tests/run does) it shows what no comparison of words can: that nothing is read or written
- * outside the lent ends, that no answer and no word depends on what the scratch held, and that a trail writes every word of its sheet. Exits with 0 when the
- * answers and the trails are as expected, too. */
+ * sheets for trails and records of sales that were not either. Run under a memory checker (tests/run does) it shows what no comparison of words can: that
+ * nothing is read or written outside the lent ends, that no answer and no word depends on what the scratch or the record held, and that a trail writes every
+ * word of its sheet, and an opening every field of its record. Exits with 0 when the answers, the trails and the prices are as expected, too. */
 #include "pinorange.h"
 
 #include <stdio.h>
@@ -68,7 +68,7 @@ static uint32_t change(const uint16_t *book, size_t book_length, uint32_t *words
     return answer;
 }
 
-/* What a trail is asked of: a tabulation, words, and how long the scratch is. */
+/* What a trail or a sale is asked of: a tabulation, words, and how long the scratch is, which a sale does not need. */
 struct board {
     const uint16_t *book;
     size_t book_length;
@@ -112,6 +112,48 @@ static void expect_refusal(const char *what, const struct board *board, uint32_t
     free(trail);
 }
 
+/* The steps of the tiers, and a few too many to lend. */
+static const int32_t all_steps[] = {-30, -20, -10, 0, 10, 20, 30, 40, 50, 60, 70, 80};
+#define ALL_STEPS (sizeof all_steps / sizeof *all_steps)
+
+/* Opens a sale with steps of its own, as many as are lent, which must stay. */
+static uint32_t open_sale(const struct board *board, uint32_t key, uint32_t base, size_t steps_length, struct pinorange_sale *sale)
+{
+    int32_t *steps = lend(steps_length * sizeof *steps);
+    uint32_t answer;
+    memcpy(steps, all_steps, steps_length * sizeof *steps);
+    answer = pinorange_open_sale(board->book, board->book_length, board->words, board->length, key, base, steps, steps_length, sale);
+    expect("the steps stay", memcmp(steps, all_steps, steps_length * sizeof *steps) == 0, 1);
+    free(steps);
+    return answer;
+}
+
+/* A sale over a record that was never written: it must hold the key, this tier and this price, at which it is closed. */
+static void expect_sale(const char *what, const struct board *board, uint32_t key, uint32_t base, uint32_t tier, uint32_t price)
+{
+    struct pinorange_sale *sale = lend(sizeof *sale);
+    expect(what, open_sale(board, key, base, PINORANGE_STEPS, sale), PINORANGE_DONE);
+    expect(what, sale->key, key);
+    expect(what, sale->tier, tier);
+    expect(what, sale->price, price);
+    expect(what, pinorange_close_sale(sale), price);
+    expect("closed again", pinorange_close_sale(sale), price);
+    free(sale);
+}
+
+/* A sale that is refused: over a record that was never written, on which the answer must not depend, and over a record that must stay. */
+static void expect_no_sale(const char *what, const struct board *board, uint32_t key, uint32_t base, size_t steps_length, uint32_t wanted)
+{
+    struct pinorange_sale *sale = lend(sizeof *sale);
+    expect(what, open_sale(board, key, base, steps_length, sale), wanted);
+    *sale = (struct pinorange_sale){1001, 1002, 1003};
+    expect(what, open_sale(board, key, base, steps_length, sale), wanted);
+    expect(what, sale->key, 1001);
+    expect(what, sale->tier, 1002);
+    expect(what, sale->price, 1003);
+    free(sale);
+}
+
 /* The key in that slot of a key where it does not sit: itself, if it sits in both. */
 static uint32_t beyond(const struct board *board, uint32_t r, uint32_t key)
 {
@@ -147,7 +189,20 @@ static uint32_t follow(const struct board *board, uint32_t r, uint32_t key)
     return count;
 }
 
-/* A dictionary filled, key i at tier i % 8, and emptied again; in between refused inserts, lookups, trails and views. */
+/* A sale of each key of a session, where it was accepted, and none where it was not; and a sale of the first one, which stays open. */
+static struct pinorange_sale *serve(const struct board *board, uint32_t keys)
+{
+    struct pinorange_sale *first = lend(sizeof *first);
+    for (uint32_t i = 1; i <= keys; i++)
+        if (accepted[i])
+            expect_sale("sale", board, i * 2654435761u, 1000, i % 8, (uint32_t)(1000 + all_steps[i % 8]));
+        else
+            expect_no_sale("not in the set", board, i * 2654435761u, i % 2, i % 10, PINORANGE_KEY_ABSENT);
+    expect("the first key", open_sale(board, 2654435761u, 500, PINORANGE_STEPS, first), PINORANGE_DONE);
+    return first;
+}
+
+/* A dictionary filled, key i at tier i % 8, and emptied again; in between refused inserts, lookups, trails, sales and views. */
 static void session(uint32_t r, uint32_t s, uint32_t keys)
 {
     size_t length = PINORANGE_WORDS(r, s), room = PINORANGE_SCRATCH(r, s);
@@ -155,6 +210,7 @@ static void session(uint32_t r, uint32_t s, uint32_t keys)
     uint32_t *words = lend(length * sizeof *words);
     const struct board board = {book, PINORANGE_TABULATION_LENGTH, words, length, room};
     struct pinorange_counters counters = {0, 0};
+    struct pinorange_sale *sale;
     uint32_t full = 0, empty = 0, longer = 0;
 
     expect("init", pinorange_init(words, length, r, s, &counters), PINORANGE_DONE);
@@ -191,6 +247,7 @@ static void session(uint32_t r, uint32_t s, uint32_t keys)
         }
     expect("empty trails, one for each stashed key", empty, words[3]);
     expect("some trails are longer than one key", longer > 0, 1);
+    sale = serve(&board, keys);
     for (uint32_t i = 1; i <= keys; i++) {
         uint32_t offset, count, answer = change(book, PINORANGE_TABULATION_LENGTH, words, length, room, i * 2654435761u, OUT);
         expect("remove", answer, accepted[i] ? PINORANGE_DONE : PINORANGE_KEY_ABSENT);
@@ -201,6 +258,9 @@ static void session(uint32_t r, uint32_t s, uint32_t keys)
     /* nothing is left: r, s and zeros */
     for (size_t i = 0; i < length; i++)
         expect("word", words[i], i == 0 ? r : i == 1 ? s : 0);
+    expect_no_sale("removed", &board, 2654435761u, 500, PINORANGE_STEPS, PINORANGE_KEY_ABSENT);
+    expect("the sale of a key that is gone", pinorange_close_sale(sale), 480);
+    free(sale);
     expect("most inserts were accepted", full < keys - keys / 3 + 1, 1);
     printf("r = %u, s = %u: %u inserts, %u of them refused with 8; %u empty trails, %u of more than one key\n", (unsigned)r, (unsigned)s, (unsigned)keys,
            (unsigned)full, (unsigned)empty, (unsigned)longer);
@@ -208,8 +268,49 @@ static void session(uint32_t r, uint32_t s, uint32_t keys)
     free(book);
 }
 
+/* Sales of the keys of the test board, by hand; refusals for the price; and for the key, with causes for those that are tried behind it. */
+static void test_sales(const struct board *board)
+{
+    struct pinorange_sale *sale = lend(sizeof *sale);
+    expect_sale("17", board, 17, 100, 0, 70);
+    expect_sale("193, stashed", board, 193, 100, 1, 80);
+    expect_sale("129", board, 129, 100, 3, 100);
+    expect_sale("65", board, 65, 100, 7, 140);
+    expect_sale("the smallest price", board, 17, 31, 0, 1);
+    expect_sale("the largest base", board, 65, PINORANGE_MAX_BASE, 7, PINORANGE_MAX_BASE + 40);
+    for (size_t steps_length = 0; steps_length <= ALL_STEPS; steps_length++)
+        if (steps_length != PINORANGE_STEPS)
+            expect_no_sale("12, steps", board, 17, 100, steps_length, PINORANGE_WRONG_PRICE);
+    expect_no_sale("12, price", board, 17, 30, PINORANGE_STEPS, PINORANGE_WRONG_PRICE);
+    expect_no_sale("12, price", board, 17, 29, PINORANGE_STEPS, PINORANGE_WRONG_PRICE);
+    expect_no_sale("12, base", board, 65, 0, PINORANGE_STEPS, PINORANGE_WRONG_PRICE);
+    expect_no_sale("12, base", board, 65, PINORANGE_MAX_BASE + 1, PINORANGE_STEPS, PINORANGE_WRONG_PRICE);
+    expect_no_sale("7", board, 2, 0, 0, PINORANGE_KEY_ABSENT);
+    expect_no_sale("5", board, 0, 0, 0, PINORANGE_BLANK_KEY);
+    sale->price = 480; /* neither key nor tier is ever written */
+    expect("closing needs the price alone", pinorange_close_sale(sale), 480);
+    free(sale);
+}
+
+/* The refusals that are left, on words of the test board whose tiers are all above 7; each with causes for those that are tried behind it. */
+static void test_refused_sales(const struct board *board)
+{
+    static const uint32_t keys[] = {17, 65, 129, 193};
+    struct board other = *board;
+    for (size_t i = 0; i < 4; i++) {
+        expect_no_sale("4", board, keys[i], 100, PINORANGE_STEPS, PINORANGE_NOT_CANONICAL);
+        expect_no_sale("4", board, keys[i], 0, i, PINORANGE_NOT_CANONICAL);
+    }
+    expect_no_sale("7", board, 2, 0, 7, PINORANGE_KEY_ABSENT);
+    expect_no_sale("5", board, 0, 0, 7, PINORANGE_BLANK_KEY);
+    other.length--;
+    expect_no_sale("2", &other, 0, 0, 7, PINORANGE_WRONG_SHAPE);
+    other.book_length--;
+    expect_no_sale("1", &other, 0, 0, 7, PINORANGE_WRONG_TABULATION);
+}
+
 /* The keys 17, 65 and 129 on the test board of the specification, and then 193 in the stash: their trails by hand, and every refusal of a trail, with causes
- * for those that are tried behind it. */
+ * for those that are tried behind it. Then their sales, which the tampering with a count does not touch, and tiers above 7 do. */
 static void test_board(void)
 {
     static const uint32_t of_17[] = {17, 65}, of_65[] = {65}, of_129[] = {129, 65};
@@ -247,6 +348,11 @@ static void test_board(void)
     expect_refusal("3", &(struct board){book, books, words, length, room - 1}, 0, 0, PINORANGE_SHORT_SCRATCH);
     expect_refusal("2", &(struct board){book, books, words, length - 1, room - 1}, 0, 8, PINORANGE_WRONG_SHAPE);
     expect_refusal("1", &(struct board){book, books - 1, words, length - 1, room - 1}, 0, 8, PINORANGE_WRONG_TABULATION);
+    test_sales(&board);
+    for (size_t slot = 0; slot < 8; slot++)
+        words[4 + 3 * slot + 2] = 8 + (uint32_t)slot;
+    words[29] = UINT32_MAX;
+    test_refused_sales(&board);
     free(words);
     free(book);
 }
@@ -275,6 +381,8 @@ static void lengths(uint32_t r, uint32_t s)
                            more ? PINORANGE_WRONG_TABULATION : shape ? shape : PINORANGE_KEY_ABSENT);
             expect_refusal("trail", &(struct board){house, PINORANGE_TABULATION_LENGTH, words, length, rooms}, 5, length % 3,
                            shape ? shape : more < 0 ? PINORANGE_SHORT_SCRATCH : PINORANGE_KEY_ABSENT);
+            expect_no_sale("sale", &(struct board){book, books, words, length, rooms}, 5, 100, length % 10,
+                           more ? PINORANGE_WRONG_TABULATION : shape ? shape : PINORANGE_KEY_ABSENT);
             expect("lookup", pinorange_lookup(book, books, words, length, 5, &listed, &tier), more ? PINORANGE_WRONG_TABULATION : shape);
             expect("listed", listed, more || shape ? 7 : 0);
             expect("tier", tier, 77);
