@@ -1,7 +1,8 @@
-/* What the largest dictionary costs in memory, added up and held to a pump head's 128 KiB. The words, scratch and tabulation are as long as the header says;
- * the stack is measured: every call runs on a stack that was painted before, and what is painted afterwards was not used. The longest trail that there is, of
- * 2,048 keys, has a painted stack of its own: its steps are calls in calls, so that it could take more the longer it is. The code's size comes in as CODE_BYTES
- * (tests/run takes it from `size`). Exits with 0 when all fits, and the longest trail's stack is below TRAIL_STACK_BYTES. */
+/* What the largest dictionary costs in memory, with one open sale, added up and held to a pump head's 128 KiB. The words, scratch and tabulation, the steps of
+ * the prices and the record of a sale are as long as the header says; the stack is measured: every call runs on a stack that was painted before, and what is
+ * painted afterwards was not used. The longest trail that there is, of 2,048 keys, has a painted stack of its own: its steps are calls in calls, so that it
+ * could take more the longer it is. The code's size comes in as CODE_BYTES (tests/run takes it from `size`). Exits with 0 when all fits, the longest trail's
+ * stack is below TRAIL_STACK_BYTES, and every sale was closed at its price. */
 #define _GNU_SOURCE
 #include "pinorange.h"
 
@@ -23,11 +24,25 @@ static uint16_t tabulation[PINORANGE_TABULATION_LENGTH];
 static struct pinorange_counters counters;
 static uint32_t accepted, other_tier;
 static uint32_t trail[2 * R], longest, short_answer;
+static const int32_t steps[PINORANGE_STEPS] = {-500, -10, 0, 10, 20, 30, 40, 500};
+static struct pinorange_sale sale;
+static uint32_t sales, closed_right;
 
 static unsigned char *base; /* where the calls' own stack begins: a local of the function that calls them */
 
 _Static_assert(sizeof words == 25104, "the words of the largest dictionary");
 _Static_assert(sizeof scratch == 51200, "the scratch of the largest dictionary");
+
+/* Sales of all keys, of those that are in the set and of those that are not; each that is opened is closed. */
+static void open_and_close(void)
+{
+    for (uint32_t i = 1; i <= 1800; i++)
+        if (pinorange_open_sale(tabulation, PINORANGE_TABULATION_LENGTH, words, PINORANGE_WORDS(R, S), i * 2654435761u, 1799, steps, PINORANGE_STEPS, &sale)
+            == PINORANGE_DONE) {
+            sales++;
+            closed_right += pinorange_close_sale(&sale) == (uint32_t)(1799 + steps[i % 8]);
+        }
+}
 
 /* Every call but the trail, the changes up to a full stash: with cycles, with full components, with refusals. */
 static void *other_calls(void *unused)
@@ -40,6 +55,7 @@ static void *other_calls(void *unused)
     for (uint32_t i = 1; i <= 1800; i++)
         accepted += pinorange_insert(tabulation, PINORANGE_TABULATION_LENGTH, words, PINORANGE_WORDS(R, S), scratch, PINORANGE_SCRATCH(R, S),
                                      &counters, i * 2654435761u, i % 8) == PINORANGE_DONE;
+    open_and_close();
     for (uint32_t i = 1; i <= 1800; i += 16)
         other_tier += pinorange_insert(tabulation, PINORANGE_TABULATION_LENGTH, words, PINORANGE_WORDS(R, S), scratch, PINORANGE_SCRATCH(R, S),
                                        &counters, i * 2654435761u, 7 - i % 8) == PINORANGE_OTHER_TIER;
@@ -117,13 +133,13 @@ int main(void)
     stack = other_stack < trail_stack ? trail_stack : other_stack;
     /* The stack is the deepest of all calls, the longest trail among them. The words of a trail are not counted: the caller lends them on the bench only, where
      * somebody asks why a key sits where it sits. */
-    sum = CODE_BYTES + sizeof words + sizeof scratch + sizeof tabulation + sizeof counters + stack;
+    sum = CODE_BYTES + sizeof words + sizeof scratch + sizeof tabulation + sizeof counters + sizeof steps + sizeof sale + stack;
 
-    printf("code and constants %u\nwords %zu\nscratch %zu\ntabulation %zu\ncounters %zu\nstack %zu\n", CODE_BYTES, sizeof words, sizeof scratch,
-           sizeof tabulation, sizeof counters, stack);
+    printf("code and constants %u\nwords %zu\nscratch %zu\ntabulation %zu\ncounters %zu\nsteps %zu\nsale %zu\nstack %zu\n", CODE_BYTES, sizeof words,
+           sizeof scratch, sizeof tabulation, sizeof counters, sizeof steps, sizeof sale, stack);
     printf("stack of the longest trail %zu\nstack of the other calls %zu\n", trail_stack, other_stack);
-    printf("memory.c: %zu of %u bytes; %u keys accepted, %u calls refused, %u of them for another tier; the longest trail has %u keys\n", sum, HEAD_BYTES,
-           (unsigned)accepted, (unsigned)counters.refused, (unsigned)other_tier, (unsigned)longest);
+    printf("memory.c: %zu of %u bytes; %u keys accepted, %u calls refused, %u of them for another tier; the longest trail has %u keys; %u sales\n", sum,
+           HEAD_BYTES, (unsigned)accepted, (unsigned)counters.refused, (unsigned)other_tier, (unsigned)longest, (unsigned)sales);
     return sum > HEAD_BYTES || trail_stack >= TRAIL_STACK_BYTES || !is_longest() || accepted < 1200 || other_tier == 0
-           || counters.refused == other_tier;
+           || counters.refused == other_tier || sales != accepted || closed_right != sales;
 }
