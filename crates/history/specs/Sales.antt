@@ -1,6 +1,6 @@
 -- Sales in a sequence of calls (document 02, "Four"): the opening of a sale and its closing are calls that only read the words. Closing gives the price of
 -- the opening, whatever was called in between; and "The list never shows that a sale is open": a run with sales and the run without them leave the same words
--- and give the same answers. `Act`, `all-calls`, `without-sales` and `others` are what a reader must believe, with the definitions of outcome/specs/Sale.antt.
+-- and give the same answers. The definitions, which a reader must believe with those of outcome/specs/Sale.antt, come first.
 -- Assumes nothing.
 use Prim.Native.Nat.{ℕ}
 use mathlib.Core.Path.{_≡_, refl, sym, _∙_, ap}
@@ -62,6 +62,20 @@ others (call c ∷ acts) (o ∷ os) = o ∷ others acts os
 others (opens tabulation key base steps ∷ acts) (o ∷ os) = others acts os
 others (closes s ∷ acts) (o ∷ os) = others acts os
 
+-- A sale that is opened after the calls cs of a sequence, and what becomes of its record s.
+pub record SaleOf (P : Params) (ws : List ℕ) (cs : List Call) (key base : ℕ) (steps : List ℤ) (s : Sale) : Type 0 where
+  -- "The sale record holds card, tier and litre price": the card, listed, with the tier of the register's set,
+  pub of-key : s .key ≡ key
+  pub of-set : In (record { key = key; tier = s .tier }) (set-left P ws cs)
+  -- and the price, which is base plus the tier's step.
+  pub priced : Priced base steps s
+  -- "Adds and withdrawals are allowed while sales are open; closing gives the record's price, though the card may have gone": after whatever calls ds.
+  pub closing-says : (ds : List Call)
+      → step-after P ws (cs ++ (Call.other (opening (P .tabulation) key base steps) ∷ ds)) (Call.other (closing s)) .answer
+      ≡ record { number = done; values = s .price ∷ [] }
+
+-- The laws
+
 -- "The list never shows that a sale is open": on any words, the same words are left, and each other call answers and leaves the same.
 pub same-words-left : (t ws : List ℕ) (acts : List Act) → words-after t ws (all-calls acts) ≡ words-after t ws (without-sales acts)
 unfolding words-after all-calls without-sales step
@@ -106,19 +120,7 @@ pub opening-number : {P : Params} {ws : List ℕ} {cs : List Call} → Sequence 
 unfolding step
 opening-number q key base steps = held-sale (history q .final) (q .full-length) key base steps
 
--- A sale that is opened after the calls cs of a sequence, and what becomes of its record s.
-pub record SaleOf (P : Params) (ws : List ℕ) (cs : List Call) (key base : ℕ) (steps : List ℤ) (s : Sale) : Type 0 where
-  -- "The sale record holds card, tier and litre price": the card, listed, with the tier of the register's set,
-  pub of-key : s .key ≡ key
-  pub of-set : In (record { key = key; tier = s .tier }) (set-left P ws cs)
-  -- and the price, which is base plus the tier's step.
-  pub priced : Priced base steps s
-  -- "Adds and withdrawals are allowed while sales are open; closing gives the record's price, though the card may have gone": after whatever calls ds.
-  pub closing-says : (ds : List Call)
-      → step-after P ws (cs ++ (Call.other (opening (P .tabulation) key base steps) ∷ ds)) (Call.other (closing s)) .answer
-      ≡ record { number = done; values = s .price ∷ [] }
-
--- Every opening of a sequence that is not refused gives such a sale.
+-- Every opening of a sequence that is not refused gives such a sale (`SaleOf`).
 pub sale-stays : {P : Params} {ws : List ℕ} {cs : List Call} → Sequence P ws cs → (key base : ℕ) (steps : List ℤ) (s : Sale)
     → step-after P ws cs (Call.other (opening (P .tabulation) key base steps)) .answer ≡ record { number = done; values = record-values s }
     → SaleOf P ws cs key base steps s
