@@ -134,3 +134,34 @@ module _ (ws : List ℕ) (v w key : ℕ) {x y : Bool} (first : x ≡ eqb key (sl
       go true y h a b z = absurd (true≢false h)
       go false true h a b z = absurd (true≢false h)
       go false false h a b z = refl
+
+-- What is found by the two slots, i and j, each tested, and behind them in the stash.
+module _ (ws : List ℕ) (i j key : ℕ) {x y : Bool} (first : x ≡ eqb key (slot-entry ws i .key)) (second : y ≡ eqb key (slot-entry ws j .key)) where
+  both-listed : (x || y) ≡ true → {t : ℕ} → t ≡ tier-of (slot-entry ws i ∷ slot-entry ws j ∷ stash-entries ws) key
+      → 1 ∷ t ∷ [] ≡ looked-up (slot-entry ws i ∷ slot-entry ws j ∷ stash-entries ws) key
+  both-listed h {t} e = rw (sym e, ← first, ← second) (go x y h (member key (keys-of (stash-entries ws))))
+    where
+      go : (x y : Bool) → (x || y) ≡ true → (m : Bool) → 1 ∷ t ∷ [] ≡ cond (x || (y || m)) (1 ∷ t ∷ []) (0 ∷ [])
+      go true y h m = refl
+      go false true h m = refl
+      go false false h m = absurd (true≢false (sym h))
+
+  neither-listed : (x || y) ≡ false → looked-up (stash-entries ws) key ≡ looked-up (slot-entry ws i ∷ slot-entry ws j ∷ stash-entries ws) key
+  neither-listed h = two-missed (slot-entry ws i) (slot-entry ws j) (stash-entries ws) key (rw (← first, ← second) (go x y h))
+    where
+      go : (x y : Bool) → (x || y) ≡ false → 0 ∷ [] ≡ cond (x || (y || false)) (1 ∷ cond x (slot-entry ws i .tier) (cond y (slot-entry ws j .tier) 0) ∷ []) (0 ∷ [])
+      go true y h = absurd (true≢false h)
+      go false true h = absurd (true≢false h)
+      go false false h = refl
+
+  -- These are the key's own slots.
+  module _ (tabulation : List ℕ) (p : i ≡ slot-0 (tables tabulation (slots-of ws)) key) (q : j ≡ slot-1 (tables tabulation (slots-of ws)) key) where
+    looked : looked-up (slot-entry ws i ∷ slot-entry ws j ∷ stash-entries ws) key ≡ looked-up (looked-at tabulation ws key) key
+    looked = λ k. looked-up (slot-entry ws (p k) ∷ slot-entry ws (q k) ∷ stash-entries ws) key
+
+    pub own-listed : (x || y) ≡ true → {t : ℕ} → t ≡ tier-of (slot-entry ws i ∷ slot-entry ws j ∷ stash-entries ws) key
+        → 1 ∷ t ∷ [] ≡ looked-up (looked-at tabulation ws key) key
+    own-listed h e = both-listed h e ∙ looked
+
+    pub own-missed : (x || y) ≡ false → looked-up (stash-entries ws) key ≡ looked-up (looked-at tabulation ws key) key
+    own-missed h = neither-listed h ∙ looked

@@ -10,7 +10,7 @@ ghost use Rattle.tabulation.specs.Hash.{tabulation-length, max-slots};
 ghost use Rattle.layout.specs.Layout.{header-words, header-length, slot-width, slots-of, places-of, key-count};
 ghost use Rattle.layout.specs.Layout.{stash-count, sizes-in-range, shaped, words-length, scratch-length, key-at};
 ghost use Rattle.layout.specs.Entries.{tier-of};
-ghost use Rattle.layout.specs.Layout.{stash-at, tier-at, slot-entry, stash-entries};
+ghost use Rattle.layout.specs.Layout.{stash-at, tier-at, slot-entry, stash-entries, looked-at};
 ghost use Rattle.layout.specs.Shape.{Sized, Shaped};
 ghost use Rattle.refusals.specs.Refusal.{done};
 ghost use Rattle.access.specs.Found.{own-slots};
@@ -268,6 +268,41 @@ pub fn lookup(tabulation: &[u16], words: &[u32], key: u32) -> Found
         return found;
     };
     in_stash(words, key)
+}
+
+// Where a key is found, in its slots or in the stash; both slots are worked out and read first, as `tier_at` wants them.
+fn beside(tabulation: &[u16], words: &[u32], key: u32) -> Found
+    requires { ⌜ (length (now tabulation) ≡ tabulation-length) × Shaped (now words) ⌝ }
+    ensures numbered { λ f. ⌜ number f ≡ done ⌝ }
+    ensures valued { λ f. ⌜ values f ≡ looked-up (looked-at (now (tabulation .entry)) (now (words .entry)) key) key ⌝ }
+{
+    let header = read_header(words);
+    let one = tabulation::first_slot(tabulation, header.slots, key);
+    let other = tabulation::second_slot(tabulation, header.slots, key);
+    let in_one = in_slot(words, one, key);
+    let in_other = in_slot(words, other, key);
+    if in_one | in_other {
+        return Found::Listed(tier_at(words, one, other, key));
+    }
+    in_stash(words, key)
+}
+
+// What `lookup` answers, by a search of its own, for calls that look a key up on the way to something else. So the library
+// calls `lookup` once, for the exported lookup, and the compiler puts it in the place of that call.
+pub fn lookup_beside(tabulation: &[u16], words: &[u32], key: u32) -> Found
+    ensures numbered { λ f. ⌜ number f ≡ lookup-refusal (now (tabulation .entry)) (now (words .entry)) key ⌝ }
+    ensures valued { λ f. ⌜ values f ≡ lookup-values (now (tabulation .entry)) (now (words .entry)) key ⌝ }
+{
+    if tabulation.len() != TABULATION_LENGTH {
+        return Found::Refused(WRONG_TABULATION);
+    }
+    if !is_shaped(words) {
+        return Found::Refused(WRONG_SHAPE);
+    }
+    if tabulation::is_blank(key) {
+        return Found::Refused(BLANK_KEY);
+    }
+    beside(tabulation, words, key)
 }
 
 // The number that goes with the stash view: 0, 2 or 4.
