@@ -6,8 +6,7 @@ use Prim.Native.Nat.{ℕ}
 use mathlib.Core.Path.{_≡_, refl, sym, _∙_, ap}
 use mathlib.Core.Bool.{not}
 use mathlib.Core.List.{List, [], _∷_, _++_, List·Memᴰ as In}
-use lib.IntN.{ℤ, pos, _+ℤ_}
-use lib.ListN.{getD}
+use lib.IntN.{ℤ}
 use Rattle.basics.specs.Sets.{member}
 use Rattle.refusals.specs.Refusal.{done, blank-key, key-absent, wrong-price, first-refusal}
 use Rattle.tabulation.specs.Hash.{blank}

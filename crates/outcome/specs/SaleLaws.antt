@@ -2,17 +2,17 @@
 -- sale holds. Then on a dictionary that holds a set: the tier is the set's. Assumes nothing.
 use Prim.Native.Nat.{ℕ, zero, suc, _+_, _≤_, _<_}
 use mathlib.Core.Path.{_≡_, refl, sym, _∙_, ap}
-use mathlib.Core.Bool.{Bool, true, false, not, cond, _&&_, _||_, true≢false, false≢true}
+use mathlib.Core.Bool.{Bool, true, false, not, _||_, true≢false}
 use mathlib.Core.Logic.{inl, inr, _↔_}
-use mathlib.Core.List.{List, [], _∷_, _++_, List·Memᴰ as In}
+use mathlib.Core.List.{List, [], _∷_, List·Memᴰ as In}
 use native.Mathlib.Omega.{arith}
-use borrow.Author.Tests.{eq-eqb, ne-eqb, eqb-true, leb-true, le-leb, le-ltb, ltb-false}
-use lib.Dec.{T, eqb, leb, ltb}
+use borrow.Author.Tests.{eq-eqb, ne-eqb, eqb-true, leb-true, le-leb, le-ltb, ltb-false, not-false}
+use lib.Dec.{eqb, leb, ltb}
 use lib.IntN.{ℤ, pos, negsuc, negℤ, natAbs, _+ℤ_}
 use lib.ListN.{length, getD}
-use lib.Signed.{leZ, ltZ, _≤ℤ_, ltZ-yes, ltZ-no, clashℤ, yes-nonNeg, pos-natAbs}
+use lib.Signed.{mag, leZ, ltZ, _≤ℤ_, ltZ-yes, ltZ-no, clashℤ}
 use Rattle.basics.specs.Tests.{test, eq?, and-true, T-true, zero-one}
-use Rattle.basics.specs.Sets.{member, in-member}
+use Rattle.basics.specs.Sets.{member}
 use Rattle.refusals.specs.Refusal.{done, not-canonical, blank-key, key-absent, wrong-price, first-refusal, first-refusal-in, None, none, and, front-applies, front-passes, front-none}
 use Rattle.tabulation.specs.Hash.{tabulation-length, blank}
 use Rattle.layout.specs.Entries.{Entry, max-tier, keys-of, tier-of}
@@ -138,19 +138,15 @@ or-none : (p q : Bool) → (p || q) ≡ false → (p ≡ false) × (q ≡ false)
 or-none true q e = absurd (true≢false e)
 or-none false q e = (refl, e)
 
-not-none : (p : Bool) → not p ≡ false → p ≡ true
-not-none true e = refl
-not-none false e = absurd (true≢false e)
+-- a step in its range, and all are exactly if each is
+pub in-order : (z : ℤ) → step-in-range z ≡ true → (negsuc 499 ≤ℤ z) × (z ≤ℤ pos 500)
+in-order z e = let g = and-true (leZ (negℤ max-step) z) (leZ z max-step) e in (true-le (g .0), true-le (g .1))
 
--- all are in range exactly if each is
-all-each : (steps : List ℤ) → all-in-range steps ≡ true → (i : ℕ) → i < length steps → (negsuc 499 ≤ℤ getD steps i (pos 0)) × (getD steps i (pos 0) ≤ℤ pos 500)
+pub all-at : (steps : List ℤ) → all-in-range steps ≡ true → (i : ℕ) → i < length steps → step-in-range (getD steps i (pos 0)) ≡ true
 unfolding all-in-range
-all-each [] e i l = absurd (omega arith)
-all-each (z ∷ zs) e zero l =
-    let f = and-true (step-in-range z) (all-in-range zs) e in
-    let g = and-true (leZ (negℤ max-step) z) (leZ z max-step) (f .0) in
-    (true-le (g .0), true-le (g .1))
-all-each (z ∷ zs) e (suc i) l = all-each zs (and-true (step-in-range z) (all-in-range zs) e .1) i (omega arith)
+all-at [] e i l = absurd (omega arith)
+all-at (z ∷ zs) e zero l = and-true (step-in-range z) (all-in-range zs) e .0
+all-at (z ∷ zs) e (suc i) l = all-at zs (and-true (step-in-range z) (all-in-range zs) e .1) i (omega arith)
 
 each-all : (steps : List ℤ) → ((i : ℕ) → i < length steps → (negsuc 499 ≤ℤ getD steps i (pos 0)) × (getD steps i (pos 0) ≤ℤ pos 500)) → all-in-range steps ≡ true
 unfolding all-in-range
@@ -166,14 +162,14 @@ fair-iff base steps tier = (
   λ e.
       let f = or-none (not (base-in-range base) || not (steps-in-range steps)) (ltZ (litre-price base steps tier) (pos 1)) e in
       let g = or-none (not (base-in-range base)) (not (steps-in-range steps)) (f .0) in
-      let b = and-true (leb 1 base) (leb base max-base) (not-none (base-in-range base) (g .0)) in
-      let s = and-true (eqb (length steps) (max-tier + 1)) (all-in-range steps) (not-none (steps-in-range steps) (g .1)) in
+      let b = and-true (leb 1 base) (leb base max-base) (not-false (base-in-range base) (g .0)) in
+      let s = and-true (eqb (length steps) (max-tier + 1)) (all-in-range steps) (not-false (steps-in-range steps) (g .1)) in
       let n : length steps ≡ 8 = eqb-true (length steps) (max-tier + 1) (s .0) in
       record {
         base-least = leb-true 1 base (b .0);
         base-most = leb-true base max-base (b .1);
         eight = n;
-        each = λ i l. all-each steps (s .1) i (rw n l);
+        each = λ i l. in-order (getD steps i (pos 0)) (all-at steps (s .1) i (rw n l));
         price-least = not-less (litre-price base steps tier) (pos 1) .0 (f .1);
       },
   λ h.
@@ -196,15 +192,15 @@ pub record Priced (base : ℕ) (steps : List ℤ) (s : Sale) : Type 0 where
   pub least : 1 ≤ s .price
   pub most : s .price ≤ 100499
 
--- a whole number that is at least 1, as a number
-whole : (z : ℤ) → pos 1 ≤ℤ z → (pos (natAbs z) ≡ z) × (1 ≤ natAbs z)
-whole (pos n) h = (refl, leb-true 1 n (le-true h))
+-- a whole number that is at least 1, as a number; how large the sum of a base and a step can be
+pub whole : (z : ℤ) → pos 1 ≤ℤ z → (pos (natAbs z) ≡ z) × ((1 ≤ natAbs z) × (natAbs z ≡ mag z))
+whole (pos n) h = (refl, (leb-true 1 n (le-true h), refl))
 whole (negsuc n) h = absurd (h .le)
 
-sum-most : (base : ℕ) (z : ℤ) → base ≤ 99999 → z ≤ℤ pos 500 → pos 1 ≤ℤ (pos base +ℤ z) → natAbs (pos base +ℤ z) ≤ 100499
-sum-most base (pos n) b h p = omega (arith, leb-true n 500 (le-true h))
-sum-most base (negsuc n) b h p = elim (test (ltb base (suc n))) [
-  | inl t ↦ absurd (rw t at p .le)
+pub sum-bound : (base : ℕ) (z : ℤ) → base ≤ 99999 → negsuc 499 ≤ℤ z → z ≤ℤ pos 500 → mag (pos base +ℤ z) ≤ 100499
+sum-bound base (pos n) b l h = omega (arith, leb-true n 500 (le-true h))
+sum-bound base (negsuc n) b l h = elim (test (ltb base (suc n))) [
+  | inl t ↦ rw t (omega (arith, leb-true n 499 (le-true l)))
   | inr f ↦ rw f (omega arith)
 ]
 
@@ -228,7 +224,7 @@ module _ (tabulation ws : List ℕ) (key base : ℕ) (steps : List ℤ) (e : sal
   -- A sale is opened where the key is listed, at a tier up to 7, and all is fair.
   pub opened-listed : lookup-values tabulation ws key ≡ 1 ∷ tier ∷ []
   unfolding lookup-values tier-in
-  opened-listed = rw (eq-eqb (lookup-refusal tabulation ws key) done looked-done, not-none (member key (keys-of (looked-at tabulation ws key))) (passed .0))
+  opened-listed = rw (eq-eqb (lookup-refusal tabulation ws key) done looked-done, not-false (member key (keys-of (looked-at tabulation ws key))) (passed .0))
 
   pub opened-fair : Fair base steps tier
   opened-fair = fair-iff base steps tier .0 (passed .1 .1)
@@ -251,8 +247,8 @@ module _ (tabulation ws : List ℕ) (key base : ℕ) (steps : List ℤ) (e : sal
       record {
         small-tier = small;
         price = w .0;
-        least = w .1;
-        most = sum-most base (getD steps tier (pos 0)) (f .base-most) (f .each tier (omega arith) .1) (f .price-least);
+        least = w .1 .0;
+        most = let e = f .each tier (omega arith) in rw (w .1 .1) (sum-bound base (getD steps tier (pos 0)) (f .base-most) (e .0) (e .1));
       }
 
 -- on a dictionary that holds a set

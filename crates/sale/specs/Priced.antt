@@ -2,17 +2,17 @@
 -- found. Assumes nothing.
 use Prim.Native.Nat.{ℕ, zero, suc, _+_, _≤_, _<_}
 use mathlib.Core.Path.{_≡_, refl, sym, _∙_, ap}
-use mathlib.Core.Bool.{Bool, true, false, not, cond, _&&_, _||_, true≢false, or-true, and-false}
+use mathlib.Core.Bool.{Bool, true, false, not, cond, _&&_, true≢false, or-true, and-false}
 use mathlib.Core.Logic.{inl, inr}
 use mathlib.Core.List.{List, [], _∷_}
 use native.Mathlib.Numerals.{add-one}
 use native.Mathlib.Omega.{arith}
 use borrow.Author.Tests.{eq-eqb, ne-eqb, lt-ltb, le-ltb, leb-true}
-use lib.Dec.{T, eqb, leb, ltb, leb→le}
+use lib.Dec.{T, eqb, leb, ltb}
 use lib.IntN.{ℤ, pos, negsuc, natAbs, _+ℤ_}
 use lib.ListN.{length, getD, drop}
 use lib.Seq.{drop-cons}
-use lib.Signed.{mag, nonNeg, leZ, ltZ, _≤ℤ_}
+use lib.Signed.{mag, nonNeg, ltZ}
 use mir.Syntax.{w32}
 use mir.Val.{Fits, SFits, toZ, ofZ}
 use mir.ValLaws.{toZ-ofZ}
@@ -22,10 +22,10 @@ use Rattle.layout.specs.Entries.{max-tier}
 use Rattle.layout.specs.Answers.{lookup-refusal, lookup-values}
 use Rattle.layout.specs.declared.Found.{Found}
 use Rattle.layout.specs.declared.Found.the-variants.{Listed, Absent, Refused}
-use Rattle.outcome.specs.Sale.{record-values, base-in-range, step-in-range, all-in-range, steps-in-range, litre-price, unpriced}
+use Rattle.outcome.specs.Sale.{record-values, base-in-range, step-in-range, all-in-range, litre-price, unpriced}
 use Rattle.outcome.specs.Sale.{sale-refusal, sale-values, sale-of, sale-left}
 use Rattle.outcome.specs.declared.Sale.{Sale}
-use Rattle.outcome.specs.SaleLaws.{same-record, fair-iff, untold, sale-refused, sale-done, sale-as-lookup, sale-absent, sale-listed}
+use Rattle.outcome.specs.SaleLaws.{same-record, in-order, all-at, fair-iff, whole, sum-bound, untold, sale-refused, sale-done, sale-as-lookup, sale-absent, sale-listed}
 
 -- the price for a tier, 0 where 12 applies
 unfoldable pub price-or-0 : ℕ → List ℤ → ℕ → ℕ
@@ -52,12 +52,6 @@ pub all-next : (steps : List ℤ) (i : ℕ) → i < length steps
 unfolding all-in-range
 all-next steps i l = rw (drop-cons steps i (pos 0) l)
 
-pub all-at : (steps : List ℤ) → all-in-range steps ≡ true → (i : ℕ) → i < length steps → step-in-range (getD steps i (pos 0)) ≡ true
-unfolding all-in-range
-all-at [] e i l = absurd (omega arith)
-all-at (z ∷ zs) e zero l = and-true (step-in-range z) (all-in-range zs) e .0
-all-at (z ∷ zs) e (suc i) l = all-at zs (and-true (step-in-range z) (all-in-range zs) e .1) i (omega arith)
-
 -- what the machine reads back from a step's bits is the step
 pub read-step : (steps : List ℤ) (i : ℕ) → mag (getD steps i (pos 0)) < 2147483648 → toZ w32 (ofZ w32 (getD steps i (pos 0))) ≡ getD steps i (pos 0)
 read-step steps i m = toZ-ofZ w32 (getD steps i (pos 0)) (record { sfits = m })
@@ -74,26 +68,16 @@ module _ (steps : List ℤ) (i : ℕ) {b : Bool} (l : i < length steps) (v : all
   pub all-goes : b ≡ true → all-in-range steps ≡ all-in-range (drop (i + 1) steps)
   all-goes f = v ∙ all-next steps i l ∙ (rw (sym tested ∙ f, add-one i))
 
--- The sum, as the machine makes it: it reads the step back from its bits, adds, and reads the sum back from its bits. Nothing is lost.
-small-sum : (base : ℕ) (z : ℤ) → base ≤ 99999 → leZ (negsuc 499) z ≡ true → leZ z (pos 500) ≡ true → mag (pos base +ℤ z) < 2147483648
-small-sum base (pos n) b l h = omega (arith, leb-true n 500 h)
-small-sum base (negsuc n) b l h = elim (test (ltb base (suc n))) [
-  | inl t ↦ rw t (omega (arith, leb-true n 499 l))
-  | inr f ↦ rw f (omega arith)
-]
-
-whole : (z : ℤ) → ltZ z (pos 1) ≡ false → mag z < 2147483648 → T (nonNeg z) × Fits w32 (natAbs z)
-whole (pos n) e l = (tt, record { fits = omega arith })
-whole (negsuc n) e l = absurd (true≢false e)
-
 -- a price that is not below 1
 fair-least : (base : ℕ) (steps : List ℤ) (tier : ℕ) → unpriced base steps tier ≡ false → 1 ≤ natAbs (litre-price base steps tier)
-fair-least base steps tier e = whole-least (litre-price base steps tier) (fair-iff base steps tier .0 e .price-least)
-  where
-    whole-least : (z : ℤ) → pos 1 ≤ℤ z → 1 ≤ natAbs z
-    whole-least (pos n) h = leb→le 1 n (h .le)
-    whole-least (negsuc n) h = absurd (h .le)
+fair-least base steps tier e = whole (litre-price base steps tier) (fair-iff base steps tier .0 e .price-least) .1 .0
 
+-- a sum that is not below 1 can be cast to a number
+casts : (z : ℤ) → ltZ z (pos 1) ≡ false → mag z < 2147483648 → T (nonNeg z) × Fits w32 (natAbs z)
+casts (pos n) e l = (tt, record { fits = omega arith })
+casts (negsuc n) e l = absurd (true≢false e)
+
+-- The sum, as the machine makes it: it reads the step back from its bits, adds, and reads the sum back from its bits. Nothing is lost.
 module _ (base : ℕ) (step : ℤ) (b : base-in-range base ≡ true) (s : step-in-range step ≡ true) where
   base-most : base ≤ 99999
   base-most = leb-true base 99999 (and-true (leb 1 base) (leb base 99999) b .1)
@@ -102,7 +86,7 @@ module _ (base : ℕ) (step : ℤ) (b : base-in-range base ≡ true) (s : step-i
   base-fits = record { sfits = omega (arith, base-most) }
 
   pub sum-fits : SFits w32 (pos base +ℤ step)
-  sum-fits = let t = and-true (leZ (negsuc 499) step) (leZ step (pos 500)) s in record { sfits = small-sum base step base-most (t .0) (t .1) }
+  sum-fits = let t = in-order step s in record { sfits = omega (arith, sum-bound base step base-most (t .0) (t .1)) }
 
   module _ (step-fits : SFits w32 step) where
     pub summed : toZ w32 base +ℤ toZ w32 (ofZ w32 step) ≡ pos base +ℤ step
@@ -124,7 +108,7 @@ module _ (base : ℕ) (step : ℤ) (b : base-in-range base ≡ true) (s : step-i
       from-one = rw above (ap natAbs read-sum)
 
       pub sum-casts : let z = toZ w32 (ofZ w32 (toZ w32 base +ℤ toZ w32 (ofZ w32 step))) in T (nonNeg z) × Fits w32 (natAbs z)
-      sum-casts = rw read-sum (whole (pos base +ℤ step) above (sum-fits .sfits))
+      sum-casts = rw read-sum (casts (pos base +ℤ step) above (sum-fits .sfits))
 
 -- the price for a tier: 0 where base or steps are not in their ranges,
 module _ (base : ℕ) (steps : List ℤ) (tier : ℕ) where

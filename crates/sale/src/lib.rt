@@ -5,8 +5,8 @@ ghost use mathlib.Core.Bool.{true, cond};
 ghost use Prim.Native.Nat.{_≤_};
 ghost use lib.IntN.{pos, natAbs, _+ℤ_};
 ghost use lib.Signed.{ltZ};
-ghost use Rattle.outcome.specs.Sale.{number, values, base-in-range, step-in-range, all-in-range, steps-in-range};
 ghost use Rattle.layout.specs.Entries.{max-tier};
+ghost use Rattle.outcome.specs.Sale.{number, values, base-in-range, step-in-range, all-in-range};
 ghost use Rattle.outcome.specs.Sale.{sale-refusal, sale-values, sale-left, closed};
 ghost use Rattle.sale.specs.Priced.{price-or-0, tier-refusal, tier-values};
 use access::MAX_TIER;
@@ -126,13 +126,13 @@ pub fn open(tabulation: &[u16], words: &[u32], key: u32, base: u32, steps: &[i32
     open_at(key, tier, base, steps)
 }
 
-// What a lent record holds after the opening, and the number of the answer: refused, the record stays. For callers that
-// hold the record by reference.
+// An opening over a record that the caller holds by reference: the number of the answer, and what the record then holds.
 pub struct Written {
     pub number: u32,
     pub sale: Sale,
 }
 
+// Opens a sale over a record, which stays if it is refused.
 pub fn open_over(
     tabulation: &[u16],
     words: &[u32],

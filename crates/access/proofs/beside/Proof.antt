@@ -1,5 +1,5 @@
 -- `access::beside` meets its contract: both slots lie inside words of the right shape; one of them has the key, or it is looked for in the stash.
-use Prim.Native.Nat.{_+_, _*_, _<_}
+use Prim.Native.Nat.{_+_, _<_}
 use mathlib.Core.Path.{_≡_, refl, _∙_}
 use native.Mathlib.Omega.{arith}
 use Rattle.tabulation.specs.Hash.{tables}
