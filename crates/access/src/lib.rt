@@ -270,7 +270,8 @@ pub fn lookup(tabulation: &[u16], words: &[u32], key: u32) -> Found
     in_stash(words, key)
 }
 
-// Where a key is found, in its slots or in the stash; both slots are worked out and read first, as `tier_at` wants them.
+// Where a key is found, in its slots or in the stash; both slots are worked out and read first, as `tier_at` wants
+// them.
 fn beside(tabulation: &[u16], words: &[u32], key: u32) -> Found
     requires { ⌜ (length (now tabulation) ≡ tabulation-length) × Shaped (now words) ⌝ }
     ensures numbered { λ f. ⌜ number f ≡ done ⌝ }
@@ -287,8 +288,8 @@ fn beside(tabulation: &[u16], words: &[u32], key: u32) -> Found
     in_stash(words, key)
 }
 
-// What `lookup` answers, by a search of its own, for calls that look a key up on the way to something else. So the library
-// calls `lookup` once, for the exported lookup, and the compiler puts it in the place of that call.
+// What `lookup` answers, by a search of its own, for calls that look a key up on the way to something else. So the
+// library calls `lookup` once, for the exported lookup, and the compiler puts it in the place of that call.
 pub fn lookup_beside(tabulation: &[u16], words: &[u32], key: u32) -> Found
     ensures numbered { λ f. ⌜ number f ≡ lookup-refusal (now (tabulation .entry)) (now (words .entry)) key ⌝ }
     ensures valued { λ f. ⌜ values f ≡ lookup-values (now (tabulation .entry)) (now (words .entry)) key ⌝ }

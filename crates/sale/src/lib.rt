@@ -126,7 +126,8 @@ pub fn open(tabulation: &[u16], words: &[u32], key: u32, base: u32, steps: &[i32
     open_at(key, tier, base, steps)
 }
 
-// An opening over a record that the caller holds by reference: the number of the answer, and what the record then holds.
+// An opening over a record that the caller holds by reference: the number of the answer, and what the record then
+// holds.
 pub struct Written {
     pub number: u32,
     pub sale: Sale,
