@@ -1,4 +1,4 @@
--- Document 01: book.bin has "4,096 bytes, low byte first". The definitions, that reading undoes writing, and how the loops go on. Assumes nothing.
+-- Document 01: book.bin is read "low byte first"; document 02: "book.bin has 5,120 bytes". The definitions, that reading undoes writing, and how the loops go on. Assumes nothing.
 use Prim.Native.Nat.{ℕ, zero, suc, _+_, _*_, _/_, _%_, _≤_, _<_}
 use mathlib.Core.Path.{_≡_, refl, sym, _∙_}
 use mathlib.Core.List.{List, [], _∷_}

@@ -1,5 +1,6 @@
 -- The house tabulation: its rule, and that all its entries differ; then ONE test that goes once through the table, and the law that a table that
--- passes it is as said (document 01: "Entry i is (25,173 × i × i + 13,849) modulo 65,521 .. All entries differ").
+-- passes it is as said (document 01: "Entry i is (25,173 × i × i + 13,849) modulo 65,521 .. All entries differ"; document 02: "The house book keeps
+-- its rule to entry 2,559").
 use mathlib.Core.Path.{_≡_, refl, sym, ap, _∙_}
 use mathlib.Core.Bool.{Bool, true, false, not, cond, _&&_, _||_, true≢false, false≢true}
 use mathlib.Core.List.{List, [], _∷_}
@@ -20,15 +21,15 @@ unfoldable pub entries : ℕ → ℕ → List ℕ
 entries i zero = []
 entries i (suc n) = house-entry i ∷ entries (suc i) n
 
--- the list that the rule gives: "a table of 2,048 numbers"
+-- the list that the rule gives: "The book becomes 2,560 numbers"
 unfoldable pub house-table : List ℕ
-house-table = entries 0 2048
+house-table = entries 0 2560
 
--- What is said of it: 2,048 entries, each as the rule says, and no two equal.
+-- What is said of it: 2,560 entries, each as the rule says, and no two equal.
 pub record House (t : List ℕ) : Type 0 where
-  pub long : length t ≡ 2048
-  pub ruled : (i : ℕ) → i < 2048 → getD t i 0 ≡ house-entry i
-  pub distinct : (i j : ℕ) → i < j → j < 2048 → getD t i 0 ≡ getD t j 0 → ⊥
+  pub long : length t ≡ 2560
+  pub ruled : (i : ℕ) → i < 2560 → getD t i 0 ≡ house-entry i
+  pub distinct : (i j : ℕ) → i < j → j < 2560 → getD t i 0 ≡ getD t j 0 → ⊥
 
 -- The laws: a table that passes the test below is the house tabulation. The test goes through the table once.
 
@@ -51,9 +52,9 @@ test-from n i seen [] = eqb n 0
 test-from zero i seen (x ∷ xs) = false
 test-from (suc n) i seen (x ∷ xs) = eqb x (house-entry i) && not (has x seen) && test-from n (suc i) (put x seen) xs
 
--- the whole test of a table of 2,048 entries
+-- the whole test of a table of 2,560 entries
 unfoldable pub house-test : List ℕ → Bool
-house-test t = test-from 2048 0 leaf t
+house-test t = test-from 2560 0 leaf t
 
 or-true : (p q : Bool) → q ≡ true → (p || q) ≡ true
 or-true true q e = refl
@@ -139,11 +140,11 @@ long (suc n) i seen (x ∷ xs) e = ap suc (long n (suc i) (put x seen) xs (entry
 pub house : (t : List ℕ) → house-test t ≡ true → House t
 unfolding house-test
 house t e =
-    let l = long 2048 0 leaf t e in
+    let l = long 2560 0 leaf t e in
     record {
       long = l;
-      ruled = λ i h. ruled-at 2048 0 leaf t e i (omega arith) ∙ ap house-entry (zero-add i);
-      distinct = λ i j h k. differ-from 2048 0 leaf t e i j h (omega arith);
+      ruled = λ i h. ruled-at 2560 0 leaf t e i (omega arith) ∙ ap house-entry (zero-add i);
+      distinct = λ i j h k. differ-from 2560 0 leaf t e i j h (omega arith);
     }
 
 -- so it is the list that the rule gives,
@@ -157,9 +158,9 @@ rule-list (suc n) i seen (x ∷ xs) e =
 
 pub house-is : (t : List ℕ) → house-test t ≡ true → t ≡ house-table
 unfolding house-test house-table
-house-is t e = rule-list 2048 0 leaf t e
+house-is t e = rule-list 2560 0 leaf t e
 
--- and that list passes the test: the rule gives 2,048 numbers, all different.
+-- and that list passes the test: the rule gives 2,560 numbers, all different.
 pub house-table-is : House house-table
 unfolding house-test test-from has put house-table entries
 house-table-is = house house-table refl

@@ -2,13 +2,13 @@
 ghost use mathlib.Core.Path.{_≡_};
 ghost use Rattle.book.specs.Bytes.{bytes-of};
 
-fn encode(tabulation: &[u16; 2048], bytes: &mut [u8; 4096])
+fn encode(tabulation: &[u16; 2560], bytes: &mut [u8; 5120])
     ensures { λ _. ⌜ now (bytes .exit) ≡ bytes-of (now (tabulation .entry)) ⌝ }
 {
     book::encode(tabulation, bytes);
 }
 
-fn save(bytes: &[u8; 4096]) {
+fn save(bytes: &[u8; 5120]) {
     let path = b"book.bin";
     let file = os::open_overwrite(path);
     if file < 0 {
@@ -23,7 +23,7 @@ fn save(bytes: &[u8; 4096]) {
 
 fn main() {
     let tabulation = house::house_tabulation();
-    let mut bytes = [0u8; 4096];
+    let mut bytes = [0u8; 5120];
     encode(&tabulation, &mut bytes);
     save(&bytes);
 }

@@ -1,14 +1,15 @@
 -- What a request for both hashes of a key answers, for every tabulation, r and key (document 01: "Called alone it gives both places, or 1, 2
--- (only for r outside its range) or 5 from the table below, in that order").
+-- (only for r outside its range) or 5 from the table below, in that order"; document 02: "a station above 255 .. is a 2, also where places are
+-- worked out alone").
 use Prim.Native.Nat.{ℕ}
-use mathlib.Core.Bool.{Bool, true, false, not, cond}
+use mathlib.Core.Bool.{Bool, true, false, not, cond, _&&_}
 use mathlib.Core.Path.{_≡_, refl}
 use native.Mathlib.Omega.{arith}
 use mathlib.Core.List.{List, [], _∷_, List·Memᴰ as In}
 use lib.Dec.{eqb}
 use lib.ListN.{length}
 use Rattle.refusals.specs.Refusal.{done, wrong-tabulation, wrong-shape, blank-key, first-refusal, first-refusal-in}
-use Rattle.tabulation.specs.Hash.{tabulation-length, slots-in-range, blank, Family, hash}
+use Rattle.tabulation.specs.Hash.{tabulation-length, slots-in-range, station-in-range, blank, Family, hash}
 use Rattle.tabulation.specs.declared.Hashed.{Hashed}
 use Rattle.tabulation.specs.declared.Hashed.the-variants.{At, Refused}
 
@@ -24,7 +25,7 @@ values (Refused n) = []
 abbrev pub hashes-refusals : Family → ℕ → List (ℕ × Bool)
 hashes-refusals F key =
     (wrong-tabulation, not (eqb (length (F .tabulation)) tabulation-length))
-    ∷ (wrong-shape, not (slots-in-range (F .slots)))
+    ∷ (wrong-shape, not (slots-in-range (F .slots) && station-in-range (F .station)))
     ∷ (blank-key, blank key)
     ∷ []
 

@@ -10,9 +10,9 @@ use lib.Dec.{eqb, leb}
 use lib.ListN.{length, getD}
 use Rattle.basics.specs.Tests.{and-true}
 
--- the tabulation (document 01's 'spread book') is 2,048 numbers
+-- the tabulation (document 01's 'spread book') is "2,560 numbers, 1,280 for each rack in five stretches of 256"
 abbrev pub tabulation-length : ℕ
-tabulation-length = 2048
+tabulation-length = 2560
 
 -- r, the number of slots of a table, is 1 to 1,024
 abbrev pub max-slots : ℕ
@@ -20,6 +20,13 @@ max-slots = 1024
 
 unfoldable pub slots-in-range : ℕ → Bool
 slots-in-range r = leb 1 r && leb r max-slots
+
+-- "A station number, 0 to 255"
+abbrev pub max-station : ℕ
+max-station = 255
+
+unfoldable pub station-in-range : ℕ → Bool
+station-in-range station = leb station max-station
 
 -- "Zero means no card": a blank key is the key of no element
 unfoldable pub blank : ℕ → Bool
@@ -29,25 +36,31 @@ blank key = eqb key 0
 pub record Family : Type 0 where
   pub tabulation : List ℕ
   pub slots : ℕ
+  pub station : ℕ
 
--- the family of a tabulation, with r slots to a table
-abbrev pub tables : List ℕ → ℕ → Family
-tables tabulation r = record { tabulation = tabulation; slots = r }
+-- the family of a tabulation, with r slots to a table, at a station
+abbrev pub tables : List ℕ → ℕ → ℕ → Family
+tables tabulation r station = record { tabulation = tabulation; slots = r; station = station }
 
 -- byte i of a key, b0 the lowest
 abbrev pub byte : ℕ → ℕ → ℕ
 byte zero key = key % 256
 byte (suc i) key = byte i (key / 256)
 
--- "book entry 1,024k + 256i + bi"
+-- entry b of stretch i of a table's half: each rack has 1,280 numbers "in five stretches of 256"
 abbrev pub entry : List ℕ → ℕ → ℕ → ℕ → ℕ
-entry tabulation table i b = getD tabulation (1024 * table + 256 * i + b) 0
+entry tabulation table i b = getD tabulation (1280 * table + 256 * i + b) 0
 
--- "Its place in rack k is the sum over i = 0 to 3 of book entry 1,024k + 256i + bi, taken modulo r."
+-- where the fifth stretch is read: "at (b0 + station number) modulo 256"
+abbrev pub turned : ℕ → ℕ → ℕ
+turned station b0 = (b0 + station) % 256
+
+-- "Its place in rack k is the sum over i = 0 to 3 of" the entry of byte i in stretch i, "and a place's sum adds the fifth stretch's entry at
+-- (b0 + station number) modulo 256"; "taken modulo r".
 unfoldable pub hash : Family → ℕ → ℕ → ℕ
 hash F table key =
     let e = entry (F .tabulation) table in
-    (e 0 (byte 0 key) + e 1 (byte 1 key) + e 2 (byte 2 key) + e 3 (byte 3 key)) % F .slots
+    (e 0 (byte 0 key) + e 1 (byte 1 key) + e 2 (byte 2 key) + e 3 (byte 3 key) + e 4 (turned (F .station) (byte 0 key))) % F .slots
 
 -- The laws that callers use.
 
@@ -63,15 +76,26 @@ pub range-in : (r : ℕ) → 0 < r → r ≤ max-slots → slots-in-range r ≡ 
 unfolding slots-in-range
 range-in r some most = rw (le-leb 1 r some) (le-leb r max-slots most)
 
--- what hashing needs: a tabulation of its length, and r in its range
-pub record Hashing (tabulation : List ℕ) (r : ℕ) : Type 0 where
+pub station-max : (station : ℕ) → station-in-range station ≡ true → station ≤ max-station
+unfolding station-in-range
+station-max station e = leb-true station max-station e
+
+pub station-in : (station : ℕ) → station ≤ max-station → station-in-range station ≡ true
+unfolding station-in-range
+station-in station l = le-leb station max-station l
+
+-- what hashing needs: a tabulation of its length, r and the station number in their ranges
+pub record Hashing (tabulation : List ℕ) (r station : ℕ) : Type 0 where
   pub full-length : length tabulation ≡ tabulation-length
   pub has-slots : 0 < r
   pub slots-bound : r ≤ max-slots
+  pub station-bound : station ≤ max-station
 
 -- it is had where neither 1 nor 2 applies
-pub hashing : {tabulation : List ℕ} {r : ℕ} → length tabulation ≡ tabulation-length → slots-in-range r ≡ true → Hashing tabulation r
-hashing {tabulation} {r} e range = record { full-length = e; has-slots = in-range-pos r range; slots-bound = in-range-max r range }
+pub hashing : {tabulation : List ℕ} {r station : ℕ} → length tabulation ≡ tabulation-length → slots-in-range r ≡ true → station-in-range station ≡ true
+    → Hashing tabulation r station
+hashing {tabulation} {r} {station} e range at =
+    record { full-length = e; has-slots = in-range-pos r range; slots-bound = in-range-max r range; station-bound = station-max station at }
 
 -- a hash is a slot of its table
 pub hash-lt : (F : Family) (table key : ℕ) → 0 < F .slots → hash F table key < F .slots

@@ -4,18 +4,23 @@
 ghost use mathlib.Core.Path.{_≡_};
 ghost use Prim.Native.Nat.{_<_};
 ghost use Rattle.tabulation.specs.Slots.{slot-0, slot-1};
-ghost use Rattle.tabulation.specs.Hash.{slots-in-range, tables, Hashing, blank, hash};
+ghost use Rattle.tabulation.specs.Hash.{slots-in-range, station-in-range, tables, Hashing, blank, hash};
 ghost use Rattle.tabulation.specs.Answer.{number, values, hashes-refusal, hashes-values, written};
 use refusals::BLANK_KEY;
 use refusals::WRONG_SHAPE;
 use refusals::WRONG_TABULATION;
 
-// The length of a tabulation, that of a table's half of it, and the most slots of a table.
-pub const TABULATION_LENGTH: usize = 2048;
+// The length of a tabulation, that of a table's half of it, and where the station's stretch begins in a half.
+pub const TABULATION_LENGTH: usize = 2560;
 
-const HALF_LENGTH: usize = 1024;
+const HALF_LENGTH: usize = 1280;
 
+const STATION_STRETCH: usize = 1024;
+
+// The most slots of a table, and the largest station number.
 pub const MAX_SLOTS: u32 = 1024;
+
+pub const MAX_STATION: u32 = 255;
 
 // Both hashes of a key, in table 0 and in table 1, or the number of the refusal.
 pub enum Hashed {
@@ -37,6 +42,13 @@ pub fn in_range(r: u32) -> bool
     1 <= r && r <= MAX_SLOTS
 }
 
+// Whether a station may have this number.
+pub fn is_station(station: u32) -> bool
+    ensures { λ b. ⌜ b ≡ station-in-range station ⌝ }
+{
+    station <= MAX_STATION
+}
+
 // An entry of a tabulation as a 32-bit number.
 fn wide(x: u16) -> u32
     ensures { λ e. ⌜ (e ≡ x) × (e < 65536) ⌝ }
@@ -44,11 +56,11 @@ fn wide(x: u16) -> u32
     x as u32
 }
 
-// The hash of a key in a table of r slots. The table's half of the tabulation and r are taken before the loop over the
-// key's bytes, and neither anew for a byte.
-pub fn hash_in(tabulation: &[u16], table: usize, r: u32, key: u32) -> u32
-    requires { ⌜ Hashing (now tabulation) r × (table < 2) ⌝ }
-    ensures { λ h. ⌜ h ≡ hash (tables (now (tabulation .entry)) r) table key ⌝ }
+// The hash of a key in a table of r slots, at a station. The table's half of the tabulation and r are taken before the
+// loop over the key's bytes, and neither anew for a byte. The station's entry comes last.
+fn hash_in(tabulation: &[u16], table: usize, r: u32, station: u32, key: u32) -> u32
+    requires { ⌜ Hashing (now tabulation) r station × (table < 2) ⌝ }
+    ensures { λ h. ⌜ h ≡ hash (tables (now (tabulation .entry)) r station) table key ⌝ }
 {
     let start = HALF_LENGTH * table;
     let end = start + HALF_LENGTH;
@@ -61,13 +73,14 @@ pub fn hash_in(tabulation: &[u16], table: usize, r: u32, key: u32) -> u32
         rest = rest / 256;
         i = i + 1;
     }
-    sum % r
+    let turned = (key % 256 + station) % 256;
+    (sum + wide(half[STATION_STRETCH + turned as usize])) % r
 }
 
-// Both hashes of a key, or 1, 2 or 5: for every tabulation, r and key.
-pub fn hashes(tabulation: &[u16], r: u32, key: u32) -> Hashed
-    ensures numbered { λ h. ⌜ number h ≡ hashes-refusal (tables (now (tabulation .entry)) r) key ⌝ }
-    ensures valued { λ h. ⌜ values h ≡ hashes-values (tables (now (tabulation .entry)) r) key ⌝ }
+// Both hashes of a key, or 1, 2 or 5: for every tabulation, r, station and key.
+pub fn hashes(tabulation: &[u16], r: u32, station: u32, key: u32) -> Hashed
+    ensures numbered { λ h. ⌜ number h ≡ hashes-refusal (tables (now (tabulation .entry)) r station) key ⌝ }
+    ensures valued { λ h. ⌜ values h ≡ hashes-values (tables (now (tabulation .entry)) r station) key ⌝ }
 {
     if tabulation.len() != TABULATION_LENGTH {
         return Hashed::Refused(WRONG_TABULATION);
@@ -75,12 +88,15 @@ pub fn hashes(tabulation: &[u16], r: u32, key: u32) -> Hashed
     if !in_range(r) {
         return Hashed::Refused(WRONG_SHAPE);
     }
+    if !is_station(station) {
+        return Hashed::Refused(WRONG_SHAPE);
+    }
     if is_blank(key) {
         return Hashed::Refused(BLANK_KEY);
     }
     Hashed::At(
-        hash_in(tabulation, 0, r, key),
-        hash_in(tabulation, 1, r, key),
+        hash_in(tabulation, 0, r, station, key),
+        hash_in(tabulation, 1, r, station, key),
     )
 }
 
@@ -90,17 +106,18 @@ pub fn hashes(tabulation: &[u16], r: u32, key: u32) -> Hashed
 pub extern "C" fn pinorange_hashes(
     tabulation: &[u16],
     r: u32,
+    station: u32,
     key: u32,
     first: &mut u32,
     second: &mut u32,
 ) -> u32
-    ensures numbered { λ n. ⌜ n ≡ hashes-refusal (tables (now (tabulation .entry)) r) key ⌝ }
+    ensures numbered { λ n. ⌜ n ≡ hashes-refusal (tables (now (tabulation .entry)) r station) key ⌝ }
     ensures first_hash { λ n. ⌜ now (first .exit)
-        ≡ written (tables (now (tabulation .entry)) r) key 0 (now (first .entry)) ⌝ }
+        ≡ written (tables (now (tabulation .entry)) r station) key 0 (now (first .entry)) ⌝ }
     ensures second_hash { λ n. ⌜ now (second .exit)
-        ≡ written (tables (now (tabulation .entry)) r) key 1 (now (second .entry)) ⌝ }
+        ≡ written (tables (now (tabulation .entry)) r station) key 1 (now (second .entry)) ⌝ }
 {
-    let h = hashes(tabulation, r, key);
+    let h = hashes(tabulation, r, station, key);
     match h {
         Hashed::At(h0, h1) => {
             *first = h0;
@@ -112,16 +129,16 @@ pub extern "C" fn pinorange_hashes(
 }
 
 // The slot of a key in a table, in the row of both tables' slots: table 1's come after the r of table 0.
-pub fn first_slot(tabulation: &[u16], r: u32, key: u32) -> u32
-    requires { ⌜ Hashing (now tabulation) r ⌝ }
-    ensures { λ v. ⌜ v ≡ slot-0 (tables (now (tabulation .entry)) r) key ⌝ }
+pub fn first_slot(tabulation: &[u16], r: u32, station: u32, key: u32) -> u32
+    requires { ⌜ Hashing (now tabulation) r station ⌝ }
+    ensures { λ v. ⌜ v ≡ slot-0 (tables (now (tabulation .entry)) r station) key ⌝ }
 {
-    hash_in(tabulation, 0, r, key)
+    hash_in(tabulation, 0, r, station, key)
 }
 
-pub fn second_slot(tabulation: &[u16], r: u32, key: u32) -> u32
-    requires { ⌜ Hashing (now tabulation) r ⌝ }
-    ensures { λ v. ⌜ v ≡ slot-1 (tables (now (tabulation .entry)) r) key ⌝ }
+pub fn second_slot(tabulation: &[u16], r: u32, station: u32, key: u32) -> u32
+    requires { ⌜ Hashing (now tabulation) r station ⌝ }
+    ensures { λ v. ⌜ v ≡ slot-1 (tables (now (tabulation .entry)) r station) key ⌝ }
 {
-    r + hash_in(tabulation, 1, r, key)
+    r + hash_in(tabulation, 1, r, station, key)
 }

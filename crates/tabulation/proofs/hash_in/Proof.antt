@@ -1,5 +1,5 @@
 -- `tabulation::hash_in` meets its contract: what it reads from the table's half are that table's entries, the loop sums them as `total`
--- does, and no sum exceeds 32 bits.
+-- does, the station's entry comes behind them, and no sum exceeds 32 bits.
 use Prim.Native.Nat.{ℕ, _≤_, _<_, _+_, _*_, _-_, _%_}
 use mathlib.Core.Path.{_≡_, _∙_}
 use mathlib.Core.List.{List}
@@ -8,24 +8,24 @@ use native.Mathlib.Omega.{arith}
 use borrow.Author.Needs.{needs}
 use lib.ListN.{getD, take, drop}
 use lib.Seq.{getD-drop, getD-take}
-use Rattle.tabulation.specs.Hash.{entry}
+use Rattle.tabulation.specs.Hash.{entry, turned}
 use Rattle.tabulation.specs.Sum.{total, total-step, total-hash}
 use Rattle.tabulation.proofs.hash_in.Statement.{statement}
 use Rattle.tabulation.proofs.hash_in.Tie as tie
 
 -- an entry of a table's half is the tabulation's entry for that table
-half-entry : (tabulation : List ℕ) (table i b : ℕ) → i < 4 → b < 256
-    → getD (take (1024 * table + 1024 - 1024 * table) (drop (1024 * table) tabulation)) (256 * i + b) 0 ≡ entry tabulation table i b
+half-entry : (tabulation : List ℕ) (table i b : ℕ) → i < 5 → b < 256
+    → getD (take (1280 * table + 1280 - 1280 * table) (drop (1280 * table) tabulation)) (256 * i + b) 0 ≡ entry tabulation table i b
 half-entry tabulation table i b low byte =
-    let within : 256 * i + b < 1024 * table + 1024 - 1024 * table = omega arith in
+    let within : 256 * i + b < 1280 * table + 1280 - 1280 * table = omega arith in
     rw (getD-take, getD-drop, add-assoc)
 
 abbrev Inv-loop : tie.InvT-loop
-Inv-loop tabulation table r key start end half sum₀ rest₀ i₀ sum rest i =
+Inv-loop tabulation table r station key start end half sum₀ rest₀ i₀ sum rest i =
     (i ≤ 4) × (sum ≤ 65535 * i) × (total tabulation table sum i (4 - i) rest ≡ total tabulation table 0 0 4 key)
 
 abbrev μ-loop : tie.MeasureT-loop
-μ-loop tabulation table r key start end half sum₀ rest₀ i₀ sum rest i = 4 - i
+μ-loop tabulation table r station key start end half sum₀ rest₀ i₀ sum rest i = 4 - i
 
 mul-start : tie.Need-mul-start Inv-loop μ-loop
 mul-start c = search needs
@@ -80,8 +80,29 @@ loop-again c =
     let a = c .before .before .before .before .before .before .args in
     let l = c .before .before .before .loop in
     let low = c .before .before .loop-test .taken in
-    let e = c .wide .ensures .0 ∙ half-entry (a .tabulation .now) (a .table) (l .i) (l .rest % 256) low (omega arith) in
+    let e = c .wide .ensures .0 ∙ half-entry (a .tabulation .now) (a .table) (l .i) (l .rest % 256) (omega arith) (omega arith) in
     (search needs, search needs, rw e (total-step _ _ (l .sum) (l .rest) (l .i) low ∙ l .inv .2))
+
+add-turned : tie.Need-add-turned Inv-loop μ-loop
+add-turned c = search needs
+
+cast-wide-2 : tie.Need-cast-wide-2 Inv-loop μ-loop
+cast-wide-2 c = search needs
+
+add-wide-2 : tie.Need-add-wide-2 Inv-loop μ-loop
+add-wide-2 c = search needs
+
+mul-wide-3 : tie.Need-mul-wide-3 Inv-loop μ-loop
+mul-wide-3 c = search needs
+
+shared-slice-read-wide-2 : tie.Need-shared-slice-read-wide-2 Inv-loop μ-loop
+shared-slice-read-wide-2 c = search needs
+
+wide-requires-2 : tie.Need-wide-requires-2 Inv-loop μ-loop
+wide-requires-2 c κs = search needs
+
+add-result : tie.Need-add-result Inv-loop μ-loop
+add-result c = search needs
 
 rem-result : tie.Need-rem-result Inv-loop μ-loop
 rem-result c = search needs
@@ -89,8 +110,12 @@ rem-result c = search needs
 returns : tie.Need-returns Inv-loop μ-loop
 unfolding total
 returns c =
-    let e : 4 - c .before .loop .i ≡ 0 = omega arith in
-    rw (rw e at (c .before .loop .inv .2)) (total-hash _ _ _)
+    let l = c .before .before .before in
+    let a = l .before .before .before .args in
+    let n : 4 - l .loop .i ≡ 0 = omega arith in
+    let b : turned (a .station) (a .key % 256) < 256 = omega arith in
+    let e = c .wide2 .ensures .0 ∙ half-entry (a .tabulation .now) (a .table) 4 (turned (a .station) (a .key % 256)) (omega arith) b in
+    rw (e, rw n at (l .loop .inv .2)) (total-hash _ _ _)
 
 pub hash-in-spec : {M : Type 1} → statement M
 hash-in-spec =
@@ -115,5 +140,12 @@ hash-in-spec =
     add-i
     loop-less
     loop-again
+    add-turned
+    cast-wide-2
+    add-wide-2
+    mul-wide-3
+    shared-slice-read-wide-2
+    wide-requires-2
+    add-result
     rem-result
     returns)

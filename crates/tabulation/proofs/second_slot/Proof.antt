@@ -12,7 +12,7 @@ add-result : tie.Need-add-result
 add-result c =
     let start = c .before .before in
     let a = start .args in
-    omega (arith, start .pre, hash-lt (tables (a .tabulation .now) (a .r)) 1 (a .key) (start .pre .has-slots), c .hash-in .ensures)
+    omega (arith, start .pre, hash-lt (tables (a .tabulation .now) (a .r) (a .station)) 1 (a .key) (start .pre .has-slots), c .hash-in .ensures)
 
 returns : tie.Need-returns
 returns c = search needs

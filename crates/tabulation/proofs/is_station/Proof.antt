@@ -1,0 +1,12 @@
+-- `tabulation::is_station` meets its contract: its test is the definition's.
+use borrow.Author.Needs.{needs}
+use Rattle.tabulation.specs.Hash.{station-in-range}
+use Rattle.tabulation.proofs.is_station.Statement.{statement}
+use Rattle.tabulation.proofs.is_station.Tie as tie
+
+returns : tie.Need-returns
+unfolding station-in-range
+returns c = search needs
+
+pub is-station-spec : {M : Type 1} → statement M
+is-station-spec = tie.close (tie.spec returns)
