@@ -11,9 +11,9 @@ use lib.ListN.{length, getD, take, drop}
 use Rattle.basics.specs.Tests.{test}
 use Rattle.basics.specs.Sets.{member, in-member}
 use Rattle.layout.specs.Entries.{Entry, keys-of, tier-of, tier-absent}
-use Rattle.tabulation.specs.Hash.{Family, tables}
+use Rattle.tabulation.specs.Hash.{Family}
 use Rattle.tabulation.specs.Slots.{slot-0, slot-1}
-use Rattle.layout.specs.Layout.{place-width, stash-at, slots-of, places-of, place-entries, slot-entry, stash-entries, looked-at}
+use Rattle.layout.specs.Layout.{family-of, place-width, stash-at, slots-of, places-of, place-entries, slot-entry, stash-entries, looked-at}
 use Rattle.layout.specs.Answers.{values, looked-up}
 use Rattle.layout.specs.declared.Found.{Found}
 use Rattle.layout.specs.declared.Found.the-variants.{Listed, Absent, Refused}
@@ -37,7 +37,7 @@ never-silent L key = go (member key (keys-of L))
 -- what is looked at for a key, one after the other: its two slots,
 module _ (tabulation ws : List ℕ) (key : ℕ) where
   abbrev F : Family
-  F = tables tabulation (slots-of ws)
+  F = family-of tabulation ws
 
   abbrev pub own-slots : List Entry
   own-slots = slot-entry ws (slot-0 F key) ∷ slot-entry ws (slot-1 F key) ∷ []
@@ -85,10 +85,10 @@ module _ (c d : Entry) (L : List Entry) (key : ℕ) where
 -- So it is with the slots before the stash, whatever was answered of the slots, f.
 module _ (tabulation ws : List ℕ) (key : ℕ) (f : Found) (told : values f ≡ looked-up (own-slots tabulation ws key) key) where
   abbrev first-slot : Entry
-  first-slot = slot-entry ws (slot-0 (tables tabulation (slots-of ws)) key)
+  first-slot = slot-entry ws (slot-0 (family-of tabulation ws) key)
 
   abbrev second-slot : Entry
-  second-slot = slot-entry ws (slot-1 (tables tabulation (slots-of ws)) key)
+  second-slot = slot-entry ws (slot-1 (family-of tabulation ws) key)
 
   -- listed in one of them
   pub slots-listed : {t : ℕ} → f ≡ Listed t → 1 ∷ t ∷ [] ≡ looked-up (looked-at tabulation ws key) key
@@ -155,7 +155,7 @@ module _ (ws : List ℕ) (i j key : ℕ) {x y : Bool} (first : x ≡ eqb key (sl
       go false false h = refl
 
   -- These are the key's own slots.
-  module _ (tabulation : List ℕ) (p : i ≡ slot-0 (tables tabulation (slots-of ws)) key) (q : j ≡ slot-1 (tables tabulation (slots-of ws)) key) where
+  module _ (tabulation : List ℕ) (p : i ≡ slot-0 (family-of tabulation ws) key) (q : j ≡ slot-1 (family-of tabulation ws) key) where
     looked : looked-up (slot-entry ws i ∷ slot-entry ws j ∷ stash-entries ws) key ≡ looked-up (looked-at tabulation ws key) key
     looked = λ k. looked-up (slot-entry ws (p k) ∷ slot-entry ws (q k) ∷ stash-entries ws) key
 

@@ -8,9 +8,9 @@ ghost use lib.Dec.{eqb};
 ghost use lib.ListN.{length, getD, take, drop};
 ghost use Rattle.tabulation.specs.Hash.{tabulation-length, max-slots};
 ghost use Rattle.layout.specs.Layout.{header-words, header-length, slot-width, slots-of, places-of, key-count};
-ghost use Rattle.layout.specs.Layout.{stash-count, sizes-in-range, shaped, words-length, scratch-length, key-at};
+ghost use Rattle.layout.specs.Layout.{stash-count, station-of, sizes-in-range, params-in-range, shaped, words-length};
 ghost use Rattle.layout.specs.Entries.{tier-of};
-ghost use Rattle.layout.specs.Layout.{stash-at, tier-at, slot-entry, stash-entries, looked-at};
+ghost use Rattle.layout.specs.Layout.{scratch-length, key-at, stash-at, tier-at, slot-entry, stash-entries, looked-at};
 ghost use Rattle.layout.specs.Shape.{Sized, Shaped};
 ghost use Rattle.refusals.specs.Refusal.{done};
 ghost use Rattle.access.specs.Found.{own-slots};
@@ -28,8 +28,8 @@ use tabulation::TABULATION_LENGTH;
 use words::fill;
 use words::wide;
 
-// The words before the slots: r, s, the number of keys and the number of stashed keys.
-pub const HEADER_LENGTH: usize = 4;
+// The words before the slots: r, s, the number of keys, the number of stashed keys and the station number.
+pub const HEADER_LENGTH: usize = 5;
 
 // The words of a slot: its key, its next, its tier.
 pub const SLOT_WIDTH: usize = 3;
@@ -44,7 +44,7 @@ pub const MAX_TIER: u32 = 7;
 pub const MAX_PLACES: u32 = 64;
 
 // The words that the largest dictionary has, and the scratch that its calls ask for: r = 1,024, s = 64.
-pub const MAX_WORDS: usize = 6276;
+pub const MAX_WORDS: usize = 6277;
 
 pub const MAX_SCRATCH: usize = 12800;
 
@@ -55,6 +55,13 @@ pub fn are_sizes(r: u32, s: u32) -> bool
     tabulation::in_range(r) && s <= MAX_PLACES
 }
 
+// Whether r, s and the station number are in their ranges.
+fn are_params(r: u32, s: u32, station: u32) -> bool
+    ensures { λ b. ⌜ b ≡ params-in-range r s station ⌝ }
+{
+    are_sizes(r, s) && tabulation::is_station(station)
+}
+
 // The heading of words that are long enough to have one.
 pub fn read_header(words: &[u32]) -> Header
     requires { ⌜ header-length ≤ length (now words) ⌝ }
@@ -62,12 +69,14 @@ pub fn read_header(words: &[u32]) -> Header
     ensures places { λ h. ⌜ h .places ≡ places-of (now (words .entry)) ⌝ }
     ensures keys { λ h. ⌜ h .keys ≡ key-count (now (words .entry)) ⌝ }
     ensures stashed { λ h. ⌜ h .stashed ≡ stash-count (now (words .entry)) ⌝ }
+    ensures station { λ h. ⌜ h .station ≡ station-of (now (words .entry)) ⌝ }
 {
     Header {
         slots: words[0],
         places: words[1],
         keys: words[2],
         stashed: words[3],
+        station: words[4],
     }
 }
 
@@ -80,6 +89,7 @@ pub fn write_header(words: &mut [u32], header: Header)
     words[1] = header.places;
     words[2] = header.keys;
     words[3] = header.stashed;
+    words[4] = header.station;
 }
 
 // Slot v of a stretch of slots.
@@ -151,7 +161,7 @@ pub fn is_shaped(words: &[u32]) -> bool
     }
     let r = words[0];
     let s = words[1];
-    if !are_sizes(r, s) {
+    if !are_params(r, s, words[4]) {
         return false;
     }
     words.len() == length_for(r, s)
@@ -188,11 +198,11 @@ fn in_slots(tabulation: &[u16], words: &[u32], key: u32) -> Found
     ensures valued { λ f. ⌜ values f ≡ looked-up (own-slots (now (tabulation .entry)) (now (words .entry)) key) key ⌝ }
 {
     let header = read_header(words);
-    let first = tabulation::first_slot(tabulation, header.slots, key);
+    let first = tabulation::first_slot(tabulation, header.slots, header.station, key);
     if in_slot(words, first, key) {
         return Found::Listed(slot_tier(words, first));
     }
-    let second = tabulation::second_slot(tabulation, header.slots, key);
+    let second = tabulation::second_slot(tabulation, header.slots, header.station, key);
     if in_slot(words, second, key) {
         return Found::Listed(slot_tier(words, second));
     }
@@ -278,8 +288,8 @@ fn beside(tabulation: &[u16], words: &[u32], key: u32) -> Found
     ensures valued { λ f. ⌜ values f ≡ looked-up (looked-at (now (tabulation .entry)) (now (words .entry)) key) key ⌝ }
 {
     let header = read_header(words);
-    let one = tabulation::first_slot(tabulation, header.slots, key);
-    let other = tabulation::second_slot(tabulation, header.slots, key);
+    let one = tabulation::first_slot(tabulation, header.slots, header.station, key);
+    let other = tabulation::second_slot(tabulation, header.slots, header.station, key);
     let in_one = in_slot(words, one, key);
     let in_other = in_slot(words, other, key);
     if in_one | in_other {
@@ -331,19 +341,25 @@ pub fn stash(words: &[u32]) -> &[u32]
     &words[start..end]
 }
 
-// Lays fresh words: r, s and zeros, whatever they were; or 2, and the words stay.
-pub fn fresh(words: &mut [u32], r: u32, s: u32) -> u32
-    ensures numbered { λ n. ⌜ n ≡ fresh-refusal (length (now (words .entry))) r s ⌝ }
-    ensures laid { λ n. ⌜ now (words .exit) ≡ fresh-words (now (words .entry)) r s ⌝ }
+// Lays fresh words: r, s, no keys, the station number and zeros, whatever they were; or 2, and the words stay.
+pub fn fresh(words: &mut [u32], r: u32, s: u32, station: u32) -> u32
+    ensures numbered { λ n. ⌜ n ≡ fresh-refusal (length (now (words .entry))) r s station ⌝ }
+    ensures laid { λ n. ⌜ now (words .exit) ≡ fresh-words (now (words .entry)) r s station ⌝ }
 {
-    if !are_sizes(r, s) {
+    if !are_params(r, s, station) {
         return WRONG_SHAPE;
     }
     if words.len() != length_for(r, s) {
         return WRONG_SHAPE;
     }
-    fill(words, 0);
-    words[0] = r;
-    words[1] = s;
+    fill(&mut *words, 0);
+    let header = Header {
+        slots: r,
+        places: s,
+        keys: 0,
+        stashed: 0,
+        station: station,
+    };
+    write_header(words, header);
     0
 }

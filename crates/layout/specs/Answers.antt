@@ -9,7 +9,7 @@ use Rattle.basics.specs.Sets.{member}
 use Rattle.refusals.specs.Refusal.{done, wrong-tabulation, wrong-shape, not-canonical, blank-key, first-refusal, first-refusal-in}
 use Rattle.tabulation.specs.Hash.{tabulation-length, blank}
 use Rattle.layout.specs.Entries.{Entry, keys-of, tier-of}
-use Rattle.layout.specs.Layout.{shaped, sizes-in-range, slots-of, places-of, stash-count, place-width, stash-at, words-length, looked-at}
+use Rattle.layout.specs.Layout.{shaped, params-in-range, slots-of, places-of, stash-count, place-width, stash-at, words-length, looked-at}
 use Rattle.layout.specs.declared.Found.{Found}
 use Rattle.layout.specs.declared.Found.the-variants.{Listed, Absent, Refused}
 
@@ -61,16 +61,17 @@ view-of ws = cond (eqb (view-refusal ws) done) (take (place-width * stash-count 
 
 -- fresh words
 
--- "Laying fresh takes r and s and gives only 2"
-abbrev pub fresh-refusals : ℕ → ℕ → ℕ → List (ℕ × Bool)
-fresh-refusals len r s = (wrong-shape, not (sizes-in-range r s && eqb len (words-length r s))) ∷ []
+-- "Laying fresh takes r and s and gives only 2"; the station number "is given when a list is laid"
+abbrev pub fresh-refusals : ℕ → ℕ → ℕ → ℕ → List (ℕ × Bool)
+fresh-refusals len r s station = (wrong-shape, not (params-in-range r s station && eqb len (words-length r s))) ∷ []
 
-unfoldable pub fresh-refusal : ℕ → ℕ → ℕ → ℕ
-fresh-refusal len r s = first-refusal (fresh-refusals len r s)
+unfoldable pub fresh-refusal : ℕ → ℕ → ℕ → ℕ → ℕ
+fresh-refusal len r s station = first-refusal (fresh-refusals len r s station)
 
--- "accepted it leaves r, s and zeros"; a refusal leaves the words
-unfoldable pub fresh-words : List ℕ → ℕ → ℕ → List ℕ
-fresh-words ws r s = cond (eqb (fresh-refusal (length ws) r s) done) (r ∷ s ∷ replicate (length ws - 2) 0) ws
+-- "accepted it leaves r, s and zeros", the station number "as word 4"; a refusal leaves the words
+unfoldable pub fresh-words : List ℕ → ℕ → ℕ → ℕ → List ℕ
+fresh-words ws r s station =
+    cond (eqb (fresh-refusal (length ws) r s station) done) (r ∷ s ∷ 0 ∷ 0 ∷ station ∷ replicate (length ws - 5) 0) ws
 
 -- The laws. Which numbers each call can answer: "It gives 1, 2, 5, or else yes exactly when ..", "gives only 2, or 4 ..", "gives only 2".
 pub lookup-answer-in : (tabulation ws : List ℕ) (key : ℕ) → In (lookup-refusal tabulation ws key) (0 ∷ 1 ∷ 2 ∷ 5 ∷ [])
@@ -81,6 +82,6 @@ pub view-answer-in : (ws : List ℕ) → In (view-refusal ws) (0 ∷ 2 ∷ 4 ∷
 unfolding view-refusal
 view-answer-in ws = first-refusal-in (view-refusals ws)
 
-pub fresh-answer-in : (len r s : ℕ) → In (fresh-refusal len r s) (0 ∷ 2 ∷ [])
+pub fresh-answer-in : (len r s station : ℕ) → In (fresh-refusal len r s station) (0 ∷ 2 ∷ [])
 unfolding fresh-refusal
-fresh-answer-in len r s = first-refusal-in (fresh-refusals len r s)
+fresh-answer-in len r s station = first-refusal-in (fresh-refusals len r s station)

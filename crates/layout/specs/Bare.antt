@@ -1,13 +1,13 @@
--- The image of a set, its tiers taken away, is the image of its keys as document 01 has it: seats, next numbers and stash go by the keys alone. Assumes nothing.
+-- The image of a set, its tiers and its station number taken away, is the image of its keys as document 01 has it: seats, next numbers and stash go by the keys alone. Assumes nothing.
 use Prim.Native.Nat.{ℕ, zero, suc, _+_, _-_}
 use mathlib.Core.Path.{_≡_, refl}
 use mathlib.Core.Bool.{true}
 use mathlib.Core.List.{List, [], _∷_, _++_}
-use lib.ListN.{length, getD, drop, replicate}
+use lib.ListN.{length, getD, take, drop, replicate}
 use Rattle.cuckoo.specs.Graph.{slot-key, slot-next}
 use Rattle.tabulation.specs.Slots.{slot-0, slot-1}
 use Rattle.layout.specs.Entries.{Entry, keys-of}
-use Rattle.layout.specs.Layout.{Params, family, header-of, header-words, header-length, slot-width, slots-of, stash-of, fits, image, slot-words, stash-entries, slot-words-by, image-by}
+use Rattle.layout.specs.Layout.{Params, family, header-length, slot-width, slots-of, stash-of, fits, image, slot-words, stash-entries, slot-words-by, image-by}
 use Rattle.layout.specs.Standing.{image-stash-keys}
 
 -- n slots from v on, key and next
@@ -19,16 +19,16 @@ key-slots P S v (suc n) =
 -- document 01's image of a set of keys: 4 + 4r + s words
 abbrev pub key-image : Params → List ℕ → List ℕ
 key-image P S =
-    header-words (record { slots = P .slots; places = P .places; keys = length S; stashed = length (stash-of P S) })
+    (P .slots ∷ P .places ∷ length S ∷ length (stash-of P S) ∷ [])
     ++ (key-slots P S 0 (P .slots + P .slots) ++ (stash-of P S ++ replicate (P .places - length (stash-of P S)) 0))
 
--- words without their tiers
+-- words without their tiers and their station number
 unfoldable pub bare-slots : ℕ → List ℕ → List ℕ
 bare-slots zero ws = []
 bare-slots (suc n) ws = getD ws 0 0 ∷ getD ws 1 0 ∷ bare-slots n (drop slot-width ws)
 
 abbrev pub bare : List ℕ → List ℕ
-bare ws = header-words (header-of ws) ++ (bare-slots (slots-of ws + slots-of ws) (drop header-length ws) ++ keys-of (stash-entries ws))
+bare ws = take 4 ws ++ (bare-slots (slots-of ws + slots-of ws) (drop header-length ws) ++ keys-of (stash-entries ws))
 
 module _ (P : Params) (L : List Entry) where
   slots-bare : (v n : ℕ) (rest : List ℕ) → bare-slots n (slot-words P L v n ++ rest) ≡ key-slots P (keys-of L) v n

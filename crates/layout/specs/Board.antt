@@ -1,5 +1,5 @@
 -- Document 01's "Cards on a test board": K1 to K12 and the console listing as ONE table, every word of every image written out, proved as a
--- whole to follow from the image rule. The hashes come from the test board's 2,048 numbers through the definition of crate tabulation: one
+-- whole to follow from the image rule. The hashes come from the test board's 2,560 numbers through the definition of crate tabulation: one
 -- test, which the checker computes, sees that each key's two hashes are its plain ends and that the image over these has the words; the laws
 -- of Ends turn it into statements about `image` and `fits`. Assumes nothing.
 use Prim.Native.Nat.{ℕ, zero, suc, _+_, _-_, _/_, _%_, _<_, _≤_}
@@ -23,9 +23,10 @@ use Rattle.layout.specs.Ends.{Known, fits-known, image-known}
 
 -- the test board's tabulation
 
--- "entry v is v and entry 1,024 + v is v/16 rounded down, for v from 0 to 255; all others 0"
+-- "entry v is v and entry 1,024 + v is v/16 rounded down, for v from 0 to 255; all others 0"; with stations "its rack 1 entries moved to 1,280 and
+-- its new stretches zero"
 abbrev pub board-entry : ℕ → ℕ
-board-entry i = cond (ltb i 256) i (cond (leb 1024 i && ltb i 1280) ((i - 1024) / 16) 0)
+board-entry i = cond (ltb i 256) i (cond (leb 1280 i && ltb i 1536) ((i - 1280) / 16) 0)
 
 -- n entries from entry i on
 abbrev pub entries : ℕ → ℕ → List ℕ
@@ -40,9 +41,9 @@ pub board-length : length board-tabulation ≡ tabulation-length
 unfolding board-tabulation
 board-length = refl
 
--- an image on the test board: r slots to a table, s places in the stash
+-- an image on the test board: r slots to a table, s places in the stash; "The test board runs with station 0"
 abbrev pub board : ℕ → ℕ → Params
-board r s = record { tabulation = board-tabulation; slots = r; places = s }
+board r s = record { tabulation = board-tabulation; slots = r; places = s; station = 0 }
 
 -- "the places are card modulo 4 and card/16 rounded down, modulo 4", and so for each r
 abbrev pub plain-0 : ℕ → ℕ → ℕ
@@ -100,53 +101,53 @@ ready r s L = small L && (rises 0 (keys-of L) && hashed (family (board r s)) (ke
 abbrev follows : Row → Bool
 follows (shows r s L words) =
     ready r s L && (fits-by (plain-0 r) (plain-1 r) s (keys-of L)
-    && same (image-by (plain-0 r) (plain-1 r) (tier-of L) r s (keys-of L)) words)
+    && same (image-by (plain-0 r) (plain-1 r) (tier-of L) r s 0 (keys-of L)) words)
 follows (full r s L) = ready r s L && not (fits-by (plain-0 r) (plain-1 r) s (keys-of L))
 
 abbrev all : List Row → Bool
 all [] = true
 all (R ∷ Rs) = follows R && all Rs
 
--- In a row of words: r, s, keys, keys in the stash; then key, next, tier of the slots of table 0; of table 1; then key, tier of the stash. "0.1" is
+-- In a row of words: r, s, keys, keys in the stash, station; then key, next, tier of the slots of table 0; of table 1; then key, tier of the stash. "0.1" is
 -- table 0, slot 1.
 abbrev pub rows : List Row
 rows =
     -- K1 {}: all slots empty
-    shows 4 1 (plain []) (4 ∷ 1 ∷ 0 ∷ 0 ∷ 0 ∷ 0 ∷ 0 ∷ 0 ∷ 0 ∷ 0 ∷ 0 ∷ 0 ∷ 0 ∷ 0 ∷ 0 ∷ 0 ∷ 0 ∷ 0 ∷ 0 ∷ 0 ∷ 0 ∷ 0 ∷ 0 ∷ 0 ∷ 0 ∷ 0 ∷ 0 ∷ 0 ∷ 0 ∷ 0 ∷ [])
+    shows 4 1 (plain []) (4 ∷ 1 ∷ 0 ∷ 0 ∷ 0 ∷ 0 ∷ 0 ∷ 0 ∷ 0 ∷ 0 ∷ 0 ∷ 0 ∷ 0 ∷ 0 ∷ 0 ∷ 0 ∷ 0 ∷ 0 ∷ 0 ∷ 0 ∷ 0 ∷ 0 ∷ 0 ∷ 0 ∷ 0 ∷ 0 ∷ 0 ∷ 0 ∷ 0 ∷ 0 ∷ 0 ∷ [])
     -- K2 {17}: 0.1 and 1.1 hold 17, next 17
-    ∷ shows 4 1 (plain (17 ∷ [])) (4 ∷ 1 ∷ 1 ∷ 0 ∷ 0 ∷ 0 ∷ 0 ∷ 17 ∷ 17 ∷ 0 ∷ 0 ∷ 0 ∷ 0 ∷ 0 ∷ 0 ∷ 0 ∷ 0 ∷ 0 ∷ 0 ∷ 17 ∷ 17 ∷ 0 ∷ 0 ∷ 0 ∷ 0 ∷ 0 ∷ 0 ∷ 0 ∷ 0 ∷ 0 ∷ [])
+    ∷ shows 4 1 (plain (17 ∷ [])) (4 ∷ 1 ∷ 1 ∷ 0 ∷ 0 ∷ 0 ∷ 0 ∷ 0 ∷ 17 ∷ 17 ∷ 0 ∷ 0 ∷ 0 ∷ 0 ∷ 0 ∷ 0 ∷ 0 ∷ 0 ∷ 0 ∷ 0 ∷ 17 ∷ 17 ∷ 0 ∷ 0 ∷ 0 ∷ 0 ∷ 0 ∷ 0 ∷ 0 ∷ 0 ∷ 0 ∷ [])
     -- K3 {1, 17}: 0.1 and 1.0 hold 1; 1.1 holds 17
-    ∷ shows 4 1 (plain (1 ∷ 17 ∷ [])) (4 ∷ 1 ∷ 2 ∷ 0 ∷ 0 ∷ 0 ∷ 0 ∷ 1 ∷ 17 ∷ 0 ∷ 0 ∷ 0 ∷ 0 ∷ 0 ∷ 0 ∷ 0 ∷ 1 ∷ 17 ∷ 0 ∷ 17 ∷ 1 ∷ 0 ∷ 0 ∷ 0 ∷ 0 ∷ 0 ∷ 0 ∷ 0 ∷ 0 ∷ 0 ∷ [])
+    ∷ shows 4 1 (plain (1 ∷ 17 ∷ [])) (4 ∷ 1 ∷ 2 ∷ 0 ∷ 0 ∷ 0 ∷ 0 ∷ 0 ∷ 1 ∷ 17 ∷ 0 ∷ 0 ∷ 0 ∷ 0 ∷ 0 ∷ 0 ∷ 0 ∷ 1 ∷ 17 ∷ 0 ∷ 17 ∷ 1 ∷ 0 ∷ 0 ∷ 0 ∷ 0 ∷ 0 ∷ 0 ∷ 0 ∷ 0 ∷ 0 ∷ [])
     -- K4 {1, 65}: 0.1 holds 1, 1.0 holds 65
-    ∷ shows 4 1 (plain (1 ∷ 65 ∷ [])) (4 ∷ 1 ∷ 2 ∷ 0 ∷ 0 ∷ 0 ∷ 0 ∷ 1 ∷ 65 ∷ 0 ∷ 0 ∷ 0 ∷ 0 ∷ 0 ∷ 0 ∷ 0 ∷ 65 ∷ 1 ∷ 0 ∷ 0 ∷ 0 ∷ 0 ∷ 0 ∷ 0 ∷ 0 ∷ 0 ∷ 0 ∷ 0 ∷ 0 ∷ 0 ∷ [])
+    ∷ shows 4 1 (plain (1 ∷ 65 ∷ [])) (4 ∷ 1 ∷ 2 ∷ 0 ∷ 0 ∷ 0 ∷ 0 ∷ 0 ∷ 1 ∷ 65 ∷ 0 ∷ 0 ∷ 0 ∷ 0 ∷ 0 ∷ 0 ∷ 0 ∷ 65 ∷ 1 ∷ 0 ∷ 0 ∷ 0 ∷ 0 ∷ 0 ∷ 0 ∷ 0 ∷ 0 ∷ 0 ∷ 0 ∷ 0 ∷ 0 ∷ [])
     -- K5 {1, 65, 129}: as K4, stash 129
-    ∷ shows 4 1 (plain (1 ∷ 65 ∷ 129 ∷ [])) (4 ∷ 1 ∷ 3 ∷ 1 ∷ 0 ∷ 0 ∷ 0 ∷ 1 ∷ 65 ∷ 0 ∷ 0 ∷ 0 ∷ 0 ∷ 0 ∷ 0 ∷ 0 ∷ 65 ∷ 1 ∷ 0 ∷ 0 ∷ 0 ∷ 0 ∷ 0 ∷ 0 ∷ 0 ∷ 0 ∷ 0 ∷ 0 ∷ 129 ∷ 0 ∷ [])
+    ∷ shows 4 1 (plain (1 ∷ 65 ∷ 129 ∷ [])) (4 ∷ 1 ∷ 3 ∷ 1 ∷ 0 ∷ 0 ∷ 0 ∷ 0 ∷ 1 ∷ 65 ∷ 0 ∷ 0 ∷ 0 ∷ 0 ∷ 0 ∷ 0 ∷ 0 ∷ 65 ∷ 1 ∷ 0 ∷ 0 ∷ 0 ∷ 0 ∷ 0 ∷ 0 ∷ 0 ∷ 0 ∷ 0 ∷ 0 ∷ 129 ∷ 0 ∷ [])
     -- K5 with the tiers 3, 0 and 7
     ∷ shows 4 1 (record { key = 1; tier = 3 } ∷ record { key = 65; tier = 0 } ∷ record { key = 129; tier = 7 } ∷ [])
-    (4 ∷ 1 ∷ 3 ∷ 1 ∷ 0 ∷ 0 ∷ 0 ∷ 1 ∷ 65 ∷ 3 ∷ 0 ∷ 0 ∷ 0 ∷ 0 ∷ 0 ∷ 0 ∷ 65 ∷ 1 ∷ 0 ∷ 0 ∷ 0 ∷ 0 ∷ 0 ∷ 0 ∷ 0 ∷ 0 ∷ 0 ∷ 0 ∷ 129 ∷ 7 ∷ [])
+    (4 ∷ 1 ∷ 3 ∷ 1 ∷ 0 ∷ 0 ∷ 0 ∷ 0 ∷ 1 ∷ 65 ∷ 3 ∷ 0 ∷ 0 ∷ 0 ∷ 0 ∷ 0 ∷ 0 ∷ 65 ∷ 1 ∷ 0 ∷ 0 ∷ 0 ∷ 0 ∷ 0 ∷ 0 ∷ 0 ∷ 0 ∷ 0 ∷ 0 ∷ 129 ∷ 7 ∷ [])
     -- K3 with the tiers 2 and 5: the smallest key of a tree has its tier in both slots
     ∷ shows 4 1 (record { key = 1; tier = 2 } ∷ record { key = 17; tier = 5 } ∷ [])
-    (4 ∷ 1 ∷ 2 ∷ 0 ∷ 0 ∷ 0 ∷ 0 ∷ 1 ∷ 17 ∷ 2 ∷ 0 ∷ 0 ∷ 0 ∷ 0 ∷ 0 ∷ 0 ∷ 1 ∷ 17 ∷ 2 ∷ 17 ∷ 1 ∷ 5 ∷ 0 ∷ 0 ∷ 0 ∷ 0 ∷ 0 ∷ 0 ∷ 0 ∷ 0 ∷ [])
+    (4 ∷ 1 ∷ 2 ∷ 0 ∷ 0 ∷ 0 ∷ 0 ∷ 0 ∷ 1 ∷ 17 ∷ 2 ∷ 0 ∷ 0 ∷ 0 ∷ 0 ∷ 0 ∷ 0 ∷ 1 ∷ 17 ∷ 2 ∷ 17 ∷ 1 ∷ 5 ∷ 0 ∷ 0 ∷ 0 ∷ 0 ∷ 0 ∷ 0 ∷ 0 ∷ 0 ∷ [])
     -- K6, K5 plus 193: refused 8
     ∷ full 4 1 (plain (1 ∷ 65 ∷ 129 ∷ 193 ∷ []))
     -- K6 with s = 2: accepted, stash 129, 193
-    ∷ shows 4 2 (plain (1 ∷ 65 ∷ 129 ∷ 193 ∷ [])) (4 ∷ 2 ∷ 4 ∷ 2 ∷ 0 ∷ 0 ∷ 0 ∷ 1 ∷ 65 ∷ 0 ∷ 0 ∷ 0 ∷ 0 ∷ 0 ∷ 0 ∷ 0 ∷ 65 ∷ 1 ∷ 0 ∷ 0 ∷ 0 ∷ 0 ∷ 0 ∷ 0 ∷ 0 ∷ 0 ∷ 0 ∷ 0 ∷ 129 ∷ 0 ∷ 193 ∷ 0 ∷ [])
+    ∷ shows 4 2 (plain (1 ∷ 65 ∷ 129 ∷ 193 ∷ [])) (4 ∷ 2 ∷ 4 ∷ 2 ∷ 0 ∷ 0 ∷ 0 ∷ 0 ∷ 1 ∷ 65 ∷ 0 ∷ 0 ∷ 0 ∷ 0 ∷ 0 ∷ 0 ∷ 0 ∷ 65 ∷ 1 ∷ 0 ∷ 0 ∷ 0 ∷ 0 ∷ 0 ∷ 0 ∷ 0 ∷ 0 ∷ 0 ∷ 0 ∷ 129 ∷ 0 ∷ 193 ∷ 0 ∷ [])
     -- K7, K5 less 65: 0.1 holds 1, 1.0 holds 129, stash empty
-    ∷ shows 4 1 (plain (1 ∷ 129 ∷ [])) (4 ∷ 1 ∷ 2 ∷ 0 ∷ 0 ∷ 0 ∷ 0 ∷ 1 ∷ 129 ∷ 0 ∷ 0 ∷ 0 ∷ 0 ∷ 0 ∷ 0 ∷ 0 ∷ 129 ∷ 1 ∷ 0 ∷ 0 ∷ 0 ∷ 0 ∷ 0 ∷ 0 ∷ 0 ∷ 0 ∷ 0 ∷ 0 ∷ 0 ∷ 0 ∷ [])
+    ∷ shows 4 1 (plain (1 ∷ 129 ∷ [])) (4 ∷ 1 ∷ 2 ∷ 0 ∷ 0 ∷ 0 ∷ 0 ∷ 0 ∷ 1 ∷ 129 ∷ 0 ∷ 0 ∷ 0 ∷ 0 ∷ 0 ∷ 0 ∷ 0 ∷ 129 ∷ 1 ∷ 0 ∷ 0 ∷ 0 ∷ 0 ∷ 0 ∷ 0 ∷ 0 ∷ 0 ∷ 0 ∷ 0 ∷ 0 ∷ 0 ∷ [])
     -- K8 {17, 65, 129}: 0.1 holds 65, 1.0 holds 129, 1.1 holds 17; next 17 to 65 to 129 to 17
-    ∷ shows 4 1 (plain (17 ∷ 65 ∷ 129 ∷ [])) (4 ∷ 1 ∷ 3 ∷ 0 ∷ 0 ∷ 0 ∷ 0 ∷ 65 ∷ 129 ∷ 0 ∷ 0 ∷ 0 ∷ 0 ∷ 0 ∷ 0 ∷ 0 ∷ 129 ∷ 17 ∷ 0 ∷ 17 ∷ 65 ∷ 0 ∷ 0 ∷ 0 ∷ 0 ∷ 0 ∷ 0 ∷ 0 ∷ 0 ∷ 0 ∷ [])
+    ∷ shows 4 1 (plain (17 ∷ 65 ∷ 129 ∷ [])) (4 ∷ 1 ∷ 3 ∷ 0 ∷ 0 ∷ 0 ∷ 0 ∷ 0 ∷ 65 ∷ 129 ∷ 0 ∷ 0 ∷ 0 ∷ 0 ∷ 0 ∷ 0 ∷ 0 ∷ 129 ∷ 17 ∷ 0 ∷ 17 ∷ 65 ∷ 0 ∷ 0 ∷ 0 ∷ 0 ∷ 0 ∷ 0 ∷ 0 ∷ 0 ∷ 0 ∷ [])
     -- K9 {1, 33, 34, 65, 98}: 0.1 holds 1, 1.0 holds 65, 1.2 holds 33, 0.2 holds 34, stash 98
-    ∷ shows 4 1 (plain (1 ∷ 33 ∷ 34 ∷ 65 ∷ 98 ∷ [])) (4 ∷ 1 ∷ 5 ∷ 1 ∷ 0 ∷ 0 ∷ 0 ∷ 1 ∷ 33 ∷ 0 ∷ 34 ∷ 65 ∷ 0 ∷ 0 ∷ 0 ∷ 0 ∷ 65 ∷ 1 ∷ 0 ∷ 0 ∷ 0 ∷ 0 ∷ 33 ∷ 34 ∷ 0 ∷ 0 ∷ 0 ∷ 0 ∷ 98 ∷ 0 ∷ [])
+    ∷ shows 4 1 (plain (1 ∷ 33 ∷ 34 ∷ 65 ∷ 98 ∷ [])) (4 ∷ 1 ∷ 5 ∷ 1 ∷ 0 ∷ 0 ∷ 0 ∷ 0 ∷ 1 ∷ 33 ∷ 0 ∷ 34 ∷ 65 ∷ 0 ∷ 0 ∷ 0 ∷ 0 ∷ 65 ∷ 1 ∷ 0 ∷ 0 ∷ 0 ∷ 0 ∷ 33 ∷ 34 ∷ 0 ∷ 0 ∷ 0 ∷ 0 ∷ 98 ∷ 0 ∷ [])
     -- K10, K9 less 33: 1.2 holds 98, the stash is empty
-    ∷ shows 4 1 (plain (1 ∷ 34 ∷ 65 ∷ 98 ∷ [])) (4 ∷ 1 ∷ 4 ∷ 0 ∷ 0 ∷ 0 ∷ 0 ∷ 1 ∷ 65 ∷ 0 ∷ 34 ∷ 98 ∷ 0 ∷ 0 ∷ 0 ∷ 0 ∷ 65 ∷ 1 ∷ 0 ∷ 0 ∷ 0 ∷ 0 ∷ 98 ∷ 34 ∷ 0 ∷ 0 ∷ 0 ∷ 0 ∷ 0 ∷ 0 ∷ [])
+    ∷ shows 4 1 (plain (1 ∷ 34 ∷ 65 ∷ 98 ∷ [])) (4 ∷ 1 ∷ 4 ∷ 0 ∷ 0 ∷ 0 ∷ 0 ∷ 0 ∷ 1 ∷ 65 ∷ 0 ∷ 34 ∷ 98 ∷ 0 ∷ 0 ∷ 0 ∷ 0 ∷ 65 ∷ 1 ∷ 0 ∷ 0 ∷ 0 ∷ 0 ∷ 98 ∷ 34 ∷ 0 ∷ 0 ∷ 0 ∷ 0 ∷ 0 ∷ 0 ∷ [])
     -- K11 {1, 34, 65, 98, 225}: 225 in 1.2, stash 98
-    ∷ shows 4 1 (plain (1 ∷ 34 ∷ 65 ∷ 98 ∷ 225 ∷ [])) (4 ∷ 1 ∷ 5 ∷ 1 ∷ 0 ∷ 0 ∷ 0 ∷ 1 ∷ 34 ∷ 0 ∷ 34 ∷ 65 ∷ 0 ∷ 0 ∷ 0 ∷ 0 ∷ 65 ∷ 225 ∷ 0 ∷ 0 ∷ 0 ∷ 0 ∷ 225 ∷ 1 ∷ 0 ∷ 0 ∷ 0 ∷ 0 ∷ 98 ∷ 0 ∷ [])
+    ∷ shows 4 1 (plain (1 ∷ 34 ∷ 65 ∷ 98 ∷ 225 ∷ [])) (4 ∷ 1 ∷ 5 ∷ 1 ∷ 0 ∷ 0 ∷ 0 ∷ 0 ∷ 1 ∷ 34 ∷ 0 ∷ 34 ∷ 65 ∷ 0 ∷ 0 ∷ 0 ∷ 0 ∷ 65 ∷ 225 ∷ 0 ∷ 0 ∷ 0 ∷ 0 ∷ 225 ∷ 1 ∷ 0 ∷ 0 ∷ 0 ∷ 0 ∷ 98 ∷ 0 ∷ [])
     -- K12, r = 1, s = 0: two keys fit, the smaller in table 0 (for every two keys: Smallest.antt)
-    ∷ shows 1 0 (plain (7 ∷ 200 ∷ [])) (1 ∷ 0 ∷ 2 ∷ 0 ∷ 7 ∷ 200 ∷ 0 ∷ 200 ∷ 7 ∷ 0 ∷ [])
+    ∷ shows 1 0 (plain (7 ∷ 200 ∷ [])) (1 ∷ 0 ∷ 2 ∷ 0 ∷ 0 ∷ 7 ∷ 200 ∷ 0 ∷ 200 ∷ 7 ∷ 0 ∷ [])
     -- K12: a third is refused 8
     ∷ full 1 0 (plain (7 ∷ 200 ∷ 201 ∷ []))
     -- the console listing, r = 2: 0.1 holds 1, next 33; 1.0 holds 33, next 1; stash 65
-    ∷ shows 2 1 (plain (1 ∷ 33 ∷ 65 ∷ [])) (2 ∷ 1 ∷ 3 ∷ 1 ∷ 0 ∷ 0 ∷ 0 ∷ 1 ∷ 33 ∷ 0 ∷ 33 ∷ 1 ∷ 0 ∷ 0 ∷ 0 ∷ 0 ∷ 65 ∷ 0 ∷ [])
+    ∷ shows 2 1 (plain (1 ∷ 33 ∷ 65 ∷ [])) (2 ∷ 1 ∷ 3 ∷ 1 ∷ 0 ∷ 0 ∷ 0 ∷ 0 ∷ 1 ∷ 33 ∷ 0 ∷ 33 ∷ 1 ∷ 0 ∷ 0 ∷ 0 ∷ 0 ∷ 65 ∷ 0 ∷ [])
     -- the console listing: 97 on top is refused 8
     ∷ full 2 1 (plain (1 ∷ 33 ∷ 65 ∷ 97 ∷ []))
     ∷ []
@@ -200,7 +201,7 @@ ready-is r s L e =
 holds : (R : Row) → follows R ≡ true → RowHolds R
 holds (shows r s L words) e =
     let F = fits-by (plain-0 r) (plain-1 r) s (keys-of L) in
-    let W = image-by (plain-0 r) (plain-1 r) (tier-of L) r s (keys-of L) in
+    let W = image-by (plain-0 r) (plain-1 r) (tier-of L) r s 0 (keys-of L) in
     let p = and-true (ready r s L) (F && same W words) e in
     let q = and-true F (same W words) (p .1) in
     let d = ready-is r s L (p .0) in

@@ -13,7 +13,7 @@ use Rattle.basics.specs.Tests.{test, and-true}
 use Rattle.basics.specs.Sets.{any, any-true, true-any}
 use Rattle.basics.specs.Lists.{same, same-true, true-same}
 use Rattle.layout.specs.Entries.{Entry, max-tier, keys-of, keys-tiered, key-in, tiered-in, in-tiered}
-use Rattle.layout.specs.Layout.{Params, ValidSet, slots-of, params-of, sizes-in-range, shaped, fits, image, keys-in, tier-in, set-in}
+use Rattle.layout.specs.Layout.{Params, ValidSet, slots-of, params-of, params-in-range, shaped, fits, image, keys-in, tier-in, set-in}
 use Rattle.layout.specs.Shape.{shape}
 use Rattle.layout.specs.Image.{image-shaped, image-params}
 use Rattle.layout.specs.Standing.{keys-in-valid, keys-in-image, set-in-image}
@@ -133,7 +133,7 @@ pub canonical-tier : (tabulation ws : List ℕ) → canonical tabulation ws ≡ 
 canonical-tier tabulation ws c e i = canonical-true tabulation ws c .valid .tiers e i
 
 -- every image passes
-pub image-canonical : (P : Params) (L : List Entry) → sizes-in-range (P .slots) (P .places) ≡ true → ValidSet L → fits P (keys-of L) ≡ true
+pub image-canonical : (P : Params) (L : List Entry) → params-in-range (P .slots) (P .places) (P .station) ≡ true → ValidSet L → fits P (keys-of L) ≡ true
     → canonical (P .tabulation) (image P L) ≡ true
 image-canonical P L range valid e =
     image-of-canonical (P .tabulation) (image P L) (image-shaped P L range e) refl (record { valid = valid; fit = e; is = refl }) .2

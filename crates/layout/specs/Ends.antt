@@ -24,6 +24,6 @@ module _ (P : Params) {a b : ℕ → ℕ} (L : List Entry) (g : Known P a b (key
   slot-words-known v zero = refl
   slot-words-known v (suc n) = rw (slot-key-agree g v, slot-next-agree g v, slot-words-known (suc v) n)
 
-  pub image-known : image P L ≡ image-by a b (tier-of L) (P .slots) (P .places) (keys-of L)
+  pub image-known : image P L ≡ image-by a b (tier-of L) (P .slots) (P .places) (P .station) (keys-of L)
   unfolding image image-by
   image-known = rw (stash-agree g, slot-words-known 0 (P .slots + P .slots))

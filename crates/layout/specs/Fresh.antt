@@ -1,18 +1,18 @@
 -- Fresh words: the image of the empty set, which fits with every r and s; and what the test of sizes and length decides, for the code. Assumes nothing.
 use Prim.Native.Nat.{ℕ, zero, suc, _+_, _*_, _-_, _≤_}
-use mathlib.Core.Path.{_≡_, refl, sym}
+use mathlib.Core.Path.{_≡_, refl, sym, ap}
 use mathlib.Core.Bool.{true, false, _&&_}
 use mathlib.Core.Logic.{inl, inr}
 use mathlib.Core.List.{List, [], _∷_}
 use native.Mathlib.Omega.{arith}
 use borrow.Author.Tests.{eqb-true}
 use lib.Dec.{eqb}
-use lib.ListN.{length, set, replicate, replicate-append-replicate}
+use lib.ListN.{length, drop, replicate, replicate-append-replicate}
 use Rattle.cuckoo.specs.Graph.{settle, seated, stash, occupant, slot-key, slot-next}
 use Rattle.basics.specs.Tests.{test, and-true}
 use Rattle.basics.specs.Sets.{none}
 use Rattle.refusals.specs.Refusal.{done}
-use Rattle.layout.specs.Layout.{Params, ValidSet, slot-width, place-width, words-length, sizes-in-range, fits, slot-words, image, fits-by, image-by, slot-words-by}
+use Rattle.layout.specs.Layout.{Params, ValidSet, slot-width, place-width, header-length, words-length, params-in-range, fits, slot-words, image, fits-by, image-by, slot-words-by}
 use Rattle.layout.specs.Answers.{fresh-refusal, fresh-words}
 use Rattle.layout.specs.Image.{le-fits}
 
@@ -30,43 +30,45 @@ module _ (P : Params) where
   empty-slots v zero = refl
   empty-slots v (suc n) = let e : slot-width * suc n ≡ suc (suc (suc (slot-width * n))) = omega arith in rw (e, empty-slots (suc v) n)
 
-  -- "r, s and zeros"
-  pub empty-image : image P [] ≡ P .slots ∷ P .places ∷ replicate (words-length (P .slots) (P .places) - 2) 0
+  -- "r, s, 0, 0, station, zeros"
+  pub empty-image : image P [] ≡ P .slots ∷ P .places ∷ 0 ∷ 0 ∷ P .station ∷ replicate (words-length (P .slots) (P .places) - 5) 0
   unfolding image image-by stash
   empty-image =
       let r = P .slots in
       let s = P .places in
-      let e : words-length r s - 2 ≡ suc (suc (slot-width * (r + r) + place-width * (s - 0))) = omega arith in
+      let e : words-length r s - 5 ≡ slot-width * (r + r) + place-width * (s - 0) = omega arith in
       rw (e, empty-slots 0 (r + r), replicate-append-replicate)
 
 -- an accepted call lays the image of the empty set
-module _ (P : Params) (ws : List ℕ) (accepted : fresh-refusal (length ws) (P .slots) (P .places) ≡ done) where
-  pub fresh-sizes : (sizes-in-range (P .slots) (P .places) ≡ true) × (length ws ≡ words-length (P .slots) (P .places))
+module _ (P : Params) (ws : List ℕ) (accepted : fresh-refusal (length ws) (P .slots) (P .places) (P .station) ≡ done) where
+  pub fresh-sizes : (params-in-range (P .slots) (P .places) (P .station) ≡ true) × (length ws ≡ words-length (P .slots) (P .places))
   unfolding fresh-refusal
-  fresh-sizes = elim (test (sizes-in-range (P .slots) (P .places) && eqb (length ws) (words-length (P .slots) (P .places)))) [
+  fresh-sizes = elim (test (params-in-range (P .slots) (P .places) (P .station) && eqb (length ws) (words-length (P .slots) (P .places)))) [
     | inl e ↦
-        let p = and-true (sizes-in-range (P .slots) (P .places)) (eqb (length ws) (words-length (P .slots) (P .places))) e in
+        let p = and-true (params-in-range (P .slots) (P .places) (P .station)) (eqb (length ws) (words-length (P .slots) (P .places))) e in
         (p .0, eqb-true (length ws) (words-length (P .slots) (P .places)) (p .1))
     | inr e ↦ absurd (let z : _≡_ {A = ℕ} 2 0 = rw e at accepted in omega arith)
   ]
 
-  pub fresh-image : fresh-words ws (P .slots) (P .places) ≡ image P []
+  pub fresh-image : fresh-words ws (P .slots) (P .places) (P .station) ≡ image P []
   unfolding fresh-words
   fresh-image = rw (accepted, fresh-sizes .1) (sym (empty-image P))
 
 -- the same by the test that decides, for the code of `fresh`
-module _ (ws : List ℕ) (r s : ℕ) where
-  pub fresh-refused : (sizes-in-range r s && eqb (length ws) (words-length r s)) ≡ false
-      → (2 ≡ fresh-refusal (length ws) r s) × (ws ≡ fresh-words ws r s)
+module _ (ws : List ℕ) (r s station : ℕ) where
+  pub fresh-refused : (params-in-range r s station && eqb (length ws) (words-length r s)) ≡ false
+      → (2 ≡ fresh-refusal (length ws) r s station) × (ws ≡ fresh-words ws r s station)
   unfolding fresh-refusal fresh-words
   fresh-refused e = (rw e, rw e)
 
-  two-set : (n : ℕ) → 2 ≤ n → set (set (replicate n 0) 0 r) 1 s ≡ r ∷ s ∷ replicate (n - 2) 0
-  two-set zero h = absurd (omega arith)
-  two-set (suc zero) h = absurd (omega arith)
-  two-set (suc (suc n)) h = let e : suc (suc n) - 2 ≡ n = omega arith in rw e
+  -- the heading before zeros
+  zeros-headed : (n : ℕ) → header-length ≤ n → drop {A = ℕ} header-length (replicate n 0) ≡ replicate (n - header-length) 0
+  zeros-headed n l =
+      let e : n ≡ suc (suc (suc (suc (suc (n - header-length))))) = omega arith in
+      ap (λ (k : ℕ). drop {A = ℕ} header-length (replicate k 0)) e
 
-  pub fresh-accepted : (sizes-in-range r s && eqb (length ws) (words-length r s)) ≡ true → 2 ≤ length ws
-      → (0 ≡ fresh-refusal (length ws) r s) × (set (set (replicate (length ws) 0) 0 r) 1 s ≡ fresh-words ws r s)
+  pub fresh-accepted : (params-in-range r s station && eqb (length ws) (words-length r s)) ≡ true → header-length ≤ length ws
+      → (0 ≡ fresh-refusal (length ws) r s station)
+      × (r ∷ s ∷ 0 ∷ 0 ∷ station ∷ drop header-length (replicate (length ws) 0) ≡ fresh-words ws r s station)
   unfolding fresh-refusal fresh-words
-  fresh-accepted e h = (rw e, rw e (two-set (length ws) h))
+  fresh-accepted e h = (rw e, rw (e, zeros-headed (length ws) h))

@@ -14,23 +14,24 @@ use Rattle.basics.specs.Tests.{eq?, le?}
 use Rattle.tabulation.specs.Slots.{slot-0, slot-1}
 use Rattle.layout.specs.Entries.{Entry, keys-of, tier-of}
 use Rattle.layout.specs.Layout.{Params, family, header-words, header-length, slot-width, place-width, key-at, tier-at, stash-at, place-at, words-length, slots-of, places-of, fits-by, place-words, image-by, slot-words-by}
-use Rattle.layout.specs.Layout.{stash-count, params-of, sizes-in-range, shaped, stash-of, fits, slot-words, stash-words, image}
+use Rattle.layout.specs.Layout.{stash-count, station-of, params-of, params-in-range, shaped, stash-of, fits, slot-words, stash-words, image}
 use Rattle.layout.specs.declared.Header.{Header}
-use Rattle.layout.specs.Shape.{sized, shape-true}
+use Rattle.layout.specs.Shape.{ranged, shape-true}
 
 -- the heading as the code writes it, word by word
 pub headed : (ws : List ℕ) (h : Header) → header-length ≤ length ws
-    → set (set (set (set ws 0 (h .slots)) 1 (h .places)) 2 (h .keys)) 3 (h .stashed) ≡ header-words h ++ drop header-length ws
+    → set (set (set (set (set ws 0 (h .slots)) 1 (h .places)) 2 (h .keys)) 3 (h .stashed)) 4 (h .station) ≡ header-words h ++ drop header-length ws
 headed [] h l = absurd (omega arith)
 headed (a ∷ []) h l = absurd (omega arith)
 headed (a ∷ b ∷ []) h l = absurd (omega arith)
 headed (a ∷ b ∷ c ∷ []) h l = absurd (omega arith)
-headed (a ∷ b ∷ c ∷ d ∷ ws) h l = refl
+headed (a ∷ b ∷ c ∷ d ∷ []) h l = absurd (omega arith)
+headed (a ∷ b ∷ c ∷ d ∷ e ∷ ws) h l = refl
 
 -- the kinds of positions
 
--- "the length becomes 4 + 6r + 2s"
-pub exact-length : (r s : ℕ) → words-length r s ≡ 4 + 6 * r + 2 * s
+-- "the length becomes 4 + 6r + 2s", and it "grows by one"
+pub exact-length : (r s : ℕ) → words-length r s ≡ 5 + 6 * r + 2 * s
 exact-length r s = omega arith
 
 -- Position i of words with r and s: in the header, at a slot's key, next or tier, or at the key or the tier of a place.
@@ -145,6 +146,10 @@ module _ (P : Params) (L : List Entry) where
   unfolding image image-by
   image-stashed = refl
 
+  pub image-station : station-of (image P L) ≡ P .station
+  unfolding image image-by
+  image-station = refl
+
   -- its slots
   image-after-header : drop header-length (image P L) ≡ slot-words P L 0 (P .slots + P .slots) ++ stash-words P L
   unfolding image image-by
@@ -212,8 +217,11 @@ module _ (P : Params) (L : List Entry) where
   image-size e = rw (image-slots, image-places) (image-length e)
 
   -- An image has the shape of a dictionary,
-  pub image-shaped : sizes-in-range (P .slots) (P .places) ≡ true → fits P S ≡ true → shaped (image P L) ≡ true
-  image-shaped range e = shape-true (image P L) (record { sizes = rw (image-slots, image-places) (sized (P .slots) (P .places) range); size = image-size e })
+  pub image-shaped : params-in-range (P .slots) (P .places) (P .station) ≡ true → fits P S ≡ true → shaped (image P L) ≡ true
+  image-shaped range e =
+      let t = ranged (P .slots) (P .places) (P .station) range in
+      shape-true (image P L)
+      (record { sizes = rw (image-slots, image-places) (t .0); station = rw image-station (t .1); size = image-size e })
 
   -- and it is read with the parameters it was made with.
   pub image-params : params-of (P .tabulation) (image P L) ≡ P
@@ -227,6 +235,7 @@ pub record Laid (P : Params) (L : List Entry) (ws : List ℕ) : Type 0 where
   pub places : places-of ws ≡ P .places
   pub keys : getD ws 2 0 ≡ length (keys-of L)
   pub stashed : stash-count ws ≡ length (stash-of P (keys-of L))
+  pub station : station-of ws ≡ P .station
   pub key : (v : ℕ) → v < P .slots + P .slots → getD ws (key-at v) 0 ≡ slot-key (slot-0 (family P)) (slot-1 (family P)) (keys-of L) v
   pub next : (v : ℕ) → v < P .slots + P .slots → getD ws (suc (key-at v)) 0 ≡ slot-next (slot-0 (family P)) (slot-1 (family P)) (keys-of L) v
   pub tier : (v : ℕ) → v < P .slots + P .slots
@@ -243,6 +252,7 @@ module _ {P : Params} {L : List Entry} (e : fits P (keys-of L) ≡ true) (z : ti
         places = image-places P L;
         keys = image-keys P L;
         stashed = image-stashed P L;
+        station = image-station P L;
         key = image-key P L;
         next = image-next P L;
         tier = image-tier P L;
@@ -260,7 +270,8 @@ module _ {P : Params} {L : List Entry} (e : fits P (keys-of L) ≡ true) (z : ti
       head (suc zero) l = W .places ∙ sym (image-places P L)
       head (suc (suc zero)) l = W .keys ∙ sym (image-keys P L)
       head (suc (suc (suc zero))) l = W .stashed ∙ sym (image-stashed P L)
-      head (suc (suc (suc (suc i)))) l = absurd (omega arith)
+      head (suc (suc (suc (suc zero)))) l = W .station ∙ sym (image-station P L)
+      head (suc (suc (suc (suc (suc i))))) l = absurd (omega arith)
 
       go : (i : ℕ) → Position (P .slots) (P .places) i → getD ws i 0 ≡ getD (image P L) i 0
       go i (in-header l) = head i l

@@ -9,19 +9,20 @@ use lib.ListN.{length, getD, drop, replicate}
 use Rattle.basics.specs.Sets.{keep, Asc}
 use Rattle.cuckoo.specs.Graph.{stash, slot-key, slot-next}
 use Rattle.ordered.specs.Keys.{sorted, distinct}
-use Rattle.tabulation.specs.Hash.{Family, blank, slots-in-range, tables}
+use Rattle.tabulation.specs.Hash.{Family, blank, slots-in-range, station-in-range, tables}
 use Rattle.tabulation.specs.Slots.{slot-0, slot-1}
 use Rattle.layout.specs.Entries.{Entry, max-tier, keys-of, tier-of, tiered}
 use Rattle.layout.specs.declared.Header.{Header}
 
--- what an image depends on besides its set: the tabulation, r and s
+-- what an image depends on besides its set: the tabulation, r, s and the station number
 pub record Params : Type 0 where
   pub tabulation : List ℕ
   pub slots : ℕ
   pub places : ℕ
+  pub station : ℕ
 
 abbrev pub family : Params → Family
-family P = tables (P .tabulation) (P .slots)
+family P = tables (P .tabulation) (P .slots) (P .station)
 
 -- A set of keys: strictly ascending, and no key of it is blank.
 pub record ValidKeys (S : List ℕ) : Type 0 where
@@ -35,16 +36,16 @@ pub record ValidSet (L : List Entry) : Type 0 where
 
 -- the heading
 
--- Words 0 to 3: r, s, the number of keys and the number of stashed keys; as they are read,
+-- Words 0 to 4: r, s, the number of keys, the number of stashed keys, and the station number, which "stands as word 4"; as they are read,
 abbrev pub header-of : List ℕ → Header
-header-of ws = record { slots = getD ws 0 0; places = getD ws 1 0; keys = getD ws 2 0; stashed = getD ws 3 0 }
+header-of ws = record { slots = getD ws 0 0; places = getD ws 1 0; keys = getD ws 2 0; stashed = getD ws 3 0; station = getD ws 4 0 }
 
 -- and as they are written.
 abbrev pub header-words : Header → List ℕ
-header-words h = h .slots ∷ h .places ∷ h .keys ∷ h .stashed ∷ []
+header-words h = h .slots ∷ h .places ∷ h .keys ∷ h .stashed ∷ h .station ∷ []
 
 abbrev pub header-length : ℕ
-header-length = 4
+header-length = 5
 
 abbrev pub slots-of : List ℕ → ℕ
 slots-of ws = header-of ws .slots
@@ -57,6 +58,9 @@ key-count ws = header-of ws .keys
 
 abbrev pub stash-count : List ℕ → ℕ
 stash-count ws = header-of ws .stashed
+
+abbrev pub station-of : List ℕ → ℕ
+station-of ws = header-of ws .station
 
 -- slots and stash places
 
@@ -91,7 +95,7 @@ stash-at r = key-at (r + r)
 abbrev pub place-at : ℕ → ℕ → ℕ
 place-at r i = stash-at r + place-width * i
 
--- "the length becomes 4 + 6r + 2s"
+-- "the length becomes 4 + 6r + 2s"; with the station number "the length grows by one"
 abbrev pub words-length : ℕ → ℕ → ℕ
 words-length r s = place-at r s
 
@@ -101,16 +105,25 @@ scratch-length r s = 12 * r + 8 * s
 
 -- the parameters that given words are read with
 abbrev pub params-of : List ℕ → List ℕ → Params
-params-of tabulation ws = record { tabulation = tabulation; slots = slots-of ws; places = places-of ws }
+params-of tabulation ws = record { tabulation = tabulation; slots = slots-of ws; places = places-of ws; station = station-of ws }
+
+-- and the family that hashes their keys: that of "the list's own" station
+abbrev pub family-of : List ℕ → List ℕ → Family
+family-of tabulation ws = family (params-of tabulation ws)
 
 -- r and s in their ranges
 unfoldable pub sizes-in-range : ℕ → ℕ → Bool
 sizes-in-range r s = slots-in-range r && leb s max-places
 
--- The shape of a dictionary; its opposite is "list shorter than 4 words, r or s outside its range, or length not" 4 + 6r + 2s.
+-- r, s and the station number in their ranges
+unfoldable pub params-in-range : ℕ → ℕ → ℕ → Bool
+params-in-range r s station = sizes-in-range r s && station-in-range station
+
+-- The shape of a dictionary; its opposite is "list shorter than" 5 "words, r or s outside its range, or length not" 5 + 6r + 2s, or "a station above
+-- 255, given or in word 4".
 unfoldable pub shaped : List ℕ → Bool
 shaped ws =
-    leb header-length (length ws) && sizes-in-range (slots-of ws) (places-of ws)
+    leb header-length (length ws) && params-in-range (slots-of ws) (places-of ws) (station-of ws)
     && eqb (length ws) (words-length (slots-of ws) (places-of ws))
 
 -- the image of a set
@@ -137,11 +150,14 @@ module _ (a b : ℕ → ℕ) where
     abbrev pub stash-words-by : ℕ → List ℕ → List ℕ
     stash-words-by s S = place-words t (stash a b S) ++ replicate (place-width * (s - length (stash a b S))) 0
 
-    -- the heading, the slots, the stash
-    unfoldable pub image-by : ℕ → ℕ → List ℕ → List ℕ
-    image-by r s S =
-        header-words (record { slots = r; places = s; keys = length S; stashed = length (stash a b S) })
-        ++ (slot-words-by S 0 (r + r) ++ stash-words-by s S)
+    -- the tables and the stash
+    abbrev pub body-by : ℕ → ℕ → List ℕ → List ℕ
+    body-by r s S = slot-words-by S 0 (r + r) ++ stash-words-by s S
+
+    -- the heading before them
+    unfoldable pub image-by : ℕ → ℕ → ℕ → List ℕ → List ℕ
+    image-by r s station S =
+        header-words (record { slots = r; places = s; keys = length S; stashed = length (stash a b S); station = station }) ++ body-by r s S
 
 -- With a tabulation the end functions are the hashes.
 abbrev pub stash-of : Params → List ℕ → List ℕ
@@ -152,7 +168,7 @@ fits P S = fits-by (slot-0 (family P)) (slot-1 (family P)) (P .places) S
 
 -- The canonical image of a set: "set" means cards with their tiers.
 unfoldable pub image : Params → List Entry → List ℕ
-image P L = image-by (slot-0 (family P)) (slot-1 (family P)) (tier-of L) (P .slots) (P .places) (keys-of L)
+image P L = image-by (slot-0 (family P)) (slot-1 (family P)) (tier-of L) (P .slots) (P .places) (P .station) (keys-of L)
 
 -- what stands in given words
 
@@ -184,7 +200,7 @@ slot-entry ws v = record { key = getD ws (key-at v) 0; tier = getD ws (tier-at v
 
 abbrev pub looked-at : List ℕ → List ℕ → ℕ → List Entry
 looked-at tabulation ws key =
-    let F = tables tabulation (slots-of ws) in
+    let F = family-of tabulation ws in
     slot-entry ws (slot-0 F key) ∷ slot-entry ws (slot-1 F key) ∷ stash-entries ws
 
 -- "should a tampered list show the card more than once, the first in word order counts"

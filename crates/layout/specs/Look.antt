@@ -12,12 +12,12 @@ use lib.Seq.{take-at, getD-drop, drop-drop}
 use Rattle.basics.specs.Tests.{test, bool-ext, zero-one}
 use Rattle.basics.specs.Sets.{Asc, member, member-in, in-member, no-member}
 use Rattle.refusals.specs.Refusal.{done, blank-key}
-use Rattle.tabulation.specs.Hash.{Family, tabulation-length, blank, tables}
+use Rattle.tabulation.specs.Hash.{Family, tabulation-length, blank}
 use Rattle.tabulation.specs.Slots.{slot-0, slot-1}
 use Rattle.layout.specs.Entries.{Entry, keys-of, tier-of, tiered, key-in, tiered-self, tiered-in, in-tiered}
-use Rattle.layout.specs.Layout.{Params, ValidSet, slots-of, places-of, key-at, tier-at, place-at, place-entries, sizes-in-range, stash-of, fits, image, place-width, place-words, stash-at, stash-count, looked-at, tier-in}
+use Rattle.layout.specs.Layout.{Params, ValidSet, slots-of, places-of, key-at, tier-at, place-at, place-entries, params-in-range, family-of, stash-of, fits, image, place-width, place-words, stash-at, stash-count, looked-at, tier-in}
 use Rattle.layout.specs.Answers.{lookup-refusal, lookup-values, looked-up, view-refusal, view-of}
-use Rattle.layout.specs.Shape.{sized}
+use Rattle.layout.specs.Shape.{ranged}
 use Rattle.layout.specs.Image.{fits-le, image-slots, image-places, image-stashed, image-stash, image-shaped, place-words-length}
 use Rattle.layout.specs.Standing.{not-blank, looked-key-word, image-key-in, image-in-looked, tier-in-image}
 
@@ -59,7 +59,7 @@ looked-none L c = (λ v i. zero-one (cc (rw (in-member i) at v)), λ n. rw (no-m
 -- "should a tampered list show the card more than once, the first in word order counts": on any words, canonical or not, the tier word of its slot in table 0,
 module _ (tabulation ws : List ℕ) (key : ℕ) where
   abbrev F : Family
-  F = tables tabulation (slots-of ws)
+  F = family-of tabulation ws
 
   pub first-in-table-0 : getD ws (key-at (slot-0 F key)) 0 ≡ key
       → looked-up (looked-at tabulation ws key) key ≡ 1 ∷ getD ws (tier-at (slot-0 F key)) 0 ∷ []
@@ -98,7 +98,7 @@ module _ (P : Params) (L : List Entry) (e : fits P (keys-of L) ≡ true) where
       ]
 
   -- What a call of lookup answers on the image of a set: 5 for a blank key, and else 0, with 1 and the tier of a key of the set, and with 0 of another.
-  module _ (full-length : length (P .tabulation) ≡ tabulation-length) (range : sizes-in-range (P .slots) (P .places) ≡ true) (key : ℕ) where
+  module _ (full-length : length (P .tabulation) ≡ tabulation-length) (range : params-in-range (P .slots) (P .places) (P .station) ≡ true) (key : ℕ) where
     image-lookup-refusal : lookup-refusal (P .tabulation) (image P L) key ≡ cond (blank key) blank-key done
     unfolding lookup-refusal
     image-lookup-refusal = rw (eq-eqb (length (P .tabulation)) tabulation-length full-length, image-shaped P L range e)
@@ -107,11 +107,11 @@ module _ (P : Params) (L : List Entry) (e : fits P (keys-of L) ≡ true) where
     unfolding lookup-values
     image-lookup-values valid = elim (test (blank key)) [
       | inl b ↦ rw (image-lookup-refusal, b)
-      | inr b ↦ rw (image-lookup-refusal, b, image-found valid (sized (P .slots) (P .places) range .has-slots) key b)
+      | inr b ↦ rw (image-lookup-refusal, b, image-found valid (ranged (P .slots) (P .places) (P .station) range .0 .has-slots) key b)
     ]
 
   -- The stash view is never refused on the image of a set, and is the set's stash, each key with its tier.
-  module _ (range : sizes-in-range (P .slots) (P .places) ≡ true) where
+  module _ (range : params-in-range (P .slots) (P .places) (P .station) ≡ true) where
     abbrev S : List ℕ
     S = keys-of L
 

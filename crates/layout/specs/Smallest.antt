@@ -1,4 +1,4 @@
--- K12 for every tabulation and all keys: with one slot to a table and no stash, two keys fit, the smaller in table 0, and three do not.
+-- K12 for every tabulation, every station and all keys: with one slot to a table and no stash, two keys fit, the smaller in table 0, and three do not.
 -- Assumes nothing.
 use Prim.Native.Nat.{ℕ, _+_, _<_}
 use mathlib.Core.Path.{_≡_, refl, _∙_}
@@ -33,10 +33,10 @@ left c = 0
 abbrev right : ℕ → ℕ
 right c = 1
 
-module _ (tabulation : List ℕ) where
+module _ (tabulation : List ℕ) (station : ℕ) where
   -- the smallest dictionary: r = 1, s = 0
   abbrev pub smallest : Params
-  smallest = record { tabulation = tabulation; slots = 1; places = 0 }
+  smallest = record { tabulation = tabulation; slots = 1; places = 0; station = station }
 
   -- every key has slot 0 in table 0 and slot 1 in table 1, whatever the tabulation
   one-slot : (S : List ℕ) → Known smallest left right S
@@ -111,26 +111,26 @@ module _ (c d : ℕ) (l : c < d) where
   unfolding next component joined label
   next-d = rw (le-ltb d c (omega arith), le-ltb d d (omega arith))
 
-  two-words : 0 < c → (t : ℕ → ℕ) → image-by left right t 1 0 (c ∷ d ∷ []) ≡ 1 ∷ 0 ∷ 2 ∷ 0 ∷ c ∷ d ∷ t c ∷ d ∷ c ∷ t d ∷ []
+  two-words : 0 < c → (t : ℕ → ℕ) (station : ℕ) → image-by left right t 1 0 station (c ∷ d ∷ []) ≡ 1 ∷ 0 ∷ 2 ∷ 0 ∷ station ∷ c ∷ d ∷ t c ∷ d ∷ c ∷ t d ∷ []
   unfolding image-by slot-words-by slot-key slot-next
-  two-words h t = rw (no-stash, both-seated, in-0, in-1, ne-eqb c 0 (omega arith), ne-eqb d 0 (omega arith), next-c, next-d)
+  two-words h t station = rw (no-stash, both-seated, in-0, in-1, ne-eqb c 0 (omega arith), ne-eqb d 0 (omega arith), next-c, next-d)
 
 -- K12, whatever the tabulation (any list at all), and whatever the tiers
-module _ (tabulation : List ℕ) where
+module _ (tabulation : List ℕ) (station : ℕ) where
   abbrev pub two : (c x d y : ℕ) → List Entry
   two c x d y = record { key = c; tier = x } ∷ record { key = d; tier = y } ∷ []
 
-  -- "two cards fit, the smaller in rack 0": r, s, two keys, none stashed; c, its next d and its tier in table 0, d, its next c and its tier in table 1
-  pub two-image : (c x d y : ℕ) → 0 < c → c < d → image (smallest tabulation) (two c x d y) ≡ 1 ∷ 0 ∷ 2 ∷ 0 ∷ c ∷ d ∷ x ∷ d ∷ c ∷ y ∷ []
+  -- "two cards fit, the smaller in rack 0": r, s, two keys, none stashed, the station; c, its next d and its tier in table 0, d, its next c and its tier in table 1
+  pub two-image : (c x d y : ℕ) → 0 < c → c < d → image (smallest tabulation station) (two c x d y) ≡ 1 ∷ 0 ∷ 2 ∷ 0 ∷ station ∷ c ∷ d ∷ x ∷ d ∷ c ∷ y ∷ []
   two-image c x d y h l =
-      image-known (smallest tabulation) (two c x d y) (one-slot tabulation (c ∷ d ∷ []))
-      ∙ two-words c d l h (tier-of (two c x d y))
+      image-known (smallest tabulation station) (two c x d y) (one-slot tabulation station (c ∷ d ∷ []))
+      ∙ two-words c d l h (tier-of (two c x d y)) station
       ∙ (rw (c-c c d l, d-c c d l, d-d c d l))
 
-  pub two-fit : (c d : ℕ) → c < d → fits (smallest tabulation) (c ∷ d ∷ []) ≡ true
+  pub two-fit : (c d : ℕ) → c < d → fits (smallest tabulation station) (c ∷ d ∷ []) ≡ true
   unfolding fits-by
-  two-fit c d l = fits-known (smallest tabulation) (one-slot tabulation (c ∷ d ∷ [])) ∙ rw (no-stash c d l)
+  two-fit c d l = fits-known (smallest tabulation station) (one-slot tabulation station (c ∷ d ∷ [])) ∙ rw (no-stash c d l)
 
   -- "a third is refused 8"
-  pub three-full : (c d e : ℕ) → c < d → d < e → fits (smallest tabulation) (c ∷ d ∷ e ∷ []) ≡ false
-  three-full c d e l k = crowded (smallest tabulation) (above l (above k (some (λ x i. elim i [ ]) none))) (omega arith) (omega arith)
+  pub three-full : (c d e : ℕ) → c < d → d < e → fits (smallest tabulation station) (c ∷ d ∷ e ∷ []) ≡ false
+  three-full c d e l k = crowded (smallest tabulation station) (above l (above k (some (λ x i. elim i [ ]) none))) (omega arith) (omega arith)

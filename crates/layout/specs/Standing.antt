@@ -18,10 +18,10 @@ use Rattle.cuckoo.specs.Seating.{look, occupant-from}
 use Rattle.cuckoo.specs.Filled.{seated-or-stash, stash-sub}
 use Rattle.ordered.specs.Sorting.{in-at}
 use Rattle.ordered.specs.Distinct.{distinct-sorted-asc, distinct-sorted-in, in-distinct-sorted}
-use Rattle.tabulation.specs.Hash.{blank, tables}
+use Rattle.tabulation.specs.Hash.{blank}
 use Rattle.tabulation.specs.Slots.{slot-0, slot-1, slot-0-lt, slot-1-lt}
 use Rattle.layout.specs.Entries.{Entry, keys-of, tier-of, tiered, keys-tiered, tiered-agree, tier-absent, tier-all, tiered-self, tiered-in, no-entry, keys-none, none-in, keys-append}
-use Rattle.layout.specs.Layout.{Params, family, ValidKeys, header-length, slot-width, place-width, key-at, stash-at, place-at, slots-of, places-of, place-words, image-by}
+use Rattle.layout.specs.Layout.{Params, family, family-of, ValidKeys, header-length, slot-width, place-width, key-at, stash-at, place-at, slots-of, places-of, place-words, image-by}
 use Rattle.layout.specs.Layout.{stash-of, fits, stash-words, image, slot-keys, place-entries, stash-entries, key-words, keys-in, slot-entry, looked-at, tier-in, set-in}
 use Rattle.layout.specs.Image.{fits-le, image-slots, image-places, image-key, image-tier, image-stash}
 
@@ -169,7 +169,7 @@ module _ (a b : ℕ → ℕ) {S : List ℕ} (asc : Asc S) where
 -- what is looked at are key words
 pub looked-key-word : (tabulation ws : List ℕ) → 0 < slots-of ws → (key : ℕ) {c : ℕ} → In c (keys-of (looked-at tabulation ws key)) → KeyWord ws c
 looked-key-word tabulation ws some key i =
-    let F = tables tabulation (slots-of ws) in
+    let F = family-of tabulation ws in
     elim i [
       | here q ↦ at-slot (slot-0 F key) (omega (arith, slot-0-lt F some key)) (sym q)
       | there j ↦ elim j [ here q ↦ at-slot (slot-1 F key) (slot-1-lt F some key) (sym q) | there k ↦ stash-key-in ws k ]

@@ -2,12 +2,13 @@
 // the code of lookup, the stash view and fresh words, `codec` that of whole dictionaries. A wrong definition is refused
 // in seconds here.
 
-// The heading of a dictionary: r, s, the number of keys and the number of stashed keys.
+// The heading of a dictionary: r, s, the number of keys, the number of stashed keys and the station number.
 pub struct Header {
     pub slots: u32,
     pub places: u32,
     pub keys: u32,
     pub stashed: u32,
+    pub station: u32,
 }
 
 // A slot: its key, its next number and its tier, zeros where it is empty.

@@ -2,9 +2,9 @@
 use Prim.Native.Nat.{_+_, _<_}
 use mathlib.Core.Path.{_≡_, refl, _∙_}
 use native.Mathlib.Omega.{arith}
-use Rattle.tabulation.specs.Hash.{tables}
 use Rattle.tabulation.specs.Slots.{slot-0, slot-1, slot-0-lt, slot-1-lt}
-use Rattle.layout.specs.Layout.{slots-of}
+use Rattle.layout.specs.Shape.{by-own-family}
+use Rattle.layout.specs.Layout.{family-of, slots-of}
 use borrow.Author.Needs.{needs}
 use Rattle.access.specs.Found.{own-listed, own-missed}
 use Rattle.access.proofs.beside.Statement.{statement}
@@ -24,22 +24,28 @@ abbrev start : tie.After-second-slot → tie.Start
 start d = d .before .before .before .before .before
 
 first-is : (d : tie.After-second-slot) → let a = start d .args in
-    d .before .first-slot .result ≡ slot-0 (tables (a .tabulation .now) (slots-of (a .words .now))) (a .key)
-first-is d = rw (d .before .before .read-header .ensures .0) at (d .before .first-slot .ensures)
+    d .before .first-slot .result ≡ slot-0 (family-of (a .tabulation .now) (a .words .now)) (a .key)
+first-is d =
+    let a = start d .args in
+    let h = d .before .before .read-header .ensures in
+    by-own-family (λ F. slot-0 F (a .key)) (a .tabulation .now) (a .words .now) (h .0) (h .1 .1 .1 .1) (d .before .first-slot .ensures)
 
 second-is : (d : tie.After-second-slot) → let a = start d .args in
-    d .second-slot .result ≡ slot-1 (tables (a .tabulation .now) (slots-of (a .words .now))) (a .key)
-second-is d = rw (d .before .before .read-header .ensures .0) at (d .second-slot .ensures)
+    d .second-slot .result ≡ slot-1 (family-of (a .tabulation .now) (a .words .now)) (a .key)
+second-is d =
+    let a = start d .args in
+    let h = d .before .before .read-header .ensures in
+    by-own-family (λ F. slot-1 F (a .key)) (a .tabulation .now) (a .words .now) (h .0) (h .1 .1 .1 .1) (d .second-slot .ensures)
 
 first-in : (d : tie.After-second-slot) → d .before .first-slot .result < slots-of (start d .args .words .now)
 first-in d =
     let a = start d .args in
-    omega (arith, first-is d, slot-0-lt (tables (a .tabulation .now) (slots-of (a .words .now))) (start d .pre .1 .sizes .has-slots) (a .key))
+    omega (arith, first-is d, slot-0-lt (family-of (a .tabulation .now) (a .words .now)) (start d .pre .1 .sizes .has-slots) (a .key))
 
 second-in : (d : tie.After-second-slot) → d .second-slot .result < slots-of (start d .args .words .now) + slots-of (start d .args .words .now)
 second-in d =
     let a = start d .args in
-    omega (arith, second-is d, slot-1-lt (tables (a .tabulation .now) (slots-of (a .words .now))) (start d .pre .1 .sizes .has-slots) (a .key))
+    omega (arith, second-is d, slot-1-lt (family-of (a .tabulation .now) (a .words .now)) (start d .pre .1 .sizes .has-slots) (a .key))
 
 in-slot-requires : tie.Need-in-slot-requires
 in-slot-requires c κs = let l = first-in c in let h = start c .pre .1 in (omega (arith, h), omega (arith, h))

@@ -3,9 +3,9 @@ use Prim.Native.Nat.{_+_, _<_}
 use mathlib.Core.Path.{_≡_, refl, sym, _∙_}
 use native.Mathlib.Omega.{arith}
 use lib.Dec.{eqb}
-use Rattle.tabulation.specs.Hash.{tables}
 use Rattle.tabulation.specs.Slots.{slot-0, slot-1, slot-0-lt, slot-1-lt}
-use Rattle.layout.specs.Layout.{slots-of, slot-entry}
+use Rattle.layout.specs.Shape.{by-own-family}
+use Rattle.layout.specs.Layout.{family-of, slots-of, slot-entry}
 use borrow.Author.Needs.{needs}
 use Rattle.access.specs.Found.{found-first, found-second, found-neither}
 use Rattle.access.proofs.in_slots.Statement.{statement}
@@ -22,20 +22,23 @@ abbrev start : tie.After-first-slot → tie.Start
 start f = f .before .before .before .before
 
 first-is : (f : tie.After-first-slot) → let a = start f .args in
-    f .first-slot .result ≡ slot-0 (tables (a .tabulation .now) (slots-of (a .words .now))) (a .key)
-first-is f = rw (f .before .read-header .ensures .0) at (f .first-slot .ensures)
+    f .first-slot .result ≡ slot-0 (family-of (a .tabulation .now) (a .words .now)) (a .key)
+first-is f =
+    let a = start f .args in
+    let h = f .before .read-header .ensures in
+    by-own-family (λ F. slot-0 F (a .key)) (a .tabulation .now) (a .words .now) (h .0) (h .1 .1 .1 .1) (f .first-slot .ensures)
 
 first-in : (f : tie.After-first-slot) → f .first-slot .result < slots-of (start f .args .words .now)
 first-in f =
     let a = start f .args in
-    omega (arith, first-is f, slot-0-lt (tables (a .tabulation .now) (slots-of (a .words .now))) (start f .pre .1 .sizes .has-slots) (a .key))
+    omega (arith, first-is f, slot-0-lt (family-of (a .tabulation .now) (a .words .now)) (start f .pre .1 .sizes .has-slots) (a .key))
 
 in-slot-requires : tie.Need-in-slot-requires
 in-slot-requires c κs = let l = first-in c in let h = start c .pre .1 in (omega (arith, h), omega (arith, h))
 
 -- it is compared with the key
 first-test : (i : tie.After-in-slot) → let a = start (i .before) .args in
-    i .in-slot .result ≡ eqb (a .key) (slot-entry (a .words .now) (slot-0 (tables (a .tabulation .now) (slots-of (a .words .now))) (a .key)) .key)
+    i .in-slot .result ≡ eqb (a .key) (slot-entry (a .words .now) (slot-0 (family-of (a .tabulation .now) (a .words .now)) (a .key)) .key)
 first-test i = rw (first-is (i .before)) at (i .in-slot .ensures)
 
 slot-tier-requires : tie.Need-slot-tier-requires
@@ -55,20 +58,23 @@ abbrev earlier : tie.After-second-slot → tie.After-in-slot
 earlier d = d .before .before
 
 second-is : (d : tie.After-second-slot) → let a = start (earlier d .before) .args in
-    d .second-slot .result ≡ slot-1 (tables (a .tabulation .now) (slots-of (a .words .now))) (a .key)
-second-is d = rw (earlier d .before .before .read-header .ensures .0) at (d .second-slot .ensures)
+    d .second-slot .result ≡ slot-1 (family-of (a .tabulation .now) (a .words .now)) (a .key)
+second-is d =
+    let a = start (earlier d .before) .args in
+    let h = earlier d .before .before .read-header .ensures in
+    by-own-family (λ F. slot-1 F (a .key)) (a .tabulation .now) (a .words .now) (h .0) (h .1 .1 .1 .1) (d .second-slot .ensures)
 
 second-in : (d : tie.After-second-slot) → let w = start (earlier d .before) .args .words .now in d .second-slot .result < slots-of w + slots-of w
 second-in d =
     let s = start (earlier d .before) in
     let a = s .args in
-    omega (arith, second-is d, slot-1-lt (tables (a .tabulation .now) (slots-of (a .words .now))) (s .pre .1 .sizes .has-slots) (a .key))
+    omega (arith, second-is d, slot-1-lt (family-of (a .tabulation .now) (a .words .now)) (s .pre .1 .sizes .has-slots) (a .key))
 
 in-slot-requires-2 : tie.Need-in-slot-requires-2
 in-slot-requires-2 c κs = let l = second-in c in let h = start (earlier c .before) .pre .1 in (omega (arith, h), omega (arith, h))
 
 second-test : (j : tie.After-in-slot2) → let a = start (earlier (j .before) .before) .args in
-    j .in-slot2 .result ≡ eqb (a .key) (slot-entry (a .words .now) (slot-1 (tables (a .tabulation .now) (slots-of (a .words .now))) (a .key)) .key)
+    j .in-slot2 .result ≡ eqb (a .key) (slot-entry (a .words .now) (slot-1 (family-of (a .tabulation .now) (a .words .now)) (a .key)) .key)
 second-test j = rw (second-is (j .before)) at (j .in-slot2 .ensures)
 
 slot-tier-requires-2 : tie.Need-slot-tier-requires-2

@@ -16,7 +16,10 @@ slice-write-words-3 : tie.Need-slice-write-words-3
 slice-write-words-3 c = simp length-set (omega arith)
 
 slice-write-words-4 : tie.Need-slice-write-words-4
-slice-write-words-4 c = search needs
+slice-write-words-4 c = simp length-set (omega arith)
+
+slice-write-words-5 : tie.Need-slice-write-words-5
+slice-write-words-5 c = search needs
 
 same-length : tie.Need-same-length
 same-length c = search needs
@@ -32,5 +35,6 @@ write-header-spec =
     slice-write-words-2
     slice-write-words-3
     slice-write-words-4
+    slice-write-words-5
     same-length
     returns)
