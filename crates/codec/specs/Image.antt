@@ -15,7 +15,7 @@ use Rattle.cuckoo.specs.Graph.{slot-key, slot-next}
 use Rattle.tabulation.specs.Slots.{slot-0, slot-1}
 use Rattle.layout.specs.Entries.{Entry, keys-of, tier-of}
 use Rattle.layout.specs.Layout.{Params, family, header-words, header-length, slot-width, place-width, key-at, tier-at, stash-at, place-at, words-length, slots-of, places-of}
-use Rattle.layout.specs.Layout.{key-count, stash-count, stash-of, fits, image}
+use Rattle.layout.specs.Layout.{key-count, stash-count, station-of, stash-of, fits, image}
 use Rattle.layout.specs.Shape.{Shaped}
 use Rattle.layout.specs.Image.{Laid, place-keys, image-laid, laid-image}
 use Rattle.layout.specs.declared.Header.{Header}
@@ -81,13 +81,13 @@ module _ {P : Params} {L : List Entry} {held next tiers stash beside : List ℕ}
   S = keys-of L
 
   -- Words with the sizes of P are alike exactly if they are the image.
-  module _ {ws : List ℕ} (formed : Shaped ws) (r : slots-of ws ≡ P .slots) (s : places-of ws ≡ P .places) where
+  module _ {ws : List ℕ} (formed : Shaped ws) (r : slots-of ws ≡ P .slots) (s : places-of ws ≡ P .places) (t : station-of ws ≡ P .station) where
     abbrev compared : Bool
     compared = alike ws (length S) (length (stash-of P S)) held next tiers stash beside
 
     alike-laid : compared ≡ true → Laid P L ws
-    alike-laid t =
-        let a = and-true (eqb (key-count ws) (length S)) _ t in
+    alike-laid h =
+        let a = and-true (eqb (key-count ws) (length S)) _ h in
         let b = and-true (eqb (stash-count ws) (length (stash-of P S))) _ (a .1) in
         let c = and-true (slots-alike ws header-length held next tiers) (places-alike ws (stash-at (slots-of ws)) stash beside) (b .1) in
         let d = and-true (same (picked ws header-length slot-width (length held)) held) _ (c .0) in
@@ -99,6 +99,7 @@ module _ {P : Params} {L : List Entry} {held next tiers stash beside : List ℕ}
           places = s;
           keys = eqb-true _ _ (a .0);
           stashed = eqb-true _ _ (b .0);
+          station = t;
           key = λ v l. same-column ws header-length slot-width held (d .0) v (omega (arith, C .held-size)) ∙ C .held-is v l;
           next = λ v l.
               let k : suc (key-at v) ≡ header-length + 1 + slot-width * v = omega arith in
@@ -134,13 +135,13 @@ module _ {P : Params} {L : List Entry} {held next tiers stash beside : List ℕ}
     pub alike-image : compared ≡ same ws (image P L)
     alike-image =
         bool-ext compared (same ws (image P L))
-        (λ t. true-same ws (image P L) (laid-image e z (alike-laid t)))
-        (λ t. laid-alike (rw (same-true ws (image P L) t) (image-laid e z)))
+        (λ h. true-same ws (image P L) (laid-image e z (alike-laid h)))
+        (λ h. laid-alike (rw (same-true ws (image P L) h) (image-laid e z)))
 
   -- And what is written over words of the right length is the image.
   module _ (ws : List ℕ) (some : 0 < P .slots) (size : length ws ≡ words-length (P .slots) (P .places)) where
     abbrev header : Header
-    header = record { slots = P .slots; places = P .places; keys = length S; stashed = length (stash-of P S) }
+    header = record { slots = P .slots; places = P .places; keys = length S; stashed = length (stash-of P S); station = P .station }
 
     abbrev st : ℕ
     st = stash-at (P .slots)
@@ -190,6 +191,7 @@ module _ {P : Params} {L : List Entry} {held next tiers stash beside : List ℕ}
       places = heading 1 (omega arith);
       keys = heading 2 (omega arith);
       stashed = heading 3 (omega arith);
+      station = heading 4 (omega arith);
       key = λ v l.
           before-stash (key-at v) (omega arith)
           ∙ put-off w2 (header-length + 2) slot-width tiers (key-at v) (λ i m q. omega arith)

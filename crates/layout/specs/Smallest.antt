@@ -115,11 +115,12 @@ module _ (c d : ℕ) (l : c < d) where
   unfolding image-by slot-words-by slot-key slot-next
   two-words h t station = rw (no-stash, both-seated, in-0, in-1, ne-eqb c 0 (omega arith), ne-eqb d 0 (omega arith), next-c, next-d)
 
--- K12, whatever the tabulation (any list at all), and whatever the tiers
-module _ (tabulation : List ℕ) (station : ℕ) where
-  abbrev pub two : (c x d y : ℕ) → List Entry
-  two c x d y = record { key = c; tier = x } ∷ record { key = d; tier = y } ∷ []
+-- two keys with their tiers
+abbrev pub two : (c x d y : ℕ) → List Entry
+two c x d y = record { key = c; tier = x } ∷ record { key = d; tier = y } ∷ []
 
+-- K12, whatever the tabulation (any list at all), the station and the tiers
+module _ (tabulation : List ℕ) (station : ℕ) where
   -- "two cards fit, the smaller in rack 0": r, s, two keys, none stashed, the station; c, its next d and its tier in table 0, d, its next c and its tier in table 1
   pub two-image : (c x d y : ℕ) → 0 < c → c < d → image (smallest tabulation station) (two c x d y) ≡ 1 ∷ 0 ∷ 2 ∷ 0 ∷ station ∷ c ∷ d ∷ x ∷ d ∷ c ∷ y ∷ []
   two-image c x d y h l =

@@ -14,9 +14,10 @@ use Rattle.cuckoo.specs.Trail.{other, trail-from, trail}
 use Rattle.cuckoo.specs.Agree.{trail-agree}
 use Rattle.ordered.specs.Keys.{with-key, above}
 use Rattle.refusals.specs.Refusal.{done, stash-full, short-trail}
-use Rattle.tabulation.specs.Hash.{tabulation-length, slots-in-range, blank}
+use Rattle.tabulation.specs.Hash.{tabulation-length, max-station, slots-in-range, station-in-range, blank}
 use Rattle.layout.specs.Entries.{Entry, max-tier, keys-of}
-use Rattle.layout.specs.Layout.{ValidKeys, ValidSet, scratch-length, sizes-in-range}
+use Rattle.layout.specs.Layout.{ValidKeys, ValidSet, scratch-length, sizes-in-range, params-in-range}
+use Rattle.layout.specs.Shape.{ranged-true}
 use Rattle.layout.specs.Board.{plain-0, plain-1, Row, rows, plain, Shown, Full, board, board-tabulation, board-length, board-rows}
 use Rattle.layout.specs.Board as Board
 use Rattle.layout.specs.Smallest.{smallest, two, two-image, two-fit}
@@ -27,10 +28,10 @@ use Rattle.outcome.specs.Trail.{trail-of, trail-in, trail-refusal, trail
 use Rattle.outcome.specs.TrailLaws.{held-asked, held-trail}
 
 -- the words of a row are a dictionary that holds its set
-shown-holds : {r s : ℕ} {L : List Entry} {ws : List ℕ} → sizes-in-range r s ≡ true → Shown r s L ws → Holds (board r s) L ws
+shown-holds : {r s : ℕ} {L : List Entry} {ws : List ℕ} → params-in-range r s 0 ≡ true → Shown r s L ws → Holds (board r s) L ws
 shown-holds range h = record { range = range; is = record { valid = h .valid; fit = h .fit; is = sym (h .words-are) } }
 
-module _ {r s : ℕ} {L : List Entry} {ws : List ℕ} (range : sizes-in-range r s ≡ true) (h : Shown r s L ws) (scratch : List ℕ)
+module _ {r s : ℕ} {L : List Entry} {ws : List ℕ} (range : params-in-range r s 0 ≡ true) (h : Shown r s L ws) (scratch : List ℕ)
     (room : scratch-length r s ≤ length scratch) (key : ℕ) (b : blank key ≡ false) where
   -- an insert that leads to a set which does not fit
   insert-full : (tier : ℕ) → tier ≤ max-tier → {R : List Entry} → member key (keys-of L) ≡ false → with-key key (keys-of L) ≡ keys-of R → Full r s R
@@ -58,69 +59,69 @@ row-in (R ∷ Rs) (suc n) l = there (row-in Rs n (omega arith))
 row-holds : (n : ℕ) → n < length rows → Board.RowHolds (row rows n)
 row-holds n l = board-rows (row rows n) (row-in rows n l)
 
-range : sizes-in-range 4 1 ≡ true
-unfolding sizes-in-range slots-in-range
+range : params-in-range 4 1 0 ≡ true
+unfolding params-in-range sizes-in-range slots-in-range station-in-range
 range = refl
 
 -- r = 4, s = 1, and scratch that is long enough
 module _ (scratch : List ℕ) (room : scratch-length 4 1 ≤ length scratch) where
-  k5 : Shown 4 1 (plain (1 ∷ 65 ∷ 129 ∷ [])) (4 ∷ 1 ∷ 3 ∷ 1 ∷ 0 ∷ 0 ∷ 0 ∷ 1 ∷ 65 ∷ 0 ∷ 0 ∷ 0 ∷ 0 ∷ 0 ∷ 0 ∷ 0 ∷ 65 ∷ 1 ∷ 0 ∷ 0 ∷ 0 ∷ 0 ∷ 0 ∷ 0 ∷ 0 ∷ 0 ∷ 0 ∷ 0 ∷ 129 ∷ 0 ∷ [])
+  k5 : Shown 4 1 (plain (1 ∷ 65 ∷ 129 ∷ [])) (4 ∷ 1 ∷ 3 ∷ 1 ∷ 0 ∷ 0 ∷ 0 ∷ 0 ∷ 1 ∷ 65 ∷ 0 ∷ 0 ∷ 0 ∷ 0 ∷ 0 ∷ 0 ∷ 0 ∷ 65 ∷ 1 ∷ 0 ∷ 0 ∷ 0 ∷ 0 ∷ 0 ∷ 0 ∷ 0 ∷ 0 ∷ 0 ∷ 0 ∷ 129 ∷ 0 ∷ [])
   k5 = row-holds 4 (omega arith)
 
-  k9 : Shown 4 1 (plain (1 ∷ 33 ∷ 34 ∷ 65 ∷ 98 ∷ [])) (4 ∷ 1 ∷ 5 ∷ 1 ∷ 0 ∷ 0 ∷ 0 ∷ 1 ∷ 33 ∷ 0 ∷ 34 ∷ 65 ∷ 0 ∷ 0 ∷ 0 ∷ 0 ∷ 65 ∷ 1 ∷ 0 ∷ 0 ∷ 0 ∷ 0 ∷ 33 ∷ 34 ∷ 0 ∷ 0 ∷ 0 ∷ 0 ∷ 98 ∷ 0 ∷ [])
+  k9 : Shown 4 1 (plain (1 ∷ 33 ∷ 34 ∷ 65 ∷ 98 ∷ [])) (4 ∷ 1 ∷ 5 ∷ 1 ∷ 0 ∷ 0 ∷ 0 ∷ 0 ∷ 1 ∷ 33 ∷ 0 ∷ 34 ∷ 65 ∷ 0 ∷ 0 ∷ 0 ∷ 0 ∷ 65 ∷ 1 ∷ 0 ∷ 0 ∷ 0 ∷ 0 ∷ 33 ∷ 34 ∷ 0 ∷ 0 ∷ 0 ∷ 0 ∷ 98 ∷ 0 ∷ [])
   k9 = row-holds 11 (omega arith)
 
   -- "K6 K5 plus 193: refused 8."
   pub k6 : change-outcome (Insert 0) board-tabulation
-      (4 ∷ 1 ∷ 3 ∷ 1 ∷ 0 ∷ 0 ∷ 0 ∷ 1 ∷ 65 ∷ 0 ∷ 0 ∷ 0 ∷ 0 ∷ 0 ∷ 0 ∷ 0 ∷ 65 ∷ 1 ∷ 0 ∷ 0 ∷ 0 ∷ 0 ∷ 0 ∷ 0 ∷ 0 ∷ 0 ∷ 0 ∷ 0 ∷ 129 ∷ 0 ∷ []) scratch 193 .answer ≡ 8
+      (4 ∷ 1 ∷ 3 ∷ 1 ∷ 0 ∷ 0 ∷ 0 ∷ 0 ∷ 1 ∷ 65 ∷ 0 ∷ 0 ∷ 0 ∷ 0 ∷ 0 ∷ 0 ∷ 0 ∷ 65 ∷ 1 ∷ 0 ∷ 0 ∷ 0 ∷ 0 ∷ 0 ∷ 0 ∷ 0 ∷ 0 ∷ 0 ∷ 0 ∷ 129 ∷ 0 ∷ []) scratch 193 .answer ≡ 8
   unfolding blank with-key below above
   k6 = insert-full range k5 scratch room 193 refl 0 (omega arith) {R = plain (1 ∷ 65 ∷ 129 ∷ 193 ∷ [])} refl refl (row-holds 7 (omega arith))
 
   -- "K7 K5 less 65: 0.1 holds 1, 1.0 holds 129, drawer empty."
   pub k7 : (change-outcome Remove board-tabulation
-      (4 ∷ 1 ∷ 3 ∷ 1 ∷ 0 ∷ 0 ∷ 0 ∷ 1 ∷ 65 ∷ 0 ∷ 0 ∷ 0 ∷ 0 ∷ 0 ∷ 0 ∷ 0 ∷ 65 ∷ 1 ∷ 0 ∷ 0 ∷ 0 ∷ 0 ∷ 0 ∷ 0 ∷ 0 ∷ 0 ∷ 0 ∷ 0 ∷ 129 ∷ 0 ∷ []) scratch 65 .answer ≡ 0)
+      (4 ∷ 1 ∷ 3 ∷ 1 ∷ 0 ∷ 0 ∷ 0 ∷ 0 ∷ 1 ∷ 65 ∷ 0 ∷ 0 ∷ 0 ∷ 0 ∷ 0 ∷ 0 ∷ 0 ∷ 65 ∷ 1 ∷ 0 ∷ 0 ∷ 0 ∷ 0 ∷ 0 ∷ 0 ∷ 0 ∷ 0 ∷ 0 ∷ 0 ∷ 129 ∷ 0 ∷ []) scratch 65 .answer ≡ 0)
       × (change-outcome Remove board-tabulation
-      (4 ∷ 1 ∷ 3 ∷ 1 ∷ 0 ∷ 0 ∷ 0 ∷ 1 ∷ 65 ∷ 0 ∷ 0 ∷ 0 ∷ 0 ∷ 0 ∷ 0 ∷ 0 ∷ 65 ∷ 1 ∷ 0 ∷ 0 ∷ 0 ∷ 0 ∷ 0 ∷ 0 ∷ 0 ∷ 0 ∷ 0 ∷ 0 ∷ 129 ∷ 0 ∷ []) scratch 65 .words
-      ≡ 4 ∷ 1 ∷ 2 ∷ 0 ∷ 0 ∷ 0 ∷ 0 ∷ 1 ∷ 129 ∷ 0 ∷ 0 ∷ 0 ∷ 0 ∷ 0 ∷ 0 ∷ 0 ∷ 129 ∷ 1 ∷ 0 ∷ 0 ∷ 0 ∷ 0 ∷ 0 ∷ 0 ∷ 0 ∷ 0 ∷ 0 ∷ 0 ∷ 0 ∷ 0 ∷ [])
+      (4 ∷ 1 ∷ 3 ∷ 1 ∷ 0 ∷ 0 ∷ 0 ∷ 0 ∷ 1 ∷ 65 ∷ 0 ∷ 0 ∷ 0 ∷ 0 ∷ 0 ∷ 0 ∷ 0 ∷ 65 ∷ 1 ∷ 0 ∷ 0 ∷ 0 ∷ 0 ∷ 0 ∷ 0 ∷ 0 ∷ 0 ∷ 0 ∷ 0 ∷ 129 ∷ 0 ∷ []) scratch 65 .words
+      ≡ 4 ∷ 1 ∷ 2 ∷ 0 ∷ 0 ∷ 0 ∷ 0 ∷ 0 ∷ 1 ∷ 129 ∷ 0 ∷ 0 ∷ 0 ∷ 0 ∷ 0 ∷ 0 ∷ 0 ∷ 129 ∷ 1 ∷ 0 ∷ 0 ∷ 0 ∷ 0 ∷ 0 ∷ 0 ∷ 0 ∷ 0 ∷ 0 ∷ 0 ∷ 0 ∷ 0 ∷ [])
   unfolding blank without
   k7 = remove-shown range k5 scratch room 65 refl refl refl (row-holds 9 (omega arith))
 
   -- "K10 K9 less 33: 1.2 holds 98, the drawer is empty."
   pub k10 : (change-outcome Remove board-tabulation
-      (4 ∷ 1 ∷ 5 ∷ 1 ∷ 0 ∷ 0 ∷ 0 ∷ 1 ∷ 33 ∷ 0 ∷ 34 ∷ 65 ∷ 0 ∷ 0 ∷ 0 ∷ 0 ∷ 65 ∷ 1 ∷ 0 ∷ 0 ∷ 0 ∷ 0 ∷ 33 ∷ 34 ∷ 0 ∷ 0 ∷ 0 ∷ 0 ∷ 98 ∷ 0 ∷ []) scratch 33 .answer ≡ 0)
+      (4 ∷ 1 ∷ 5 ∷ 1 ∷ 0 ∷ 0 ∷ 0 ∷ 0 ∷ 1 ∷ 33 ∷ 0 ∷ 34 ∷ 65 ∷ 0 ∷ 0 ∷ 0 ∷ 0 ∷ 65 ∷ 1 ∷ 0 ∷ 0 ∷ 0 ∷ 0 ∷ 33 ∷ 34 ∷ 0 ∷ 0 ∷ 0 ∷ 0 ∷ 98 ∷ 0 ∷ []) scratch 33 .answer ≡ 0)
       × (change-outcome Remove board-tabulation
-      (4 ∷ 1 ∷ 5 ∷ 1 ∷ 0 ∷ 0 ∷ 0 ∷ 1 ∷ 33 ∷ 0 ∷ 34 ∷ 65 ∷ 0 ∷ 0 ∷ 0 ∷ 0 ∷ 65 ∷ 1 ∷ 0 ∷ 0 ∷ 0 ∷ 0 ∷ 33 ∷ 34 ∷ 0 ∷ 0 ∷ 0 ∷ 0 ∷ 98 ∷ 0 ∷ []) scratch 33 .words
-      ≡ 4 ∷ 1 ∷ 4 ∷ 0 ∷ 0 ∷ 0 ∷ 0 ∷ 1 ∷ 65 ∷ 0 ∷ 34 ∷ 98 ∷ 0 ∷ 0 ∷ 0 ∷ 0 ∷ 65 ∷ 1 ∷ 0 ∷ 0 ∷ 0 ∷ 0 ∷ 98 ∷ 34 ∷ 0 ∷ 0 ∷ 0 ∷ 0 ∷ 0 ∷ 0 ∷ [])
+      (4 ∷ 1 ∷ 5 ∷ 1 ∷ 0 ∷ 0 ∷ 0 ∷ 0 ∷ 1 ∷ 33 ∷ 0 ∷ 34 ∷ 65 ∷ 0 ∷ 0 ∷ 0 ∷ 0 ∷ 65 ∷ 1 ∷ 0 ∷ 0 ∷ 0 ∷ 0 ∷ 33 ∷ 34 ∷ 0 ∷ 0 ∷ 0 ∷ 0 ∷ 98 ∷ 0 ∷ []) scratch 33 .words
+      ≡ 4 ∷ 1 ∷ 4 ∷ 0 ∷ 0 ∷ 0 ∷ 0 ∷ 0 ∷ 1 ∷ 65 ∷ 0 ∷ 34 ∷ 98 ∷ 0 ∷ 0 ∷ 0 ∷ 0 ∷ 65 ∷ 1 ∷ 0 ∷ 0 ∷ 0 ∷ 0 ∷ 98 ∷ 34 ∷ 0 ∷ 0 ∷ 0 ∷ 0 ∷ 0 ∷ 0 ∷ [])
   unfolding blank without
   k10 = remove-shown range k9 scratch room 33 refl refl refl (row-holds 12 (omega arith))
 
--- "K12 r = 1, s = 0: two cards fit, the smaller in rack 0; a third is refused 8": for every tabulation, every two keys in it and every third, whatever their
--- tiers.
-pub k12 : (tabulation scratch : List ℕ) → length tabulation ≡ tabulation-length → scratch-length 1 0 ≤ length scratch
+-- "K12 r = 1, s = 0: two cards fit, the smaller in rack 0; a third is refused 8": for every tabulation, every station, every two keys in it and every third,
+-- whatever their tiers.
+pub k12 : (tabulation scratch : List ℕ) (station : ℕ) → length tabulation ≡ tabulation-length → station ≤ max-station → scratch-length 1 0 ≤ length scratch
     → (c x d y tier key : ℕ) → 0 < c → c < d → x ≤ max-tier → y ≤ max-tier → tier ≤ max-tier → (key ≡ 0 → ⊥) → (key ≡ c → ⊥) → (key ≡ d → ⊥)
-    → change-outcome (Insert tier) tabulation (1 ∷ 0 ∷ 2 ∷ 0 ∷ c ∷ d ∷ x ∷ d ∷ c ∷ y ∷ []) scratch key .answer ≡ 8
-unfolding blank sizes-in-range slots-in-range
-k12 tabulation scratch full-length room c x d y tier key z l small-x small-y small n nc nd =
-    let P = smallest tabulation in
+    → change-outcome (Insert tier) tabulation (1 ∷ 0 ∷ 2 ∷ 0 ∷ station ∷ c ∷ d ∷ x ∷ d ∷ c ∷ y ∷ []) scratch key .answer ≡ 8
+unfolding blank
+k12 tabulation scratch station full-length at room c x d y tier key z l small-x small-y small n nc nd =
+    let P = smallest tabulation station in
     let S : List ℕ = c ∷ d ∷ [] in
     let keys : ValidKeys S = record {
       asc = some {c = c} {R = d ∷ []} (λ x i. elim i [ here q ↦ omega arith | there j ↦ elim j [ ] ]) (some {c = d} {R = []} (λ x i. elim i [ ]) none);
       none-blank = λ x i. elim i [ here q ↦ ne-eqb x 0 (omega arith) | there j ↦ elim j [ here q ↦ ne-eqb x 0 (omega arith) | there k ↦ elim k [ ] ] ];
     } in
-    let valid : ValidSet (two tabulation c x d y) = record {
+    let valid : ValidSet (two c x d y) = record {
       keys = keys;
       tiers = λ e i. elim i [ here q ↦ rw q small-x | there j ↦ elim j [ here q ↦ rw q small-y | there k ↦ elim k [ ] ] ];
     } in
-    let h : Holds P (two tabulation c x d y) (1 ∷ 0 ∷ 2 ∷ 0 ∷ c ∷ d ∷ x ∷ d ∷ c ∷ y ∷ []) = record {
-      range = refl;
-      is = record { valid = valid; fit = two-fit tabulation c d l; is = sym (two-image tabulation c x d y z l) };
+    let h : Holds P (two c x d y) (1 ∷ 0 ∷ 2 ∷ 0 ∷ station ∷ c ∷ d ∷ x ∷ d ∷ c ∷ y ∷ []) = record {
+      range = ranged-true 1 0 station (record { has-slots = omega arith; slots-bound = omega arith; places-bound = omega arith }) at;
+      is = record { valid = valid; fit = two-fit tabulation station c d l; is = sym (two-image tabulation station c x d y z l) };
     } in
     let b = ne-eqb key 0 n in
     let m : member key S ≡ false = rw (ne-eqb key c nc, ne-eqb key d nd) in
     held-new h full-length scratch room key b tier small m ∙ (rw (one-too-many P key (omega arith) keys b m (omega arith)))
 
 -- Document 02's trails on the board. The trail of a key of a row is that over the plain ends.
-module _ {r s : ℕ} {L : List Entry} {ws : List ℕ} (range : sizes-in-range r s ≡ true) (h : Shown r s L ws) (scratch : List ℕ)
+module _ {r s : ℕ} {L : List Entry} {ws : List ℕ} (range : params-in-range r s 0 ≡ true) (h : Shown r s L ws) (scratch : List ℕ)
     (room : scratch-length r s ≤ length scratch) (key : ℕ) (b : blank key ≡ false) (m : member key (keys-of L) ≡ true) where
   abbrev pub plainly : List ℕ
   plainly = trail (plain-0 r) (plain-1 r) (seated (plain-0 r) (plain-1 r) (keys-of L)) key
@@ -148,7 +149,7 @@ module _ {r s : ℕ} {L : List Entry} {ws : List ℕ} (range : sizes-in-range r 
 
 -- three words are lent for each
 module _ (scratch : List ℕ) (room : scratch-length 4 1 ≤ length scratch) (x y z : ℕ) where
-  k8 : Shown 4 1 (plain (17 ∷ 65 ∷ 129 ∷ [])) (4 ∷ 1 ∷ 3 ∷ 0 ∷ 0 ∷ 0 ∷ 0 ∷ 65 ∷ 129 ∷ 0 ∷ 0 ∷ 0 ∷ 0 ∷ 0 ∷ 0 ∷ 0 ∷ 129 ∷ 17 ∷ 0 ∷ 17 ∷ 65 ∷ 0 ∷ 0 ∷ 0 ∷ 0 ∷ 0 ∷ 0 ∷ 0 ∷ 0 ∷ 0 ∷ [])
+  k8 : Shown 4 1 (plain (17 ∷ 65 ∷ 129 ∷ [])) (4 ∷ 1 ∷ 3 ∷ 0 ∷ 0 ∷ 0 ∷ 0 ∷ 0 ∷ 65 ∷ 129 ∷ 0 ∷ 0 ∷ 0 ∷ 0 ∷ 0 ∷ 0 ∷ 0 ∷ 129 ∷ 17 ∷ 0 ∷ 17 ∷ 65 ∷ 0 ∷ 0 ∷ 0 ∷ 0 ∷ 0 ∷ 0 ∷ 0 ∷ 0 ∷ 0 ∷ [])
   k8 = row-holds 10 (omega arith)
 
   abbrev shown : ℕ → List ℕ → List ℕ → Type 0
@@ -157,20 +158,20 @@ module _ (scratch : List ℕ) (room : scratch-length 4 1 ≤ length scratch) (x 
       (o .number ≡ done) × ((o .values ≡ length K ∷ []) × (o .trail ≡ K ++ replicate (3 - length K) 0))
 
   -- 129 sits in 1.0 because 65, the smallest on the cycle, sits in 0.1;
-  pub k8-129 : shown 129 (4 ∷ 1 ∷ 3 ∷ 0 ∷ 0 ∷ 0 ∷ 0 ∷ 65 ∷ 129 ∷ 0 ∷ 0 ∷ 0 ∷ 0 ∷ 0 ∷ 0 ∷ 0 ∷ 129 ∷ 17 ∷ 0 ∷ 17 ∷ 65 ∷ 0 ∷ 0 ∷ 0 ∷ 0 ∷ 0 ∷ 0 ∷ 0 ∷ 0 ∷ 0 ∷ []) (129 ∷ 65 ∷ [])
+  pub k8-129 : shown 129 (4 ∷ 1 ∷ 3 ∷ 0 ∷ 0 ∷ 0 ∷ 0 ∷ 0 ∷ 65 ∷ 129 ∷ 0 ∷ 0 ∷ 0 ∷ 0 ∷ 0 ∷ 0 ∷ 0 ∷ 129 ∷ 17 ∷ 0 ∷ 17 ∷ 65 ∷ 0 ∷ 0 ∷ 0 ∷ 0 ∷ 0 ∷ 0 ∷ 0 ∷ 0 ∷ 0 ∷ []) (129 ∷ 65 ∷ [])
   unfolding blank without label joined component onCycle cyclic spare settle seated root sits occupant other trail-from trail
   k8-129 = trail-on-board range k8 scratch room 129 refl refl refl (x ∷ y ∷ z ∷ []) (omega arith)
 
   -- and so does 17, smaller than both, in 1.1.
-  pub k8-17 : shown 17 (4 ∷ 1 ∷ 3 ∷ 0 ∷ 0 ∷ 0 ∷ 0 ∷ 65 ∷ 129 ∷ 0 ∷ 0 ∷ 0 ∷ 0 ∷ 0 ∷ 0 ∷ 0 ∷ 129 ∷ 17 ∷ 0 ∷ 17 ∷ 65 ∷ 0 ∷ 0 ∷ 0 ∷ 0 ∷ 0 ∷ 0 ∷ 0 ∷ 0 ∷ 0 ∷ []) (17 ∷ 65 ∷ [])
+  pub k8-17 : shown 17 (4 ∷ 1 ∷ 3 ∷ 0 ∷ 0 ∷ 0 ∷ 0 ∷ 0 ∷ 65 ∷ 129 ∷ 0 ∷ 0 ∷ 0 ∷ 0 ∷ 0 ∷ 0 ∷ 0 ∷ 129 ∷ 17 ∷ 0 ∷ 17 ∷ 65 ∷ 0 ∷ 0 ∷ 0 ∷ 0 ∷ 0 ∷ 0 ∷ 0 ∷ 0 ∷ 0 ∷ []) (17 ∷ 65 ∷ [])
   unfolding blank without label joined component onCycle cyclic spare settle seated root sits occupant other trail-from trail
   k8-17 = trail-on-board range k8 scratch room 17 refl refl refl (x ∷ y ∷ z ∷ []) (omega arith)
 
   -- In K9 the trail of 34 goes over 33 to 1, the smallest on the cycle; 98 is stashed, and its trail is empty.
-  pub k9-34 : shown 34 (4 ∷ 1 ∷ 5 ∷ 1 ∷ 0 ∷ 0 ∷ 0 ∷ 1 ∷ 33 ∷ 0 ∷ 34 ∷ 65 ∷ 0 ∷ 0 ∷ 0 ∷ 0 ∷ 65 ∷ 1 ∷ 0 ∷ 0 ∷ 0 ∷ 0 ∷ 33 ∷ 34 ∷ 0 ∷ 0 ∷ 0 ∷ 0 ∷ 98 ∷ 0 ∷ []) (34 ∷ 33 ∷ 1 ∷ [])
+  pub k9-34 : shown 34 (4 ∷ 1 ∷ 5 ∷ 1 ∷ 0 ∷ 0 ∷ 0 ∷ 0 ∷ 1 ∷ 33 ∷ 0 ∷ 34 ∷ 65 ∷ 0 ∷ 0 ∷ 0 ∷ 0 ∷ 65 ∷ 1 ∷ 0 ∷ 0 ∷ 0 ∷ 0 ∷ 33 ∷ 34 ∷ 0 ∷ 0 ∷ 0 ∷ 0 ∷ 98 ∷ 0 ∷ []) (34 ∷ 33 ∷ 1 ∷ [])
   unfolding blank without label joined component onCycle cyclic spare settle seated root sits occupant other trail-from trail
   k9-34 = trail-on-board range (k9 scratch room) scratch room 34 refl refl refl (x ∷ y ∷ z ∷ []) (omega arith)
 
-  pub k9-98 : shown 98 (4 ∷ 1 ∷ 5 ∷ 1 ∷ 0 ∷ 0 ∷ 0 ∷ 1 ∷ 33 ∷ 0 ∷ 34 ∷ 65 ∷ 0 ∷ 0 ∷ 0 ∷ 0 ∷ 65 ∷ 1 ∷ 0 ∷ 0 ∷ 0 ∷ 0 ∷ 33 ∷ 34 ∷ 0 ∷ 0 ∷ 0 ∷ 0 ∷ 98 ∷ 0 ∷ []) []
+  pub k9-98 : shown 98 (4 ∷ 1 ∷ 5 ∷ 1 ∷ 0 ∷ 0 ∷ 0 ∷ 0 ∷ 1 ∷ 33 ∷ 0 ∷ 34 ∷ 65 ∷ 0 ∷ 0 ∷ 0 ∷ 0 ∷ 65 ∷ 1 ∷ 0 ∷ 0 ∷ 0 ∷ 0 ∷ 33 ∷ 34 ∷ 0 ∷ 0 ∷ 0 ∷ 0 ∷ 98 ∷ 0 ∷ []) []
   unfolding blank without label joined component onCycle cyclic spare settle seated root sits occupant other trail-from trail
   k9-98 = trail-on-board range (k9 scratch room) scratch room 98 refl refl refl (x ∷ y ∷ z ∷ []) (omega arith)

@@ -47,12 +47,12 @@ check-harmless tabulation ws scratch = record {
 }
 
 -- init borrows no scratch; as an outcome with an empty one
-pub init-harmless : (ws : List ℕ) (r s : ℕ)
-    → Harmless (0 ∷ 2 ∷ []) ws [] (record { answer = fresh-refusal (length ws) r s; words = fresh-words ws r s; scratch = [] })
+pub init-harmless : (ws : List ℕ) (r s station : ℕ)
+    → Harmless (0 ∷ 2 ∷ []) ws [] (record { answer = fresh-refusal (length ws) r s station; words = fresh-words ws r s station; scratch = [] })
 unfolding fresh-words
-init-harmless ws r s = record {
-  numbered = fresh-answer-in (length ws) r s;
-  unchanged = λ n. rw (ne-eqb (fresh-refusal (length ws) r s) done n);
+init-harmless ws r s station = record {
+  numbered = fresh-answer-in (length ws) r s station;
+  unchanged = λ n. rw (ne-eqb (fresh-refusal (length ws) r s station) done n);
   cleared = refl;
 }
 

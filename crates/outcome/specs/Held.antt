@@ -19,8 +19,8 @@ use Rattle.refusals.specs.Refusal.{done, short-scratch, blank-key, key-present,
 use Rattle.tabulation.specs.Hash.{tabulation-length, blank}
 use Rattle.tabulation.specs.Slots.{slot-0, slot-1}
 use Rattle.layout.specs.Entries.{Entry, max-tier, keys-of, tier-of, key-in, tiered, keys-tiered, tiered-agree, tier-tiered, tiered-self, tiered-in}
-use Rattle.layout.specs.Layout.{Params, ValidKeys, ValidSet, family, params-of, slots-of, places-of, scratch-length, sizes-in-range, shaped, fits, image, keys-in, tier-in, set-in}
-use Rattle.layout.specs.Shape.{sized, sized-true, shape}
+use Rattle.layout.specs.Layout.{Params, ValidKeys, ValidSet, family, params-of, slots-of, places-of, scratch-length, params-in-range, station-of, shaped, fits, image, keys-in, tier-in, set-in}
+use Rattle.layout.specs.Shape.{ranged, ranged-true, shape}
 use Rattle.layout.specs.Image.{image-shaped}
 use Rattle.layout.specs.Canonical.{canonical, ImageOf, canonical-true, image-canonical, image-of-params, image-of-set}
 use Rattle.layout.specs.Answers.{lookup-values, looked-up}
@@ -33,12 +33,12 @@ use Rattle.outcome.specs.Laws.{Ready, change-done, change-refused, chang
 
 -- The words are a dictionary that holds S: r and s are in their ranges, and the words are the image of S, a set that fits.
 pub record Holds (P : Params) (L : List Entry) (ws : List ℕ) : Type 0 where
-  pub range : sizes-in-range (P .slots) (P .places) ≡ true
+  pub range : params-in-range (P .slots) (P .places) (P .station) ≡ true
   pub is : ImageOf P L ws
 
 module _ {P : Params} {L : List Entry} {ws : List ℕ} (h : Holds P L ws) where
   pub held-some : 0 < P .slots
-  held-some = sized (P .slots) (P .places) (h .range) .has-slots
+  held-some = ranged (P .slots) (P .places) (P .station) (h .range) .0 .has-slots
 
   -- such words say r and s, and their set
   pub held-params : params-of (P .tabulation) ws ≡ P
@@ -58,7 +58,7 @@ module _ {P : Params} {L : List Entry} {ws : List ℕ} (h : Holds P L ws) where
 
 -- Words that pass hold the set of the keys that stand in them.
 passed-holds : (tabulation ws : List ℕ) → shaped ws ≡ true → canonical tabulation ws ≡ true → Holds (params-of tabulation ws) (set-in tabulation ws) ws
-passed-holds tabulation ws formed c = record { range = sized-true (slots-of ws) (places-of ws) (shape ws formed .sizes); is = canonical-true tabulation ws c }
+passed-holds tabulation ws formed c = record { range = ranged-true (slots-of ws) (places-of ws) (station-of ws) (shape ws formed .sizes) (shape ws formed .station); is = canonical-true tabulation ws c }
 
 -- the new set
 

@@ -39,12 +39,12 @@ returns-2 c =
     let h = e .before .before in
     rw (
       keys-equal e,
-      ne-eqb (stash-count (start h .args .words .now)) (start h .args .stashed) (λ q. c .if2 .taken (h .read-header .ensures .1 .1 .1 ∙ q)),
+      ne-eqb (stash-count (start h .args .words .now)) (start h .args .stashed) (λ q. c .if2 .taken (h .read-header .ensures .1 .1 .1 .0 ∙ q)),
     )
 
 -- and those of the stashed keys
 counts-equal : (e : tie.Else2) → let a = start (headed e) .args in eqb (stash-count (a .words .now)) (a .stashed) ≡ true
-counts-equal e = eq-eqb _ _ (sym (headed e .read-header .ensures .1 .1 .1) ∙ e .if2 .left)
+counts-equal e = eq-eqb _ _ (sym (headed e .read-header .ensures .1 .1 .1 .0) ∙ e .if2 .left)
 
 stash-start-requires : tie.Need-stash-start-requires
 stash-start-requires c κs = search needs
