@@ -15,8 +15,8 @@ use Rattle.basics.specs.Tests.{test, eq?, and-true}
 use Rattle.cuckoo.specs.Round.{path, path-none, path-step}
 use Rattle.tabulation.specs.Hash.{Hashing, tables}
 use Rattle.tabulation.specs.Slots.{slot-0, slot-1, slot-0-lt, slot-1-lt}
-use Rattle.layout.specs.Layout.{slots-of, slot-entry}
-use Rattle.layout.specs.Shape.{Shaped}
+use Rattle.layout.specs.Layout.{family-of, slots-of, station-of, slot-entry}
+use Rattle.layout.specs.Shape.{Shaped, by-own-family}
 
 -- the key in a slot of the words
 abbrev pub key-of : List ℕ → ℕ → ℕ
@@ -25,7 +25,7 @@ key-of ws v = slot-entry ws v .key
 -- "The step out of rack 0 hands on to the step out of rack 1 and back": from a slot to the slot of its key in the other table
 unfoldable pub across : List ℕ → List ℕ → ℕ → ℕ
 across tabulation ws v =
-    let F = tables tabulation (slots-of ws) in
+    let F = family-of tabulation ws in
     cond (ltb v (slots-of ws)) (slot-1 F (key-of ws v)) (slot-0 F (key-of ws v))
 
 -- how many of the first n slots are not yet visited: their word is 0
@@ -62,11 +62,12 @@ pub record New (r : ℕ) (X : List ℕ) (n v : ℕ) : Type 0 where
   pub room : Room r X n v
   pub fresh : getD X v 0 ≡ 0
 
--- the slots of keys can be worked out, and the words be read, where r is the words' own
-pub record Readable (tabulation ws : List ℕ) (r : ℕ) : Type 0 where
-  pub hashing : Hashing tabulation r
+-- the slots of keys can be worked out, and the words be read, where r and the station number are the words' own
+pub record Readable (tabulation ws : List ℕ) (r station : ℕ) : Type 0 where
+  pub hashing : Hashing tabulation r station
   pub shaped : Shaped ws
   pub slots : r ≡ slots-of ws
+  pub place : station ≡ station-of ws
 
 -- By steps g it came from slot u to v in n steps, and X has what is noted on the way: of a visited slot the step, and the keys, as h tells them.
 module _ (g h : ℕ → ℕ) where
@@ -182,19 +183,23 @@ pub closed-here : {g h : ℕ → ℕ} {u r n v i : ℕ} {X : List ℕ} → Room 
 closed-here room walked q e = record { room = room; walked = walked; visited = rw (← q) e }
 
 -- Code makes a step: w is the other slot of the key in v. Out of table 0 that is the key's slot in table 1, and back.
-module _ {tabulation ws : List ℕ} {r : ℕ} (A : Readable tabulation ws r) {v key : ℕ} (held : key ≡ key-of ws v) where
-  pub out-0 : {w : ℕ} → v < r → w ≡ slot-1 (tables tabulation r) key → w ≡ across tabulation ws v
+module _ {tabulation ws : List ℕ} {r station : ℕ} (A : Readable tabulation ws r station) {v key : ℕ} (held : key ≡ key-of ws v) where
+  pub out-0 : {w : ℕ} → v < r → w ≡ slot-1 (tables tabulation r station) key → w ≡ across tabulation ws v
   unfolding across
-  out-0 l e = let t = lt-ltb v (slots-of ws) (omega (arith, A .slots)) in e ∙ (rw (A .slots, held, t))
+  out-0 l e =
+      let t = lt-ltb v (slots-of ws) (omega (arith, A .slots)) in
+      by-own-family (λ F. slot-1 F key) tabulation ws (A .slots) (A .place) e ∙ (rw (held, t))
 
-  pub out-1 : {w : ℕ} → r ≤ v → w ≡ slot-0 (tables tabulation r) key → w ≡ across tabulation ws v
+  pub out-1 : {w : ℕ} → r ≤ v → w ≡ slot-0 (tables tabulation r station) key → w ≡ across tabulation ws v
   unfolding across
-  out-1 l e = let t = le-ltb v (slots-of ws) (omega (arith, A .slots)) in e ∙ (rw (A .slots, held, t))
+  out-1 l e =
+      let t = le-ltb v (slots-of ws) (omega (arith, A .slots)) in
+      by-own-family (λ F. slot-0 F key) tabulation ws (A .slots) (A .place) e ∙ (rw (held, t))
 
-pub across-lt : {tabulation ws : List ℕ} {r : ℕ} → Readable tabulation ws r → (v : ℕ) → across tabulation ws v < r + r
+pub across-lt : {tabulation ws : List ℕ} {r station : ℕ} → Readable tabulation ws r station → (v : ℕ) → across tabulation ws v < r + r
 unfolding across
 across-lt {tabulation} {ws} A v =
-    let F = tables tabulation (slots-of ws) in
+    let F = family-of tabulation ws in
     let some : 0 < slots-of ws = omega (arith, A .slots, A .hashing .has-slots) in
     elim (test (ltb v (slots-of ws))) [
       | inl t ↦ rw (t, A .slots) (slot-1-lt F some (key-of ws v))
@@ -207,7 +212,7 @@ pub record Stepped (tabulation ws : List ℕ) (r : ℕ) (X : List ℕ) (n v : �
   pub falls : unvisited (r + r) Y < unvisited (r + r) X
   pub small : n + 1 ≤ 2048
 
-pub stepped : {tabulation ws : List ℕ} {r n v key w : ℕ} {X Y : List ℕ} → Readable tabulation ws r → New r X n v → key ≡ key-of ws v
+pub stepped : {tabulation ws : List ℕ} {r station n v key w : ℕ} {X Y : List ℕ} → Readable tabulation ws r station → New r X n v → key ≡ key-of ws v
     → Y ≡ noted r v n key X → w ≡ across tabulation ws v → Stepped tabulation ws r X n v Y w
 stepped {tabulation} {ws} {r} {v = v} {key} {w} A N held e on =
     let l : w < r + r = rw on (across-lt A v) in

@@ -53,17 +53,26 @@ fn out_of_0(
     words: &[u32],
     scratch: &mut [u32],
     r: u32,
+    station: u32,
     slot: u32,
     steps: u32,
 ) -> Stand
-    requires { ⌜ (Readable (now tabulation) (now words) r × New r (now scratch) steps slot) × (slot < r) ⌝ }
+    requires { ⌜ (Readable (now tabulation) (now words) r station × New r (now scratch) steps slot) × (slot < r) ⌝ }
     ensures { λ w. ⌜ Onward (across (now (tabulation .entry)) (now (words .entry))) (key-of (now (words .entry))) r
         (now (scratch .entry)) steps slot (now (scratch .exit)) (w .steps) (w .slot) ⌝ }
 {
     let key = visit(words, &mut *scratch, r, slot, steps);
-    let next = second_slot(tabulation, r, key);
+    let next = second_slot(tabulation, r, station, key);
     if goes_on(&*scratch, next, steps + 1) {
-        return out_of_1(tabulation, words, &mut *scratch, r, next, steps + 1);
+        return out_of_1(
+            tabulation,
+            words,
+            &mut *scratch,
+            r,
+            station,
+            next,
+            steps + 1,
+        );
     }
     Stand {
         slot: next,
@@ -77,17 +86,26 @@ fn out_of_1(
     words: &[u32],
     scratch: &mut [u32],
     r: u32,
+    station: u32,
     slot: u32,
     steps: u32,
 ) -> Stand
-    requires { ⌜ (Readable (now tabulation) (now words) r × New r (now scratch) steps slot) × (r ≤ slot) ⌝ }
+    requires { ⌜ (Readable (now tabulation) (now words) r station × New r (now scratch) steps slot) × (r ≤ slot) ⌝ }
     ensures { λ w. ⌜ Onward (across (now (tabulation .entry)) (now (words .entry))) (key-of (now (words .entry))) r
         (now (scratch .entry)) steps slot (now (scratch .exit)) (w .steps) (w .slot) ⌝ }
 {
     let key = visit(words, &mut *scratch, r, slot, steps);
-    let next = first_slot(tabulation, r, key);
+    let next = first_slot(tabulation, r, station, key);
     if goes_on(&*scratch, next, steps + 1) {
-        return out_of_0(tabulation, words, &mut *scratch, r, next, steps + 1);
+        return out_of_0(
+            tabulation,
+            words,
+            &mut *scratch,
+            r,
+            station,
+            next,
+            steps + 1,
+        );
     }
     Stand {
         slot: next,
@@ -101,22 +119,30 @@ fn run(
     words: &[u32],
     scratch: &mut [u32],
     r: u32,
+    station: u32,
     slot: u32,
     steps: u32,
 ) -> Stand
-    requires { ⌜ Readable (now tabulation) (now words) r × New r (now scratch) steps slot ⌝ }
+    requires { ⌜ Readable (now tabulation) (now words) r station × New r (now scratch) steps slot ⌝ }
     ensures { λ w. ⌜ Onward (across (now (tabulation .entry)) (now (words .entry))) (key-of (now (words .entry))) r
         (now (scratch .entry)) steps slot (now (scratch .exit)) (w .steps) (w .slot) ⌝ }
 {
     if slot < r {
-        return out_of_0(tabulation, words, &mut *scratch, r, slot, steps);
+        return out_of_0(tabulation, words, &mut *scratch, r, station, slot, steps);
     }
-    out_of_1(tabulation, words, &mut *scratch, r, slot, steps)
+    out_of_1(tabulation, words, &mut *scratch, r, station, slot, steps)
 }
 
 // The walk from a slot on, over scratch that is zeros, until it comes to a slot where it was.
-pub fn walk(tabulation: &[u16], words: &[u32], scratch: &mut [u32], r: u32, start: u32) -> Stand
-    requires { ⌜ (Readable (now tabulation) (now words) r × (start < r + r))
+pub fn walk(
+    tabulation: &[u16],
+    words: &[u32],
+    scratch: &mut [u32],
+    r: u32,
+    station: u32,
+    start: u32,
+) -> Stand
+    requires { ⌜ (Readable (now tabulation) (now words) r station × (start < r + r))
         × ((r + r + (r + r) ≤ length (now scratch)) × (now scratch ≡ replicate (length (now scratch)) 0)) ⌝ }
     ensures { λ w. ⌜ Closed (across (now (tabulation .entry)) (now (words .entry))) (key-of (now (words .entry))) start
         r (now (scratch .exit)) (w .steps) (w .slot) ⌝ }
@@ -124,7 +150,7 @@ pub fn walk(tabulation: &[u16], words: &[u32], scratch: &mut [u32], r: u32, star
     let mut slot = start;
     let mut steps = 0;
     while scratch[wide(slot)] == 0 {
-        let at = run(tabulation, words, &mut *scratch, r, slot, steps);
+        let at = run(tabulation, words, &mut *scratch, r, station, slot, steps);
         slot = at.slot;
         steps = at.steps;
     }

@@ -102,8 +102,8 @@ module _ (t : ℕ) where
       let o = c .before .before in
       onward-then (out-of-0-step (o .before .before .before .before .before) .onward) (o .out-of-1 .ensures)
 
-  out-of-0-add-t14 : out-of-0-lts.Need-add-t14 claims-0 (out-of-0-at t) out-of-0.Post
-  out-of-0-add-t14 c = let l = out-of-0-step (c .before .before .before) .small in search needs
+  out-of-0-add-t15 : out-of-0-lts.Need-add-t15 claims-0 (out-of-0-at t) out-of-0.Post
+  out-of-0-add-t15 c = let l = out-of-0-step (c .before .before .before) .small in search needs
 
   out-of-0-same-length-2 : out-of-0-lts.Need-same-length-2 claims-0 (out-of-0-at t) out-of-0.Post
   out-of-0-same-length-2 c = search needs
@@ -162,7 +162,7 @@ module _ (t : ℕ) where
       let q = out-of-1-step s in
       let p = start-1 (visited-1 s) .pre in
       let a = start-1 (visited-1 s) .args in
-      (rw (p .0) at (q .falls), ((p .1 .0 .0, goes-new (q .onward .room) (c .before .if1 .taken) (c .before .before .goes-on .ensures)), omega (arith, s .first-slot .ensures, slot-0-lt (tables (a .tabulation .now) (a .r)) (p .1 .0 .0 .hashing .has-slots) (visited-1 s .visit .result))))
+      (rw (p .0) at (q .falls), ((p .1 .0 .0, goes-new (q .onward .room) (c .before .if1 .taken) (c .before .before .goes-on .ensures)), omega (arith, s .first-slot .ensures, slot-0-lt (tables (a .tabulation .now) (a .r) (a .station)) (p .1 .0 .0 .hashing .has-slots) (visited-1 s .visit .result))))
 
   out-of-1-same-length : out-of-1-lts.Need-same-length claims-1 (out-of-1-at t) out-of-1.Post
   out-of-1-same-length c = search needs
@@ -172,8 +172,8 @@ module _ (t : ℕ) where
       let o = c .before .before in
       onward-then (out-of-1-step (o .before .before .before .before .before) .onward) (o .out-of-0 .ensures)
 
-  out-of-1-add-t14 : out-of-1-lts.Need-add-t14 claims-1 (out-of-1-at t) out-of-1.Post
-  out-of-1-add-t14 c = let l = out-of-1-step (c .before .before .before) .small in search needs
+  out-of-1-add-t15 : out-of-1-lts.Need-add-t15 claims-1 (out-of-1-at t) out-of-1.Post
+  out-of-1-add-t15 c = let l = out-of-1-step (c .before .before .before) .small in search needs
 
   out-of-1-same-length-2 : out-of-1-lts.Need-same-length-2 claims-1 (out-of-1-at t) out-of-1.Post
   out-of-1-same-length-2 c = search needs
@@ -193,7 +193,7 @@ pub +out-of-0+out-of-1-spec : {M : Type 1} → statement M
     (out-of-0-out-of-1-requires t)
     (out-of-0-same-length t)
     (out-of-0-returns t)
-    (out-of-0-add-t14 t)
+    (out-of-0-add-t15 t)
     (out-of-0-same-length-2 t)
     (out-of-0-returns-2 t))
     λ t. out-of-1-lts.spec (claims-1 t)
@@ -207,6 +207,6 @@ pub +out-of-0+out-of-1-spec : {M : Type 1} → statement M
     (out-of-1-out-of-0-requires t)
     (out-of-1-same-length t)
     (out-of-1-returns t)
-    (out-of-1-add-t14 t)
+    (out-of-1-add-t15 t)
     (out-of-1-same-length-2 t)
     (out-of-1-returns-2 t)

@@ -8,12 +8,12 @@ use Rattle.walking.proofs.walk.walk.Statement.{statement}
 use Rattle.walking.proofs.walk.walk.Tie as tie
 
 abbrev Inv-loop : tie.InvT-loop
-Inv-loop tabulation words scratch₀ r start slot₀ steps₀ scratch slot steps =
+Inv-loop tabulation words scratch₀ r station start slot₀ steps₀ scratch slot steps =
     (length scratch ≡ length scratch₀)
     × (Room r scratch steps slot × Walked (across tabulation words) (key-of words) start r scratch steps slot)
 
 abbrev μ-loop : tie.MeasureT-loop
-μ-loop tabulation words scratch₀ r start slot₀ steps₀ scratch slot steps = r + r - steps
+μ-loop tabulation words scratch₀ r station start slot₀ steps₀ scratch slot steps = r + r - steps
 
 loop-holds : tie.Need-loop-holds Inv-loop μ-loop
 loop-holds c = let p = c .before .before .before .pre in (refl, walk-start _ _ (p .1 .1) (p .1 .0) (p .0 .1))
