@@ -17,8 +17,8 @@ use Rattle.tabulation.specs.Slots.{slot-0, slot-1, slot-0-lt, slot-1-le, slot-1
 use Rattle.forest.specs.Edges.{Edge, Edges, first-of, second-of, edge-at, edge-read, end-0, end-1}
 use Rattle.forest.specs.Graph.{edges-in}
 use Rattle.layout.specs.Entries.{max-tier, tier-of}
-use Rattle.layout.specs.Layout.{Params, family, slots-of, slot-entry, stash-entries, tier-in}
-use Rattle.layout.specs.Shape.{Sized}
+use Rattle.layout.specs.Layout.{Params, family, family-of, slots-of, station-of, slot-entry, stash-entries, tier-in}
+use Rattle.layout.specs.Shape.{Sized, by-own-family}
 use Rattle.build.specs.Scratch.{parts, held-at, edges-at, used}
 use Rattle.build.specs.Build.{edges-of, Built, Buildable}
 use Rattle.build.specs.declared.StashCount.{StashCount}
@@ -80,21 +80,22 @@ module _ (F : Family) (some : 0 < F .slots) (most : F .slots ≤ 1024) (t : ℕ 
   }
 
 -- The edge as code makes it: the slots are hashed with r, and the tier is found by them.
-module _ (tabulation : List ℕ) (r key : ℕ) (some : 0 < r) (most : r ≤ 1024) {first second : ℕ} (f : first ≡ slot-0 (tables tabulation r) key)
-    (g : second ≡ slot-1 (tables tabulation r) key) where
+module _ (tabulation : List ℕ) (r station key : ℕ) (some : 0 < r) (most : r ≤ 1024) {first second : ℕ} (f : first ≡ slot-0 (tables tabulation r station) key)
+    (g : second ≡ slot-1 (tables tabulation r station) key) where
   pub slots-in : (first < 2 * r) × (second < 2 * r)
-  slots-in = (omega (arith, slot-0-lt (tables tabulation r) some key), omega (arith, slot-1-lt (tables tabulation r) some key))
+  slots-in = let F = tables tabulation r station in (omega (arith, slot-0-lt F some key), omega (arith, slot-1-lt F some key))
 
   pub packable : {tier : ℕ} → tier ≤ max-tier → (first < 2048) × ((second < 2048) × (tier ≤ max-tier))
   packable l = (omega (arith, slots-in), (omega (arith, slots-in), l))
 
-pub edge-made : (tabulation ws : List ℕ) (key : ℕ) {r first second tier small x : ℕ} → r ≡ slots-of ws → first ≡ slot-0 (tables tabulation r) key
-    → second ≡ slot-1 (tables tabulation r) key → tier ≡ tier-of (slot-entry ws first ∷ slot-entry ws second ∷ stash-entries ws) key
-    → small ≡ small-tier tier → x ≡ packed first second small → x ≡ edge-of (tables tabulation (slots-of ws)) (tier-found tabulation ws) key
+pub edge-made : (tabulation ws : List ℕ) (key : ℕ) {r station first second tier small x : ℕ} → r ≡ slots-of ws → station ≡ station-of ws
+    → first ≡ slot-0 (tables tabulation r station) key → second ≡ slot-1 (tables tabulation r station) key
+    → tier ≡ tier-of (slot-entry ws first ∷ slot-entry ws second ∷ stash-entries ws) key
+    → small ≡ small-tier tier → x ≡ packed first second small → x ≡ edge-of (family-of tabulation ws) (tier-found tabulation ws) key
 unfolding edge-of tier-in
-edge-made tabulation ws key {first = first} {second} e f g h k q =
-    let a : first ≡ slot-0 (tables tabulation (slots-of ws)) key = f ∙ ap (λ (n : ℕ). slot-0 (tables tabulation n) key) e in
-    let b : second ≡ slot-1 (tables tabulation (slots-of ws)) key = g ∙ ap (λ (n : ℕ). slot-1 (tables tabulation n) key) e in
+edge-made tabulation ws key e d f g h k q =
+    let a = by-own-family (λ F. slot-0 F key) tabulation ws e d f in
+    let b = by-own-family (λ F. slot-1 F key) tabulation ws e d g in
     q ∙ (rw (k, h, a, b))
 
 -- the edges in scratch, by rank

@@ -10,13 +10,12 @@ use lib.ListN.{length, take}
 use Rattle.basics.specs.Tests.{bool-ext}
 use Rattle.basics.specs.Lists.{same, same-true, true-same}
 use Rattle.refusals.specs.Refusal.{done, not-canonical, stash-full, first-refusal, front-none}
-use Rattle.layout.specs.Layout.{Params, ValidKeys, params-of, slots-of, places-of, words-length, shaped, stash-of, fits, image, keys-in, fits-by, tier-in}
+use Rattle.layout.specs.Layout.{Params, ValidKeys, params-of, family-of, slots-of, places-of, station-of, words-length, shaped, stash-of, fits, image, keys-in, fits-by, tier-in}
 use Rattle.layout.specs.Entries.{Entry, keys-of, tier-of, tiered, keys-tiered, tiered-agree, tiered-in, in-tiered, tier-absent}
 use Rattle.layout.specs.Canonical.{canonical, canonical-tier, canonical-true, image-of-canonical}
 use Rattle.layout.specs.Shape.{Shaped, Sized, shape}
 use Rattle.layout.specs.Image.{le-fits}
 use Rattle.layout.specs.Standing.{keys-in-valid, zero-outside}
-use Rattle.tabulation.specs.Hash.{tables}
 use Rattle.build.specs.Scratch.{parts, edges-at, used}
 use Rattle.build.specs.Build.{full, made, Built, Buildable}
 use Rattle.build.specs.declared.StashCount.{StashCount}
@@ -57,11 +56,13 @@ new-answer P S = cond (fits P S) done stash-full
 abbrev pub new-words : Params → List Entry → List ℕ → List ℕ
 new-words P L ws = cond (fits P (keys-of L)) (image P L) ws
 
--- The n keys that stand in the words have been collected: they stand in scratch from word 1 on. r and s are those of the words.
-pub record Collected (tabulation ws scratch : List ℕ) (r s n : ℕ) : Type 0 where
+-- The n keys that stand in the words have been collected: they stand in scratch from word 1 on. r, s and the station number are
+-- those of the words.
+pub record Collected (tabulation ws scratch : List ℕ) (r s station n : ℕ) : Type 0 where
   pub ready : Ready tabulation ws scratch
   pub slots : r ≡ slots-of ws
   pub places : s ≡ places-of ws
+  pub stationed : station ≡ station-of ws
   pub count : n ≡ length (keys-in ws)
   pub front : take (n + 1) scratch ≡ 0 ∷ keys-in ws
 
@@ -145,10 +146,11 @@ module _ (tabulation ws : List ℕ) (formed : Shaped ws) {t : ℕ → ℕ} {S be
 
   set-alike : alike-in (slots-of ws) (places-of ws) (length S) ws k after ≡ same ws (image N (tiered t S))
   set-alike =
-      let a = alike-image (M .columns) (rw (keys-tiered t S) (M .fit)) (no-tier t valid) formed refl refl in
+      let a = alike-image (M .columns) (rw (keys-tiered t S) (M .fit)) (no-tier t valid) formed refl refl refl in
       rw (← M .stashed) (rw (keys-tiered t S) at a)
 
-  set-written : written-in ws (record { slots = slots-of ws; places = places-of ws; keys = length S; stashed = k }) after ≡ image N (tiered t S)
+  set-written : written-in ws (record { slots = slots-of ws; places = places-of ws; keys = length S; stashed = k; station = station-of ws }) after
+      ≡ image N (tiered t S)
   set-written =
       let i = written-image (M .columns) (rw (keys-tiered t S) (M .fit)) (no-tier t valid) ws (formed .sizes .has-slots) (formed .size) in
       rw (← M .stashed) (rw (keys-tiered t S) at i)
@@ -179,7 +181,7 @@ module _ (tabulation ws : List ℕ) where
       }) .2)
 
 -- Keys that are collected: they and their edges have room,
-module _ {tabulation ws scratch : List ℕ} {r s n : ℕ} (C : Collected tabulation ws scratch r s n) where
+module _ {tabulation ws scratch : List ℕ} {r s station n : ℕ} (C : Collected tabulation ws scratch r s station n) where
   abbrev formed : Shaped ws
   formed = shape ws (C .ready .shape)
 
@@ -194,12 +196,12 @@ module _ {tabulation ws scratch : List ℕ} {r s n : ℕ} (C : Collected tabulat
 
   -- and are listed once these are made,
   pub collected-listed : {after : List ℕ} {start : ℕ} → start ≡ edges-at r s
-      → EdgesTo (edge-of (tables tabulation (slots-of ws)) (tier-found tabulation ws)) scratch after start n → Listed tabulation ws after
+      → EdgesTo (edge-of (family-of tabulation ws) (tier-found tabulation ws)) scratch after start n → Listed tabulation ws after
   collected-listed e T =
       edges-lined (rw (C .count) at (C .front)) (rw (e, C .slots, C .places, C .count) at T) collected-few (rw (C .slots, C .places) at (collected-room .1 .1))
 
 -- and can be built then.
-module _ {tabulation ws scratch mid : List ℕ} {r s n : ℕ} (C : Collected tabulation ws scratch r s n) (same-room : length mid ≡ length scratch)
+module _ {tabulation ws scratch mid : List ℕ} {r s station n : ℕ} (C : Collected tabulation ws scratch r s station n) (same-room : length mid ≡ length scratch)
     (D : Listed tabulation ws mid) where
   room-mid : used (slots-of ws) (places-of ws) ≤ length mid
   room-mid = omega (arith, C .ready .room, formed C .sizes)
@@ -236,7 +238,7 @@ module _ {tabulation ws scratch mid : List ℕ} {r s n : ℕ} (C : Collected tab
       pub read-other : b ≡ false → Told NotCanonical
       read-other q = let c : canonical tabulation ws ≡ false = read-compared ∙ q in (rw c, (rw c, kept))
 
--- A new set, whichever stands in scratch: r and s are those of the words.
+-- A new set, whichever stands in scratch: r and s are those of the words,
 module _ {ws scratch : List ℕ} {r s n : ℕ} (e : r ≡ slots-of ws) (f : s ≡ places-of ws) (formed : Shaped ws)
     (b : Buildable (slots-of ws) (places-of ws) n scratch) where
   pub new-buildable : Buildable r s n scratch
@@ -260,12 +262,14 @@ module _ {ws scratch : List ℕ} {r s n : ℕ} (e : r ≡ slots-of ws) (f : s �
       pub renew-readable : (length ws ≡ words-length r s) × Readable r s n after
       renew-readable = (rw (e, f) (formed .size), built-readable (rw (e, f) (formed .sizes)) new-buildable same B o)
 
-      pub renew-made : {us : List ℕ} → us ≡ written-in ws (record { slots = r; places = s; keys = n; stashed = k }) after → Renewed ws scratch n done us
-      renew-made w = record {
+      -- and so is the station number
+      pub renew-made : {station : ℕ} → station ≡ station-of ws → {us : List ℕ}
+          → us ≡ written-in ws (record { slots = r; places = s; keys = n; stashed = k; station = station }) after → Renewed ws scratch n done us
+      renew-made d w = record {
         by = λ tabulation t S valid q D.
             let g = set-made {P = params-of tabulation ws} valid (formed .sizes) (few-new S q) (b .room) D same (built-new S q) o .fit in
             let i = set-written tabulation ws formed valid (few-new S q) (b .room) D same (built-new S q) o in
-            (rw g, rw (keys-tiered t S, g) ((rw (e, f, q) at w) ∙ i));
+            (rw g, rw (keys-tiered t S, g) ((rw (e, f, q, d) at w) ∙ i));
       }
 
 -- what reading the words told

@@ -5,7 +5,7 @@ ghost use Prim.Native.Nat.{_/_, _≤_, _<_};
 ghost use lib.ListN.{length};
 ghost use Rattle.tabulation.specs.Hash.{tabulation-length, tables, Hashing};
 ghost use Rattle.layout.specs.Entries.{max-tier};
-ghost use Rattle.layout.specs.Layout.{slots-of};
+ghost use Rattle.layout.specs.Layout.{family-of, slots-of, station-of};
 ghost use Rattle.layout.specs.Shape.{Shaped};
 ghost use Rattle.codec.specs.Ranks.{tier-unit};
 ghost use Rattle.renewal.specs.Edges.{packed, small-tier, tier-found, edge-with, edge-of};
@@ -42,37 +42,46 @@ fn fitting(tier: u32) -> u32
 }
 
 // The edge of a key that comes in, with its tier.
-pub fn edge_given(tabulation: &[u16], r: u32, key: u32, tier: u32) -> u32
-    requires { ⌜ Hashing (now tabulation) r × (tier ≤ max-tier) ⌝ }
-    ensures { λ e. ⌜ e ≡ edge-with (tables (now (tabulation .entry)) r) key tier ⌝ }
+pub fn edge_given(tabulation: &[u16], r: u32, station: u32, key: u32, tier: u32) -> u32
+    requires { ⌜ Hashing (now tabulation) r station × (tier ≤ max-tier) ⌝ }
+    ensures { λ e. ⌜ e ≡ edge-with (tables (now (tabulation .entry)) r station) key tier ⌝ }
 {
-    let first = first_slot(tabulation, r, key);
-    let second = second_slot(tabulation, r, key);
+    let first = first_slot(tabulation, r, station, key);
+    let second = second_slot(tabulation, r, station, key);
     pack(first, second, tier)
 }
 
 // The edge of a key, with the tier at which it is found in the words.
-fn edge_found(tabulation: &[u16], words: &[u32], r: u32, key: u32) -> u32
-    requires { ⌜ (length (now tabulation) ≡ tabulation-length) × (Shaped (now words) × (r ≡ slots-of (now words))) ⌝ }
-    ensures { λ e. ⌜ e ≡ edge-of (tables (now (tabulation .entry)) (slots-of (now (words .entry))))
+fn edge_found(tabulation: &[u16], words: &[u32], r: u32, station: u32, key: u32) -> u32
+    requires { ⌜ (length (now tabulation) ≡ tabulation-length)
+        × (Shaped (now words) × ((r ≡ slots-of (now words)) × (station ≡ station-of (now words)))) ⌝ }
+    ensures { λ e. ⌜ e ≡ edge-of (family-of (now (tabulation .entry)) (now (words .entry)))
         (tier-found (now (tabulation .entry)) (now (words .entry))) key ⌝ }
 {
-    let first = first_slot(tabulation, r, key);
-    let second = second_slot(tabulation, r, key);
+    let first = first_slot(tabulation, r, station, key);
+    let second = second_slot(tabulation, r, station, key);
     let tier = access::tier_at(words, first, second, key);
     pack(first, second, fitting(tier))
 }
 
 // The edges of the n keys that stand from word 1 of scratch on come to their place.
-pub fn write_edges(tabulation: &[u16], words: &[u32], scratch: &mut [u32], r: u32, s: u32, n: usize)
-    requires { ⌜ Collected (now tabulation) (now words) (now scratch) r s n ⌝ }
+pub fn write_edges(
+    tabulation: &[u16],
+    words: &[u32],
+    scratch: &mut [u32],
+    r: u32,
+    s: u32,
+    station: u32,
+    n: usize,
+)
+    requires { ⌜ Collected (now tabulation) (now words) (now scratch) r s station n ⌝ }
     ensures { λ _. ⌜ Listed (now (tabulation .entry)) (now (words .entry)) (now (scratch .exit)) ⌝ }
 {
     let start = edges_start(r, s);
     let mut i = 0;
     while i < n {
         let key = scratch[i + 1];
-        scratch[start + i] = edge_found(tabulation, words, r, key);
+        scratch[start + i] = edge_found(tabulation, words, r, station, key);
         i += 1;
     }
 }

@@ -59,7 +59,7 @@ pub fn read_set(tabulation: &[u16], words: &[u32], scratch: &mut [u32]) -> Readi
     let r = header.slots;
     let s = header.places;
     let n = collect_keys(words, &mut *scratch);
-    write_edges(tabulation, words, &mut *scratch, r, s, n);
+    write_edges(tabulation, words, &mut *scratch, r, s, header.station, n);
     let count = seating::build(&mut *scratch, r, s, n);
     let StashCount::Ranks(stashed) = count else {
         return Reading::NotCanonical;
@@ -87,6 +87,7 @@ pub fn renew(words: &mut [u32], scratch: &mut [u32], n: usize) -> u32
         places: s,
         keys: n as u32,
         stashed: stashed,
+        station: header.station,
     };
     write_built(&mut *words, &*scratch, fresh);
     0

@@ -72,17 +72,18 @@ pub fn put_key(
     scratch: &mut [u32],
     r: u32,
     s: u32,
+    station: u32,
     n: usize,
     at: usize,
     key: u32,
     tier: u32,
 )
-    requires { ⌜ ((Hashing (now tabulation) r × (tier ≤ max-tier)) × (s ≤ 64))
+    requires { ⌜ ((Hashing (now tabulation) r station × (tier ≤ max-tier)) × (s ≤ 64))
         × ((at ≤ n) × ((n < 2 * r + s) × (used r s ≤ length (now scratch)))) ⌝ }
     ensures { λ _. ⌜ now (scratch .exit) ≡ put-in r s n at key
-        (edge-with (tables (now (tabulation .entry)) r) key tier) (now (scratch .entry)) ⌝ }
+        (edge-with (tables (now (tabulation .entry)) r station) key tier) (now (scratch .entry)) ⌝ }
 {
-    let edge = edge_given(tabulation, r, key, tier);
+    let edge = edge_given(tabulation, r, station, key, tier);
     let start = edges_start(r, s);
     open_at(&mut *scratch, at + 1, n + 1, key);
     open_at(&mut *scratch, start + at, start + n, edge);

@@ -67,7 +67,7 @@ pub record Readable (tabulation ws : List ℕ) (r station : ℕ) : Type 0 where
   pub hashing : Hashing tabulation r station
   pub shaped : Shaped ws
   pub slots : r ≡ slots-of ws
-  pub place : station ≡ station-of ws
+  pub stationed : station ≡ station-of ws
 
 -- By steps g it came from slot u to v in n steps, and X has what is noted on the way: of a visited slot the step, and the keys, as h tells them.
 module _ (g h : ℕ → ℕ) where
@@ -188,13 +188,13 @@ module _ {tabulation ws : List ℕ} {r station : ℕ} (A : Readable tabulation w
   unfolding across
   out-0 l e =
       let t = lt-ltb v (slots-of ws) (omega (arith, A .slots)) in
-      by-own-family (λ F. slot-1 F key) tabulation ws (A .slots) (A .place) e ∙ (rw (held, t))
+      by-own-family (λ F. slot-1 F key) tabulation ws (A .slots) (A .stationed) e ∙ (rw (held, t))
 
   pub out-1 : {w : ℕ} → r ≤ v → w ≡ slot-0 (tables tabulation r station) key → w ≡ across tabulation ws v
   unfolding across
   out-1 l e =
       let t = le-ltb v (slots-of ws) (omega (arith, A .slots)) in
-      by-own-family (λ F. slot-0 F key) tabulation ws (A .slots) (A .place) e ∙ (rw (held, t))
+      by-own-family (λ F. slot-0 F key) tabulation ws (A .slots) (A .stationed) e ∙ (rw (held, t))
 
 pub across-lt : {tabulation ws : List ℕ} {r station : ℕ} → Readable tabulation ws r station → (v : ℕ) → across tabulation ws v < r + r
 unfolding across

@@ -23,13 +23,14 @@ abbrev start : tie.After-collect-keys → tie.Start
 start k = headed k .before .before .before .before
 
 collected : (k : tie.After-collect-keys) → let a = start k .args in let h = headed k .read-header .result in
-    Collected (a .tabulation .now) (a .words .now) (k .collect-keys .last .1 .0) (h .slots) (h .places) (k .collect-keys .result)
+    Collected (a .tabulation .now) (a .words .now) (k .collect-keys .last .1 .0) (h .slots) (h .places) (h .station) (k .collect-keys .result)
 collected k =
     let p = start k .pre in
     record {
       ready = record { full-length = p .full-length; shape = p .shape; room = omega (arith, p .room, k .collect-keys .kept .1 .0) };
       slots = headed k .read-header .ensures .0;
       places = headed k .read-header .ensures .1 .0;
+      stationed = headed k .read-header .ensures .1 .1 .1 .1;
       count = k .collect-keys .ensures .1;
       front = k .collect-keys .ensures .0;
     }

@@ -68,7 +68,7 @@ returns-2 c =
     let b = build-at q in
     let h = headed b .read-header .ensures in
     let p = start (headed b) .pre in
-    renew-made (h .0) (h .1 .0) (p .1) (p .0) (b .build .kept .0) (b .build .ensures) (q .count .given .1) (w .write-built .ensures)
+    renew-made (h .0) (h .1 .0) (p .1) (p .0) (b .build .kept .0) (b .build .ensures) (q .count .given .1) (h .1 .1 .1 .1) (w .write-built .ensures)
 
 pub renew-spec : {M : Type 1} → statement M
 renew-spec =

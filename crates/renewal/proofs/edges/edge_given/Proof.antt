@@ -13,7 +13,7 @@ second-slot-requires c κs = search needs
 pack-requires : tie.Need-pack-requires
 pack-requires c κs =
     let d = c .before .before .before in
-    packable (d .args .tabulation .now) (d .args .r) (d .args .key) (d .pre .0 .has-slots) (d .pre .0 .slots-bound)
+    packable (d .args .tabulation .now) (d .args .r) (d .args .station) (d .args .key) (d .pre .0 .has-slots) (d .pre .0 .slots-bound)
     (c .before .first-slot .ensures) (c .second-slot .ensures) (d .pre .1)
 
 returns : tie.Need-returns

@@ -2,8 +2,7 @@
 use Prim.Native.Nat.{_-_, _≤_}
 use mathlib.Core.Path.{_≡_}
 use native.Mathlib.Omega.{arith}
-use Rattle.tabulation.specs.Hash.{tables}
-use Rattle.layout.specs.Layout.{slots-of}
+use Rattle.layout.specs.Layout.{family-of}
 use Rattle.layout.specs.Shape.{shape}
 use Rattle.renewal.specs.Edges.{tier-found, edge-of, EdgesTo, edges-start, edges-turn}
 use Rattle.renewal.specs.Reading.{collected-room, collected-listed}
@@ -12,11 +11,11 @@ use Rattle.renewal.proofs.edges.write_edges.Statement.{statement}
 use Rattle.renewal.proofs.edges.write_edges.Tie as tie
 
 abbrev Inv-loop : tie.InvT-loop
-Inv-loop tabulation words scratch₀ r s n start i₀ scratch i =
-    (i ≤ n) × EdgesTo (edge-of (tables tabulation (slots-of words)) (tier-found tabulation words)) scratch₀ scratch start i
+Inv-loop tabulation words scratch₀ r s station n start i₀ scratch i =
+    (i ≤ n) × EdgesTo (edge-of (family-of tabulation words) (tier-found tabulation words)) scratch₀ scratch start i
 
 abbrev μ-loop : tie.MeasureT-loop
-μ-loop tabulation words scratch₀ r s n start i₀ scratch i = n - i
+μ-loop tabulation words scratch₀ r s station n start i₀ scratch i = n - i
 
 edges-start-requires : tie.Need-edges-start-requires Inv-loop μ-loop
 edges-start-requires c κs = let z = collected-room (c .before .before .before .pre) .0 in (z .slots-bound, z .places-bound)
@@ -41,7 +40,7 @@ slice-read-key : tie.Need-slice-read-key Inv-loop μ-loop
 slice-read-key c = omega (arith, collected-room (start (c .before .before) .pre), c .before .before .loop .inv .1 .same-length)
 
 edge-found-requires : tie.Need-edge-found-requires Inv-loop μ-loop
-edge-found-requires c κs = let p = start (c .before .before) .pre in (p .ready .full-length, (shape _ (p .ready .shape), p .slots))
+edge-found-requires c κs = let p = start (c .before .before) .pre in (p .ready .full-length, (shape _ (p .ready .shape), (p .slots, p .stationed)))
 
 add-scratch : tie.Need-add-scratch Inv-loop μ-loop
 add-scratch c = let l = c .before .before .before in omega (arith, collected-room (start l .pre), began l .edges-start .ensures)
