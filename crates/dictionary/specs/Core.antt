@@ -14,7 +14,7 @@ use Rattle.ordered.specs.Keys.{rank-of, with-key}
 use Rattle.refusals.specs.Refusal.{done, not-canonical, blank-key, key-present, key-absent, stash-full, wrong-tier, other-tier, first-refusal, front-applies}
 use Rattle.tabulation.specs.Hash.{Hashing, blank, tables}
 use Rattle.layout.specs.Entries.{max-tier, keys-of, tier-of, tiered, keys-tiered, tier-tiered}
-use Rattle.layout.specs.Layout.{Params, ValidKeys, params-of, slots-of, places-of, fits, image, keys-in, tier-in, set-in}
+use Rattle.layout.specs.Layout.{Params, ValidKeys, params-of, slots-of, places-of, station-of, fits, image, keys-in, tier-in, set-in}
 use Rattle.layout.specs.Canonical.{canonical, canonical-true}
 use Rattle.layout.specs.Shape.{Shaped, shape}
 use Rattle.layout.specs.Standing.{keys-in-valid}
@@ -102,9 +102,15 @@ module _ {tabulation ws scratch : List ℕ} {n key : ℕ} (Z : Settable tabulati
   pub stands-listed : {t : Bool} → t ≡ member key (keys-at n scratch) → t ≡ member key (keys-of (set-in tabulation ws))
   stands-listed e = e ∙ ap (member key) (keys-stand ∙ sym set-keys)
 
-  pub in-range : {r s : ℕ} → r ≡ slots-of ws → s ≡ places-of ws → Hashing tabulation r × ((s ≤ 64) × ((n ≤ 2 * r + s) × (used r s ≤ length scratch)))
-  in-range e f = (
-    rw e (record { full-length = Z .ready .full-length; has-slots = sizes .sizes .has-slots; slots-bound = sizes .sizes .slots-bound }),
+  pub in-range : {r s station : ℕ} → r ≡ slots-of ws → s ≡ places-of ws → station ≡ station-of ws
+      → Hashing tabulation r station × ((s ≤ 64) × ((n ≤ 2 * r + s) × (used r s ≤ length scratch)))
+  in-range e f d = (
+    rw (e, d) (record {
+      full-length = Z .ready .full-length;
+      has-slots = sizes .sizes .has-slots;
+      slots-bound = sizes .sizes .slots-bound;
+      station-bound = sizes .station;
+    }),
     (omega (arith, sizes .sizes), (omega (arith, key-count), omega (arith, room))),
   )
 
@@ -202,11 +208,12 @@ module _ {tabulation ws scratch : List ℕ} {n key : ℕ} (Z : Settable tabulati
             (rw (small-test, set-keys, absent, f), rw (small-test, set-keys, absent, f))
 
         -- and is put in
-        module _ {r s : ℕ} (e : r ≡ slots-of ws) (f : s ≡ places-of ws) (few : n < 2 * slots-of ws + places-of ws) {mid : List ℕ}
-            (in-it : mid ≡ put-in r s n at key (edge-with (tables tabulation r) key tier) scratch) (same-room : length mid ≡ length scratch) where
+        module _ {r s station : ℕ} (e : r ≡ slots-of ws) (f : s ≡ places-of ws) (d : station ≡ station-of ws)
+            (few : n < 2 * slots-of ws + places-of ws) {mid : List ℕ}
+            (in-it : mid ≡ put-in r s n at key (edge-with (tables tabulation r station) key tier) scratch) (same-room : length mid ≡ length scratch) where
           put : Lined P (tier-changed (Insert tier) key (tier-of (set-in tabulation ws))) (with-key key K) mid
           put =
-              rw (in-it, at-rank, e, f, Z .count)
+              rw (in-it, at-rank, e, f, d, Z .count)
               (lined-put (Z .lined) room (valid .asc) key (tier-changed (Insert tier) key (tier-of (set-in tabulation ws)))
               (λ c i. rw (ne-eqb c key (λ q. gone (rw q at i))) (set-tier i)) gone (omega (arith, Z .count)) (rw (eq-eqb key key refl)))
 

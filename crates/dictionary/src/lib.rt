@@ -56,7 +56,17 @@ fn insert_key(
     if wide(2 * r + s) <= n {
         return STASH_FULL;
     }
-    put_key(tabulation, &mut *scratch, r, s, n, at, key, tier);
+    put_key(
+        tabulation,
+        &mut *scratch,
+        r,
+        s,
+        header.station,
+        n,
+        at,
+        key,
+        tier,
+    );
     renew(&mut *words, &mut *scratch, n + 1)
 }
 

@@ -92,13 +92,13 @@ pub data Allowed (t : List ℕ) : List ℕ → List Call → Type 0 where
   none : {ws : List ℕ} → Allowed t ws []
   more : {ws : List ℕ} {c : Call} {cs : List Call} → MayStand ws c → Allowed t (step t ws c .words) cs → Allowed t ws (c ∷ cs)
 
--- A sequence of demand 3, with the tabulation, r and s of P, that starts with words ws. "It starts with the words of an accepted lay, whatever they
+-- A sequence of demand 3, with the tabulation, r, s and station of P, that starts with words ws. "It starts with the words of an accepted lay, whatever they
 -- were before."
 pub record Sequence (P : Params) (ws : List ℕ) (cs : List Call) : Type 0 where
   pub full-length : length (P .tabulation) ≡ tabulation-length
   pub before : List ℕ
-  pub accepted : fresh-refusal (length before) (P .slots) (P .places) ≡ done
-  pub laid : ws ≡ fresh-words before (P .slots) (P .places)
+  pub accepted : fresh-refusal (length before) (P .slots) (P .places) (P .station) ≡ done
+  pub laid : ws ≡ fresh-words before (P .slots) (P .places) (P .station)
   pub allowed : Allowed (P .tabulation) ws cs
 
 -- the words that the sequence leaves

@@ -17,11 +17,11 @@ use Rattle.cuckoo.specs.Trail.{other, trail-from}
 use Rattle.cuckoo.specs.Trail as cuckoo-trail
 use Rattle.ordered.specs.Keys.{with-key, above}
 use Rattle.refusals.specs.Refusal.{done, stash-full}
-use Rattle.tabulation.specs.Hash.{slots-in-range, blank, hash}
+use Rattle.tabulation.specs.Hash.{slots-in-range, station-in-range, blank, hash}
 use Rattle.tabulation.specs.Answer.{hashes-refusal, hashes-values}
 use Rattle.tabulation.specs.Slots.{slot-0, slot-1}
 use Rattle.layout.specs.Entries.{Entry, keys-of, tier-of}
-use Rattle.layout.specs.Layout.{Params, family, sizes-in-range, shaped, stash-of, fits, image, place-words, place-entries, tier-in}
+use Rattle.layout.specs.Layout.{Params, family, sizes-in-range, params-in-range, shaped, stash-of, fits, image, place-words, place-entries, tier-in}
 use Rattle.layout.specs.Answers.{view-refusal, view-of, fresh-refusal, fresh-words}
 use Rattle.layout.specs.Fitting.{without-valid, without-fits}
 use Rattle.layout.specs.Look.{image-view}
@@ -89,8 +89,8 @@ script =
     ∷ (insert 129 8, says 9 [])
     ∷ (insert 129 6, says 10 [])
     ∷ (insert 129 7, says 6 [])
-    -- "any other call on it may stand there if it is refused": init with r = 0
-    ∷ (Call.other (init 0 1), says 2 [])
+    -- "any other call on it may stand there if it is refused": init with station 256
+    ∷ (Call.other (init 4 1 256), says 2 [])
     -- another one that is accepted: the hashes of 65, "0.1" and "1.0"
     ∷ (Call.other (hashes (family P) 65), says 0 (1 ∷ 0 ∷ []))
     -- tier 0, tier 7, and not listed
@@ -111,7 +111,7 @@ answers = map (λ (row : Call × Answer). row .1) script
 
 -- the words that init leaves, whatever they were before: K1
 abbrev pub fresh : List ℕ
-fresh = 4 ∷ 1 ∷ 0 ∷ 0 ∷ 0 ∷ 0 ∷ 0 ∷ 0 ∷ 0 ∷ 0 ∷ 0 ∷ 0 ∷ 0 ∷ 0 ∷ 0 ∷ 0 ∷ 0 ∷ 0 ∷ 0 ∷ 0 ∷ 0 ∷ 0 ∷ 0 ∷ 0 ∷ 0 ∷ 0 ∷ 0 ∷ 0 ∷ 0 ∷ 0 ∷ []
+fresh = 4 ∷ 1 ∷ 0 ∷ 0 ∷ 0 ∷ 0 ∷ 0 ∷ 0 ∷ 0 ∷ 0 ∷ 0 ∷ 0 ∷ 0 ∷ 0 ∷ 0 ∷ 0 ∷ 0 ∷ 0 ∷ 0 ∷ 0 ∷ 0 ∷ 0 ∷ 0 ∷ 0 ∷ 0 ∷ 0 ∷ 0 ∷ 0 ∷ 0 ∷ 0 ∷ 0 ∷ []
 
 -- the set with which it ends, and its words: K5
 abbrev one : Entry
@@ -128,16 +128,16 @@ entries = one ∷ two ∷ three ∷ []
 
 abbrev pub words : List ℕ
 words =
-    4 ∷ 1 ∷ 3 ∷ 1 ∷ 0 ∷ 0 ∷ 0 ∷ 1 ∷ 65 ∷ 3 ∷ 0 ∷ 0 ∷ 0 ∷ 0 ∷ 0 ∷ 0 ∷ 65 ∷ 1 ∷ 0 ∷ 0 ∷ 0 ∷ 0 ∷ 0 ∷ 0 ∷ 0 ∷ 0 ∷ 0 ∷ 0 ∷ 129 ∷ 7 ∷ []
+    4 ∷ 1 ∷ 3 ∷ 1 ∷ 0 ∷ 0 ∷ 0 ∷ 0 ∷ 1 ∷ 65 ∷ 3 ∷ 0 ∷ 0 ∷ 0 ∷ 0 ∷ 0 ∷ 0 ∷ 65 ∷ 1 ∷ 0 ∷ 0 ∷ 0 ∷ 0 ∷ 0 ∷ 0 ∷ 0 ∷ 0 ∷ 0 ∷ 0 ∷ 129 ∷ 7 ∷ []
 
--- Init with r = 0 is refused on any words, so it may stand in a sequence.
-init-refused : (ws : List ℕ) → fresh-refusal (length ws) 0 1 ≡ done → ⊥
-unfolding fresh-refusal sizes-in-range slots-in-range
+-- Init with station 256 is refused on any words, so it may stand in a sequence.
+init-refused : (ws : List ℕ) → fresh-refusal (length ws) 4 1 256 ≡ done → ⊥
+unfolding fresh-refusal params-in-range sizes-in-range slots-in-range station-in-range
 init-refused ws e = omega arith
 
 init-more : {ws : List ℕ} {cs : List Call}
-    → Allowed board-tabulation (step board-tabulation ws (Call.other (init 0 1)) .words) cs
-    → Allowed board-tabulation ws (Call.other (init 0 1) ∷ cs)
+    → Allowed board-tabulation (step board-tabulation ws (Call.other (init 4 1 256)) .words) cs
+    → Allowed board-tabulation ws (Call.other (init 4 1 256) ∷ cs)
 init-more {ws} rest = more (refused (init-refused ws)) rest
 
 -- The calls that leave the words may stand anywhere.
@@ -152,10 +152,10 @@ may-stand =
     let middle = more tt (more tt (more tt (more tt (more tt (more tt (init-more rest)))))) in
     more tt (more tt (more tt (more tt (more (unchanged refl) (trail-more (8 ∷ 8 ∷ 8 ∷ []) (trail-more (8 ∷ []) middle))))))
 
--- It is a sequence: the list had 30 words, all 7, before it was laid.
+-- It is a sequence: the list had 31 words, all 7, before it was laid.
 pub sequence : Sequence P fresh calls
-unfolding fresh-refusal fresh-words sizes-in-range slots-in-range
-sequence = record { full-length = board-length; before = replicate 30 7; accepted = refl; laid = refl; allowed = may-stand }
+unfolding fresh-refusal fresh-words params-in-range sizes-in-range slots-in-range station-in-range
+sequence = record { full-length = board-length; before = replicate 31 7; accepted = refl; laid = refl; allowed = may-stand }
 
 -- what the register answers
 
@@ -180,7 +180,7 @@ K6 =
 
 -- and the words of K5 say its stash.
 stash-K5 : place-words (tier-of entries) (stash-of P (keys-of entries)) ≡ 129 ∷ 7 ∷ []
-unfolding view-of view-refusal shaped sizes-in-range slots-in-range
+unfolding view-of view-refusal shaped params-in-range sizes-in-range slots-in-range station-in-range
 stash-K5 = sym (image-view P entries (K5 .fit) refl) ∙ (rw (K5 .words-are))
 
 -- The register with set L is fed qs, replies ms, and ends with set M;
@@ -232,13 +232,13 @@ count-says = rw four-words
 trail-says : (trail-in board-tabulation (words-left P fresh first-four) 65 ≡ 65 ∷ 1 ∷ [])
     × ((trail-refusal board-tabulation (words-left P fresh first-four) scratch 65 3 ≡ 0)
     × (trail-refusal board-tabulation (words-left P fresh first-four) scratch 65 1 ≡ 11))
-unfolding sizes-in-range slots-in-range blank without label joined component onCycle cyclic spare settle seated root sits occupant other trail-from cuckoo-trail.trail
+unfolding params-in-range sizes-in-range slots-in-range station-in-range blank without label joined component onCycle cyclic spare settle seated root sits occupant other trail-from cuckoo-trail.trail
 trail-says =
     let p = shown-trail refl K5 scratch (omega arith) 65 refl refl refl in
     rw four-words (p .0, (p .1 3, p .1 1))
 
 hashes-say : (hashes-refusal (family P) 65 ≡ 0) × (hashes-values (family P) 65 ≡ 1 ∷ 0 ∷ [])
-unfolding hashes-refusal hashes-values slots-in-range hash blank board-tabulation
+unfolding hashes-refusal hashes-values slots-in-range station-in-range hash blank board-tabulation
 hashes-say = (refl, refl)
 
 -- and all of them. Of the second init the register is fed the refusal, of the calls that leave the words what they
@@ -249,7 +249,7 @@ goes : Goes []
     ∷ to 0 [] (one ∷ two ∷ [])
     ∷ map (λ (row : Call × Answer). record { answer = row .1; set = entries }) (drop 2 script))
     entries
-unfolding requests words-after step fresh-refusal sizes-in-range slots-in-range reply with-key below above blank trail-outcome
+unfolding requests words-after step fresh-refusal params-in-range sizes-in-range slots-in-range station-in-range reply with-key below above blank trail-outcome
 goes =
     goes-first
     (goes-fourth
@@ -319,10 +319,10 @@ abbrev pub other-calls : List Call
 other-calls = insert 129 2 ∷ insert 65 0 ∷ remove 129 ∷ insert 1 3 ∷ insert 129 7 ∷ []
 
 pub other-sequence : Sequence P fresh other-calls
-unfolding fresh-refusal fresh-words sizes-in-range slots-in-range
+unfolding fresh-refusal fresh-words params-in-range sizes-in-range slots-in-range station-in-range
 other-sequence = record {
   full-length = board-length;
-  before = replicate 30 0;
+  before = replicate 31 0;
   accepted = refl;
   laid = refl;
   allowed = more tt (more tt (more tt (more tt (more tt none))));
@@ -359,7 +359,7 @@ abbrev pub sale : Sale
 sale = record { key = 129; tier = 7; price = 14500 }
 
 pub sale-opened : step-after P fresh calls (Call.other (opening board-tabulation 129 15000 steps)) .answer ≡ says 0 (129 ∷ 7 ∷ 14500 ∷ [])
-unfolding step sale-refusal sale-values sale-of unpriced all-in-range tier-in place-entries shaped sizes-in-range slots-in-range hash blank board-tabulation
+unfolding step sale-refusal sale-values sale-of unpriced all-in-range tier-in place-entries shaped params-in-range sizes-in-range slots-in-range station-in-range hash blank board-tabulation
 sale-opened = rw words-are
 
 -- 129 is withdrawn; closing the sale gives 14,500.

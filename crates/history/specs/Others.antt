@@ -36,17 +36,17 @@ pub other-like : (t ws : List ℕ) (x x′ : Other) → x .answer ws ≡ x′ .a
 unfolding step
 other-like t ws x x′ f g = rw (f, g)
 
--- init, with any r and s
+-- init, with any r, s and station
 
-pub init-leaves : (ws : List ℕ) (r s : ℕ) → (fresh-refusal (length ws) r s ≡ done → ⊥) → fresh-words ws r s ≡ ws
+pub init-leaves : (ws : List ℕ) (r s station : ℕ) → (fresh-refusal (length ws) r s station ≡ done → ⊥) → fresh-words ws r s station ≡ ws
 unfolding fresh-words
-init-leaves ws r s n = rw (ne-eqb (fresh-refusal (length ws) r s) done n)
+init-leaves ws r s station n = rw (ne-eqb (fresh-refusal (length ws) r s station) done n)
 
-abbrev pub init : ℕ → ℕ → Other
-init r s = record {
-  answer = λ ws. record { number = fresh-refusal (length ws) r s; values = [] };
-  words = λ ws. fresh-words ws r s;
-  leaves = λ ws n. init-leaves ws r s n;
+abbrev pub init : ℕ → ℕ → ℕ → Other
+init r s station = record {
+  answer = λ ws. record { number = fresh-refusal (length ws) r s station; values = [] };
+  words = λ ws. fresh-words ws r s station;
+  leaves = λ ws n. init-leaves ws r s station n;
 }
 
 -- calls that only read the words
@@ -58,7 +58,7 @@ reads answer = record { answer = answer; words = λ ws. ws; leaves = λ ws n. re
 pub reads-stands : (answer : List ℕ → Answer) (ws : List ℕ) → OtherStands ws (reads answer)
 reads-stands answer ws = unchanged refl
 
--- The hashes of a key, for any tabulation and r: the call is not even lent the words.
+-- The hashes of a key, for any tabulation, r and station: the call is not even lent the words.
 abbrev pub hashes : Family → ℕ → Other
 hashes F key = reads (λ ws. record { number = hashes-refusal F key; values = hashes-values F key })
 

@@ -38,7 +38,7 @@ module _ (line : Line) (l : List ℕ) (h : Buffers line l) where
         kept = λ _. rw (length-append, e, add-one, take-suc-set) (ap (λ (p : List ℕ). p ++ (b ∷ [])) (h .kept (omega arith)));
       }
 
-  pub holds-over : (b : ℕ) → longest ≤ line .count → Buffers (record { bytes = line .bytes; count = 24 }) (l ++ (b ∷ []))
+  pub holds-over : (b : ℕ) → longest ≤ line .count → Buffers (record { bytes = line .bytes; count = suc longest }) (l ++ (b ∷ []))
   holds-over b k = record {
     counted = rw length-append (omega (arith, h .counted));
     kept = λ m. absurd (omega (arith, h .counted, length-append l (b ∷ [])));

@@ -1,6 +1,6 @@
--- What a line of the console's input says: "Line 1 is r,s .. Then A (add), W (withdraw) or L (look up) with a card", and "The program's A line
--- gains the tier". A line of any other form is `Other`. The forms accept exactly the texts `pair-text`, `key-text` and `add-text` (`pair-exact`,
--- `pair-given`, `command-exact`, `key-given`, `add-given`). Assumes nothing.
+-- What a line of the console's input says: "A (add), W (withdraw) or L (look up) with a card", and "The program's A line gains the tier". A line of
+-- any other form is `Other`. The forms accept exactly the texts `pair-text`, `key-text` and `add-text` (`pair-exact`, `pair-given`, `command-exact`,
+-- `key-given`, `add-given`). Line 1 is in Sizes. Assumes nothing.
 use Prim.Native.Nat.{ℕ, suc, _+_, _≤_, _<_}
 use mathlib.Core.Path.{_≡_, refl, sym, _∙_, ap}
 use mathlib.Core.Bool.{true, false, cond, false≢true}
@@ -45,7 +45,7 @@ pair-in (f ∷ []) = no-pair
 pair-in (f ∷ g ∷ []) = pair (number-of f) (number-of g)
 pair-in (f ∷ g ∷ h ∷ fs) = no-pair
 
--- "Line 1 is r,s"
+-- two numbers parted by a comma
 unfoldable pub pair-of : List ℕ → Pair
 pair-of text = pair-in (fields text)
 
@@ -202,7 +202,7 @@ command-key (a ∷ b ∷ t) h e n =
 
 -- ---- exactly the writings
 -- digits are one field
-digits-place : (t : List ℕ) → all-digits t ≡ true → place-of comma t ≡ length t
+pub digits-place : (t : List ℕ) → all-digits t ≡ true → place-of comma t ≡ length t
 unfolding all-digits place-of
 digits-place [] e = refl
 digits-place (b ∷ t) e =
@@ -317,19 +317,12 @@ command-exact l =
         letters l (getD l 0 0) n (cc) (number-largest (drop 2 l) f)
     key h e no-number f = tt
 
--- ---- a line longer than "A,4294967295,4294967295" is of another form
+-- ---- a line longer than "4294967295,4294967295,4294967295" is of another form
 abbrev pub longest : ℕ
-longest = 23
+longest = 32
 
-pair-length : (a b : ℕ) → a ≤ largest → b ≤ largest → length (pair-text a b) ≤ 21
+pub pair-length : (a b : ℕ) → a ≤ largest → b ≤ largest → length (pair-text a b) ≤ 21
 pair-length a b h l = omega (arith, length-append (decimal a) (comma ∷ decimal b), digits-32 a h, digits-32 b l)
-
-pub pair-long : (l : List ℕ) → longest < length l → pair-of l ≡ no-pair
-pair-long l h = go (pair-of l) refl (pair-exact l)
-  where
-    go : (x : Pair) → pair-of l ≡ x → Pair-text x l → pair-of l ≡ no-pair
-    go (Given a b) e t = absurd (omega (arith, ap length (t .0), pair-length a b (t .1) (t .2)))
-    go no-pair e t = e
 
 pub command-long : (l : List ℕ) → longest < length l → command-of l ≡ no-command
 command-long l h = go (command-of l) refl (command-exact l)

@@ -4,5 +4,6 @@ pub mod Decimal
 pub mod Number
 pub mod Parted
 pub mod Command
+pub mod Sizes
 pub mod Buffer
 pub mod Stream

@@ -9,6 +9,7 @@ ghost use lib.ListN.{length};
 ghost use Rattle.lines.specs.Number.{no-leading-zero, number-of};
 ghost use Rattle.lines.specs.Parted.{place-of};
 ghost use Rattle.lines.specs.Command.{pair, pair-of, by-letter, with-key, insertion, command-of};
+ghost use Rattle.lines.specs.Sizes.{sizes, sizes-of};
 ghost use Rattle.lines.specs.Buffer.{Buffers};
 
 // What ends a line, and what parts two fields.
@@ -16,10 +17,11 @@ pub const NEWLINE: u8 = b'\n';
 
 pub const COMMA: u8 = b',';
 
-// The bytes of the longest line of a known form, "A,4294967295,4294967295", and a count that says that there were more.
-pub const LONGEST: usize = 23;
+// The bytes of the longest line of a known form, "4294967295,4294967295,4294967295", and a count that says that there
+// were more.
+pub const LONGEST: usize = 32;
 
-const TOO_LONG: usize = 24;
+const TOO_LONG: usize = 33;
 
 // A text read as a number.
 pub enum Number {
@@ -27,9 +29,15 @@ pub enum Number {
     Other,
 }
 
-// Two numbers, read: r,s of line 1, or key,tier of an add; or another form.
+// Two numbers, read: s,station of line 1, or key,tier of an add; or another form.
 pub enum Pair {
     Given(u32, u32),
+    Other,
+}
+
+// Line 1, read: r,s,station or another form.
+pub enum Sizes {
+    Given(u32, u32, u32),
     Other,
 }
 
@@ -121,8 +129,8 @@ fn both(first: Number, second: Number) -> Pair
     Pair::Given(a, b)
 }
 
-// Two numbers parted by a comma: line 1, and what an add has behind its letter.
-pub fn pair_of(text: &[u8]) -> Pair
+// Two numbers parted by a comma: what line 1 has behind its first comma, and an add behind its letter.
+fn pair_of(text: &[u8]) -> Pair
     ensures { λ r. ⌜ r ≡ pair-of (now (text .entry)) ⌝ }
 {
     let end = find(text, COMMA);
@@ -133,6 +141,33 @@ pub fn pair_of(text: &[u8]) -> Pair
     let first = number_in(&text[..end]);
     let second = number_in(&text[start..]);
     both(first, second)
+}
+
+// A number and a pair, of line 1.
+fn all_three(first: Number, behind: Pair) -> Sizes
+    ensures { λ r. ⌜ r ≡ sizes first behind ⌝ }
+{
+    let Number::Value(a) = first else {
+        return Sizes::Other;
+    };
+    let Pair::Given(b, c) = behind else {
+        return Sizes::Other;
+    };
+    Sizes::Given(a, b, c)
+}
+
+// Three numbers parted by commas: line 1.
+pub fn sizes_of(text: &[u8]) -> Sizes
+    ensures { λ r. ⌜ r ≡ sizes-of (now (text .entry)) ⌝ }
+{
+    let end = find(text, COMMA);
+    if text.len() <= end {
+        return Sizes::Other;
+    }
+    let start = end + 1;
+    let first = number_in(&text[..end]);
+    let behind = pair_of(&text[start..]);
+    all_three(first, behind)
 }
 
 // An add: its key and its tier.
@@ -219,15 +254,15 @@ pub fn is_empty(line: Line) -> bool
 }
 
 // What the line says, however long it was.
-pub fn sizes_in(line: Line) -> Pair
-    ensures { λ r. ⌜ ((l : List ℕ) → Buffers line l → r ≡ pair-of l) ⌝ }
+pub fn sizes_in(line: Line) -> Sizes
+    ensures { λ r. ⌜ ((l : List ℕ) → Buffers line l → r ≡ sizes-of l) ⌝ }
 {
     let count = line.count;
     if LONGEST < count {
-        return Pair::Other;
+        return Sizes::Other;
     }
     let bytes = line.bytes;
-    pair_of(&bytes[..count])
+    sizes_of(&bytes[..count])
 }
 
 pub fn command_in(line: Line) -> Command

@@ -23,10 +23,10 @@ use Rattle.refusals.specs.Refusal.{done, not-canonical, blank-key, key-absent, 
 use Rattle.tabulation.specs.Hash.{tables, blank}
 use Rattle.tabulation.specs.Slots.{slot-0, slot-1, slot-0-lt, slot-1-le, slot-1-lt}
 use Rattle.layout.specs.Entries.{keys-of, keys-tiered}
-use Rattle.layout.specs.Layout.{Params, family, params-of, slots-of, image, keys-in, tier-in, set-in, key-at}
+use Rattle.layout.specs.Layout.{Params, family, family-of, params-of, slots-of, station-of, image, keys-in, tier-in, set-in, key-at}
 use Rattle.layout.specs.Canonical.{canonical, canonical-true}
 use Rattle.layout.specs.Image.{image-key}
-use Rattle.layout.specs.Shape.{shape}
+use Rattle.layout.specs.Shape.{shape, by-own-family}
 use Rattle.layout.specs.Standing.{keys-in-valid, not-blank}
 use Rattle.dictionary.specs.Core.{Settable, in-range}
 use Rattle.outcome.specs.declared.Traced.{Traced}
@@ -56,12 +56,12 @@ ToldOfTrail tabulation ws key old t new =
 -- the slot in which a key is looked for: that of table 0, if it stands there, and else that of table 1
 abbrev pub seat-in : List ℕ → List ℕ → ℕ → ℕ
 seat-in tabulation ws key =
-    let F = tables tabulation (slots-of ws) in
+    let F = family-of tabulation ws in
     cond (eqb (key-of ws (slot-0 F key)) key) (slot-0 F key) (slot-1 F key)
 
 -- The words are an image, there is room for the walk, and the key is none that stands for an empty slot: its trail can be looked for.
-pub record Traceable (tabulation ws scratch : List ℕ) (r key : ℕ) : Type 0 where
-  pub readable : Readable tabulation ws r
+pub record Traceable (tabulation ws scratch : List ℕ) (r station key : ℕ) : Type 0 where
+  pub readable : Readable tabulation ws r station
   pub image : canonical tabulation ws ≡ true
   pub room : r + r + (r + r) ≤ length scratch
   pub some-key : key ≡ 0 → ⊥
@@ -109,30 +109,30 @@ unfolding trail-outcome
 told-outcome tabulation ws scratch key R e = rw (R .numbered, R .valued, R .written, e)
 
 -- What code reads: the key in a slot,
-pub slot-readable : {tabulation ws : List ℕ} {r v : ℕ} → Readable tabulation ws r → v < r + r → (key-at v < length ws) × (v < 4096)
+pub slot-readable : {tabulation ws : List ℕ} {r station v : ℕ} → Readable tabulation ws r station → v < r + r → (key-at v < length ws) × (v < 4096)
 slot-readable A l = (omega (arith, A .shaped .size, A .slots), omega (arith, A .hashing .slots-bound))
 
 -- and where a key is looked for.
-module _ {tabulation ws : List ℕ} {r : ℕ} (A : Readable tabulation ws r) (key : ℕ) {v k : ℕ} (first : v ≡ slot-0 (tables tabulation r) key)
-    (read : k ≡ key-of ws v) where
+module _ {tabulation ws : List ℕ} {r station : ℕ} (A : Readable tabulation ws r station) (key : ℕ) {v k : ℕ}
+    (first : v ≡ slot-0 (tables tabulation r station) key) (read : k ≡ key-of ws v) where
   pub first-lt : v < r + r
-  first-lt = omega (arith, slot-0-lt (tables tabulation r) (A .hashing .has-slots) key)
+  first-lt = omega (arith, slot-0-lt (tables tabulation r station) (A .hashing .has-slots) key)
 
   pub seat-first : k ≡ key → v ≡ seat-in tabulation ws key
   seat-first e =
-      let p : v ≡ slot-0 (tables tabulation (slots-of ws)) key = first ∙ (rw (A .slots)) in
-      let t : eqb (key-of ws (slot-0 (tables tabulation (slots-of ws)) key)) key ≡ true = eq-eqb _ key (ap (key-of ws) (sym p) ∙ sym read ∙ e) in
+      let p = by-own-family (λ F. slot-0 F key) tabulation ws (A .slots) (A .stationed) first in
+      let t : eqb (key-of ws (slot-0 (family-of tabulation ws) key)) key ≡ true = eq-eqb _ key (ap (key-of ws) (sym p) ∙ sym read ∙ e) in
       rw t p
 
-  pub seat-second : {w : ℕ} → (k ≡ key → ⊥) → w ≡ slot-1 (tables tabulation r) key → w ≡ seat-in tabulation ws key
+  pub seat-second : {w : ℕ} → (k ≡ key → ⊥) → w ≡ slot-1 (tables tabulation r station) key → w ≡ seat-in tabulation ws key
   seat-second n q =
-      let p : v ≡ slot-0 (tables tabulation (slots-of ws)) key = first ∙ (rw (A .slots)) in
-      let t : eqb (key-of ws (slot-0 (tables tabulation (slots-of ws)) key)) key ≡ false =
+      let p = by-own-family (λ F. slot-0 F key) tabulation ws (A .slots) (A .stationed) first in
+      let t : eqb (key-of ws (slot-0 (family-of tabulation ws) key)) key ≡ false =
       ne-eqb _ key (λ e. n (read ∙ ap (key-of ws) p ∙ e)) in
-      rw t (q ∙ (rw (A .slots)))
+      rw t (by-own-family (λ F. slot-1 F key) tabulation ws (A .slots) (A .stationed) q)
 
 -- In the words of a dictionary the walk goes as the trail does.
-module _ {tabulation ws : List ℕ} {r : ℕ} (A : Readable tabulation ws r) (image : canonical tabulation ws ≡ true) where
+module _ {tabulation ws : List ℕ} {r station : ℕ} (A : Readable tabulation ws r station) (image : canonical tabulation ws ≡ true) where
   abbrev P : Params
   P = params-of tabulation ws
 
@@ -223,12 +223,12 @@ module _ {tabulation ws : List ℕ} {r : ℕ} (A : Readable tabulation ws r) (im
           trail-count = ap length trail-found ∙ length-take-le q (met-keys r X n) (omega (arith, D .count, D .first .inside))
 
 -- a key whose set was read
-pub settable-traceable : {tabulation ws scratch : List ℕ} {n key r : ℕ} → Settable tabulation ws scratch n key → r ≡ slots-of ws
-    → Traceable tabulation ws scratch r key
-settable-traceable {ws = ws} {key = key} Z e =
+pub settable-traceable : {tabulation ws scratch : List ℕ} {n key r station : ℕ} → Settable tabulation ws scratch n key → r ≡ slots-of ws
+    → station ≡ station-of ws → Traceable tabulation ws scratch r station key
+settable-traceable {ws = ws} {key = key} Z e d =
     let sizes = shape ws (Z .ready .shape) in
     record {
-      readable = record { hashing = in-range Z e refl .0; shaped = sizes; slots = e };
+      readable = record { hashing = in-range Z e refl d .0; shaped = sizes; slots = e; stationed = d };
       image = Z .image;
       room = omega (arith, Z .ready .room);
       some-key = not-blank key (Z .not-blank);

@@ -27,15 +27,15 @@ use walking::walk::walk;
 use words::fill;
 
 // The slot in which a key sits, if it is seated: that of table 0, if it stands there, or else that of table 1.
-fn seat_of(tabulation: &[u16], words: &[u32], r: u32, key: u32) -> u32
-    requires { ⌜ Readable (now tabulation) (now words) r ⌝ }
+fn seat_of(tabulation: &[u16], words: &[u32], r: u32, station: u32, key: u32) -> u32
+    requires { ⌜ Readable (now tabulation) (now words) r station ⌝ }
     ensures { λ v. ⌜ v ≡ seat-in (now (tabulation .entry)) (now (words .entry)) key ⌝ }
 {
-    let first = first_slot(tabulation, r, key);
+    let first = first_slot(tabulation, r, station, key);
     if key_in(words, first) == key {
         return first;
     }
-    second_slot(tabulation, r, key)
+    second_slot(tabulation, r, station, key)
 }
 
 // The trail of a key of the set: 11, or how many keys it has, and they are written. A stashed key has none.
@@ -44,20 +44,21 @@ fn trace(
     words: &[u32],
     scratch: &mut [u32],
     r: u32,
+    station: u32,
     key: u32,
     trail: &mut [u32],
 ) -> Traced
-    requires { ⌜ Traceable (now tabulation) (now words) (now scratch) r key ⌝ }
+    requires { ⌜ Traceable (now tabulation) (now words) (now scratch) r station key ⌝ }
     ensures { λ t. ⌜ ToldOfTrail (now (tabulation .entry)) (now (words .entry)) key (now (trail .entry)) t
         (now (trail .exit)) ⌝ }
 {
-    let slot = seat_of(tabulation, words, r, key);
+    let slot = seat_of(tabulation, words, r, station, key);
     if key_in(words, slot) != key {
         fill(&mut *trail, 0);
         return Traced::Length(0);
     }
     clear(&mut *scratch);
-    let at = walk(tabulation, words, &mut *scratch, r, slot);
+    let at = walk(tabulation, words, &mut *scratch, r, station, slot);
     let count = cut(&*scratch, r, at.slot, at.steps);
     if trail.len() < count {
         return Traced::Refused(SHORT_TRAIL);
@@ -90,6 +91,7 @@ fn trace_listed(
         words,
         &mut *scratch,
         header.slots,
+        header.station,
         key,
         &mut *trail,
     )

@@ -31,8 +31,8 @@ abbrev start : tie.After-read-header → tie.Start
 start h = origin (h .before .before)
 
 ranges : (h : tie.After-read-header) → let a = start h .args in let r = h .read-header .result .slots in let s = h .read-header .result .places in
-    Hashing (a .tabulation .now) r × ((s ≤ 64) × ((a .n ≤ 2 * r + s) × (used r s ≤ length (a .scratch .now))))
-ranges h = in-range (start h .pre) (h .read-header .ensures .0) (h .read-header .ensures .1 .0)
+    Hashing (a .tabulation .now) r (h .read-header .result .station) × ((s ≤ 64) × ((a .n ≤ 2 * r + s) × (used r s ≤ length (a .scratch .now))))
+ranges h = let e = h .read-header .ensures in in-range (start h .pre) (e .0) (e .1 .0) (e .1 .1 .1 .1)
 
 place-of-requires : tie.Need-place-of-requires
 place-of-requires c κs = searchable (start (c .before) .pre)
@@ -151,7 +151,7 @@ renew-requires c κs =
     let p = placed (e .before) in
     let h = headed p in
     insert-buildable (start h .pre) (p .place-of .ensures) (e .before .is-at .ensures) (e .if2 .left) (small (h .before .before)) (h .read-header .ensures .0)
-    (h .read-header .ensures .1 .0) (few o) (k .put-key .ensures) (k .put-key .kept .1 .0)
+    (h .read-header .ensures .1 .0) (h .read-header .ensures .1 .1 .1 .1) (few o) (k .put-key .ensures) (k .put-key .kept .1 .0)
 
 same-length-7 : tie.Need-same-length-7
 same-length-7 c = search needs
@@ -168,7 +168,7 @@ returns-5 c =
     let p = placed (e .before) in
     let h = headed p in
     insert-renewed (start h .pre) (p .place-of .ensures) (e .before .is-at .ensures) (e .if2 .left) (small (h .before .before)) (h .read-header .ensures .0)
-    (h .read-header .ensures .1 .0) (few o) (k .put-key .ensures) (k .put-key .kept .1 .0) (w .renew .ensures)
+    (h .read-header .ensures .1 .0) (h .read-header .ensures .1 .1 .1 .1) (few o) (k .put-key .ensures) (k .put-key .kept .1 .0) (w .renew .ensures)
 
 pub insert-key-spec : {M : Type 1} → statement M
 insert-key-spec =

@@ -31,7 +31,7 @@ look-requires : tie.Need-look-requires
 look-requires c κs =
     let p = c .before in
     let h = headed p in
-    let b = in-range (start h .pre) (h .read-header .ensures .0) (h .read-header .ensures .1 .0) in
+    let b = in-range (start h .pre) (h .read-header .ensures .0) (h .read-header .ensures .1 .0) (h .read-header .ensures .1 .1 .1 .1) in
     ((searchable (start h .pre), p .place-of .ensures), ((b .0 .slots-bound, b .1 .0), omega (arith, b .1 .1)))
 
 enum-told : tie.Need-enum-told
@@ -75,7 +75,7 @@ take-key-requires c κs =
     let e = c .before in
     let p = placed (looked e) in
     let h = headed p in
-    let b = in-range (start h .pre) (h .read-header .ensures .0) (h .read-header .ensures .1 .0) in
+    let b = in-range (start h .pre) (h .read-header .ensures .0) (h .read-header .ensures .1 .0) (h .read-header .ensures .1 .1 .1 .1) in
     ((b .0 .slots-bound, b .1 .0), (at-lt (start h .pre) (p .place-of .ensures) refl (here e), b .1 .1))
 
 -- it is taken out

@@ -3,7 +3,7 @@ use mathlib.Core.Path.{_≡_, sym, _∙_, ap}
 use native.Mathlib.Omega.{arith}
 use lib.ListN.{length}
 use lib.Seq.{length-take-le}
-use Rattle.lines.specs.Command.{command-of, command-long}
+use Rattle.lines.specs.Command.{longest, command-of, command-long}
 use Rattle.lines.specs.Buffer.{held, too-many}
 use borrow.Author.Needs.{needs}
 use Rattle.lines.proofs.command_in.Statement.{statement}
@@ -13,12 +13,12 @@ returns : tie.Need-returns
 returns c = λ l h. sym (command-long l (too-many _ l h (c .if1 .taken)))
 
 array-share-prefix-bytes : tie.Need-array-share-prefix-bytes
-array-share-prefix-bytes c = let e : length (c .before .before .args .line .bytes) ≡ 23 = search needs in omega arith
+array-share-prefix-bytes c = let e : length (c .before .before .args .line .bytes) ≡ longest = search needs in omega arith
 
 slice-aggregate-command-of : tie.Need-slice-aggregate-command-of
 slice-aggregate-command-of c =
     let a = c .before .before .before .args in
-    let e : length (a .line .bytes) ≡ 23 = search needs in
+    let e : length (a .line .bytes) ≡ longest = search needs in
     sym (length-take-le (a .line .count) (a .line .bytes) (omega arith))
 
 command-of-requires : tie.Need-command-of-requires

@@ -3,29 +3,30 @@ use mathlib.Core.Path.{_≡_, sym, _∙_, ap}
 use native.Mathlib.Omega.{arith}
 use lib.ListN.{length}
 use lib.Seq.{length-take-le}
-use Rattle.lines.specs.Command.{pair-of, pair-long}
+use Rattle.lines.specs.Command.{longest}
+use Rattle.lines.specs.Sizes.{sizes-of, sizes-long}
 use Rattle.lines.specs.Buffer.{held, too-many}
 use borrow.Author.Needs.{needs}
 use Rattle.lines.proofs.sizes_in.Statement.{statement}
 use Rattle.lines.proofs.sizes_in.Tie as tie
 
 returns : tie.Need-returns
-returns c = λ l h. sym (pair-long l (too-many _ l h (c .if1 .taken)))
+returns c = λ l h. sym (sizes-long l (too-many _ l h (c .if1 .taken)))
 
 array-share-prefix-bytes : tie.Need-array-share-prefix-bytes
-array-share-prefix-bytes c = let e : length (c .before .before .args .line .bytes) ≡ 23 = search needs in omega arith
+array-share-prefix-bytes c = let e : length (c .before .before .args .line .bytes) ≡ longest = search needs in omega arith
 
-slice-aggregate-pair-of : tie.Need-slice-aggregate-pair-of
-slice-aggregate-pair-of c =
+slice-aggregate-sizes-of : tie.Need-slice-aggregate-sizes-of
+slice-aggregate-sizes-of c =
     let a = c .before .before .before .args in
-    let e : length (a .line .bytes) ≡ 23 = search needs in
+    let e : length (a .line .bytes) ≡ longest = search needs in
     sym (length-take-le (a .line .count) (a .line .bytes) (omega arith))
 
-pair-of-requires : tie.Need-pair-of-requires
-pair-of-requires c κs = search needs
+sizes-of-requires : tie.Need-sizes-of-requires
+sizes-of-requires c κs = search needs
 
 returns-2 : tie.Need-returns-2
-returns-2 c = λ l h. c .pair-of .ensures ∙ ap pair-of (held _ l h (c .before .before .before .if1 .left))
+returns-2 c = λ l h. c .sizes-of .ensures ∙ ap sizes-of (held _ l h (c .before .before .before .if1 .left))
 
 pub sizes-in-spec : {M : Type 1} → statement M
 sizes-in-spec =
@@ -33,6 +34,6 @@ sizes-in-spec =
     (tie.spec
     returns
     array-share-prefix-bytes
-    slice-aggregate-pair-of
-    pair-of-requires
+    slice-aggregate-sizes-of
+    sizes-of-requires
     returns-2)

@@ -95,8 +95,8 @@ part-write-keys-end c =
 write-keys-requires : tie.Need-write-keys-requires
 write-keys-requires c κs = search needs
 
-cast-t11 : tie.Need-cast-t11
-cast-t11 c =
+cast-t12 : tie.Need-cast-t12
+cast-t12 c =
     let u = c .before .before .before .before .before .before .before .before in
     let w = walked u in
     let r = start (looked w .before) .pre .readable in
@@ -125,4 +125,4 @@ returns-3 c =
     (m .met .ensures) (e .if2 .left) (k .write-keys .ensures)
 
 pub trace-spec : {M : Type 1} → statement M
-trace-spec = tie.close (tie.spec seat-of-requires key-in-requires fill-requires same-length returns clear-requires walk-requires cut-requires same-length-2 returns-2 met-requires sub-write-keys part-write-keys-start part-write-keys-end write-keys-requires cast-t11 same-length-3 same-length-4 returns-3)
+trace-spec = tie.close (tie.spec seat-of-requires key-in-requires fill-requires same-length returns clear-requires walk-requires cut-requires same-length-2 returns-2 met-requires sub-write-keys part-write-keys-start part-write-keys-end write-keys-requires cast-t12 same-length-3 same-length-4 returns-3)

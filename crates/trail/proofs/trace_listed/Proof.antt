@@ -36,7 +36,7 @@ returns c =
     told-absent _ _ _ _ (sym (stands-listed (s .pre) (i .is-at .ensures)) ∙ not-true _ (c .if1 .taken))
 
 trace-requires : tie.Need-trace-requires
-trace-requires c κs = let h = headed (c .before .before .before) in settable-traceable (start h .pre) (h .read-header .ensures .0)
+trace-requires c κs = let h = headed (c .before .before .before) in settable-traceable (start h .pre) (h .read-header .ensures .0) (h .read-header .ensures .1 .1 .1 .1)
 
 same-length-2 : tie.Need-same-length-2
 same-length-2 c = search needs
