@@ -15,11 +15,11 @@ use libc::STDIN_FILENO;
 use lines::LONGEST;
 use lines::Line;
 use lines::NEWLINE;
-use lines::Pair;
+use lines::Sizes;
 use tabulation::TABULATION_LENGTH;
 
 // The bytes of a book.
-const BOOK_BYTES: usize = 4096;
+const BOOK_BYTES: usize = 5120;
 
 // A byte of standard input.
 enum Byte {
@@ -76,12 +76,12 @@ fn first_line() -> Line {
 }
 
 // The run on words of the right length: they are laid fresh, the lines are answered, and the listing follows.
-fn run(tabulation: &[u16], words: &mut [u32], scratch: &mut [u32], r: u32, s: u32) {
+fn run(tabulation: &[u16], words: &mut [u32], scratch: &mut [u32], r: u32, s: u32, station: u32) {
     let none = Counters {
         done: 0,
         refused: 0,
     };
-    let laid = counted::init(&mut *words, r, s, none);
+    let laid = counted::init(&mut *words, r, s, station, none);
     if laid.answer != 0 {
         printing::print_no_sizes();
         return;
@@ -94,22 +94,29 @@ fn run(tabulation: &[u16], words: &mut [u32], scratch: &mut [u32], r: u32, s: u3
 }
 
 // The run on as many of the words as these sizes need.
-fn run_part(tabulation: &[u16], words: &mut [u32], scratch: &mut [u32], r: u32, s: u32)
+fn run_part(
+    tabulation: &[u16],
+    words: &mut [u32],
+    scratch: &mut [u32],
+    r: u32,
+    s: u32,
+    station: u32,
+)
     requires { ⌜ Sized r s × (words-length r s ≤ length (now words)) ⌝ }
 {
     let end = access::length_for(r, s);
-    run(tabulation, &mut words[..end], scratch, r, s);
+    run(tabulation, &mut words[..end], scratch, r, s, station);
 }
 
-// Words and scratch for the largest sizes.
-fn run_sized(tabulation: &[u16; TABULATION_LENGTH], r: u32, s: u32) {
+// Words and scratch for the largest sizes. Whether there is such a station is left to init.
+fn run_sized(tabulation: &[u16; TABULATION_LENGTH], r: u32, s: u32, station: u32) {
     if !access::are_sizes(r, s) {
         printing::print_no_sizes();
         return;
     }
     let mut words = [0u32; MAX_WORDS];
     let mut scratch = [0u32; MAX_SCRATCH];
-    run_part(tabulation, &mut words, &mut scratch, r, s);
+    run_part(tabulation, &mut words, &mut scratch, r, s, station);
 }
 
 fn main() {
@@ -121,9 +128,9 @@ fn main() {
     let mut tabulation = [0u16; TABULATION_LENGTH];
     decode(&bytes, &mut tabulation);
     let sizes = lines::sizes_in(first_line());
-    let Pair::Given(r, s) = sizes else {
+    let Sizes::Given(r, s, station) = sizes else {
         printing::print_no_sizes();
         return;
     };
-    run_sized(&tabulation, r, s);
+    run_sized(&tabulation, r, s, station);
 }

@@ -28,11 +28,11 @@ pub fn update(
 }
 
 // Init.
-pub fn init(words: &mut [u32], r: u32, s: u32, counters: Counters) -> Counted
-    ensures answered { λ c. ⌜ c .answer ≡ fresh-refusal (length (now (words .entry))) r s ⌝ }
-    ensures laid { λ c. ⌜ now (words .exit) ≡ fresh-words (now (words .entry)) r s ⌝ }
+pub fn init(words: &mut [u32], r: u32, s: u32, station: u32, counters: Counters) -> Counted
+    ensures answered { λ c. ⌜ c .answer ≡ fresh-refusal (length (now (words .entry))) r s station ⌝ }
+    ensures laid { λ c. ⌜ now (words .exit) ≡ fresh-words (now (words .entry)) r s station ⌝ }
     ensures moved { λ c. ⌜ c .counters ≡ counted counters (c .answer) ⌝ }
 {
-    let answer = access::fresh(words, r, s);
+    let answer = access::fresh(words, r, s, station);
     with_counts(answer, counters)
 }

@@ -1,5 +1,5 @@
 -- What the exported call for the house tabulation answers and leaves: 1 for a lent tabulation of another length, which stays; otherwise the list that the house
--- rule gives, entry i for i from 0 to 2,047 (crates/house/specs/Rule.antt).
+-- rule gives, entry i for i from 0 to 2,559 (crates/house/specs/Rule.antt).
 use Prim.Native.Nat.{ℕ}
 use mathlib.Core.Path.{_≡_, ap}
 use mathlib.Core.Bool.{Bool, not, cond}

@@ -76,13 +76,19 @@ pub extern "C" fn pinorange_stash(words: &[u32], offset: &mut u32, length: &mut 
 // Lays fresh words, and moves the counters on. They are lent by reference and moved on in place; the covered call takes
 // them by value and gives them back.
 #[no_mangle]
-pub extern "C" fn pinorange_init(words: &mut [u32], r: u32, s: u32, counters: &mut Counters) -> u32
-    ensures answered { λ n. ⌜ n ≡ fresh-refusal (length (now (words .entry))) r s ⌝ }
-    ensures laid { λ n. ⌜ now (words .exit) ≡ fresh-words (now (words .entry)) r s ⌝ }
+pub extern "C" fn pinorange_init(
+    words: &mut [u32],
+    r: u32,
+    s: u32,
+    station: u32,
+    counters: &mut Counters,
+) -> u32
+    ensures answered { λ n. ⌜ n ≡ fresh-refusal (length (now (words .entry))) r s station ⌝ }
+    ensures laid { λ n. ⌜ now (words .exit) ≡ fresh-words (now (words .entry)) r s station ⌝ }
     ensures moved { λ n. ⌜ now (counters .exit) ≡ counted (now (counters .entry)) n ⌝ }
 {
     let old = *counters;
-    let new = counted::init(words, r, s, old);
+    let new = counted::init(words, r, s, station, old);
     *counters = new.counters;
     new.answer
 }
@@ -207,7 +213,7 @@ pub extern "C" fn pinorange_house(tabulation: &mut [u16]) -> u32
     }
     let table = house::house_tabulation();
     let mut i = 0;
-    while i < 2048 {
+    while i < TABULATION_LENGTH {
         tabulation[i] = table[i];
         i += 1;
     }
@@ -219,15 +225,16 @@ pub extern "C" fn pinorange_house(tabulation: &mut [u16]) -> u32
 pub extern "C" fn pinorange_hashes(
     tabulation: &[u16],
     r: u32,
+    station: u32,
     key: u32,
     first: &mut u32,
     second: &mut u32,
 ) -> u32
-    ensures numbered { λ n. ⌜ n ≡ hashes-refusal (tables (now (tabulation .entry)) r) key ⌝ }
+    ensures numbered { λ n. ⌜ n ≡ hashes-refusal (tables (now (tabulation .entry)) r station) key ⌝ }
     ensures first_hash { λ n. ⌜ now (first .exit)
-        ≡ written (tables (now (tabulation .entry)) r) key 0 (now (first .entry)) ⌝ }
+        ≡ written (tables (now (tabulation .entry)) r station) key 0 (now (first .entry)) ⌝ }
     ensures second_hash { λ n. ⌜ now (second .exit)
-        ≡ written (tables (now (tabulation .entry)) r) key 1 (now (second .entry)) ⌝ }
+        ≡ written (tables (now (tabulation .entry)) r station) key 1 (now (second .entry)) ⌝ }
 {
-    tabulation::pinorange_hashes(tabulation, r, key, first, second)
+    tabulation::pinorange_hashes(tabulation, r, station, key, first, second)
 }

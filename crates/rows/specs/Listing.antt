@@ -10,10 +10,11 @@ use lib.ListN.{replicate}
 use Rattle.lines.specs.Decimal.{digits, decimal}
 use Rattle.lines.specs.Number.{all-digits, no-leading-zero, value, number-of}
 use Rattle.lines.specs.Parted.{parted, but-empty-last, lines-of}
-use Rattle.lines.specs.Command.{pair-of, command-of}
+use Rattle.lines.specs.Command.{command-of}
+use Rattle.lines.specs.Sizes.{sizes-of}
 use Rattle.rows.specs.Row.{insert-row, remove-row, lookup-row, error-row, slot-row, stash-row, book-row}
 use Rattle.lines.specs.declared.Number.the-variants.{Value, Other as no-number}
-use Rattle.lines.specs.declared.Pair.the-variants.{Given, Other as no-pair}
+use Rattle.lines.specs.declared.Sizes.the-variants.{Given, Other as other-sizes}
 use Rattle.lines.specs.declared.Command.the-variants.{Insert, Remove, Lookup, Other as no-command}
 use Rattle.rows.specs.declared.Looked.the-variants.{Listed, Absent, Refused}
 
@@ -22,14 +23,14 @@ abbrev bytes : String → List ℕ
 bytes end = []
 bytes (c then s) = code c ∷ bytes s
 
--- "input 2,1 / A,65 / A,1 / A,33 / A,97 / L,65 (one a line)", with a tier behind each card that is added
-pub listing-lines : lines-of (bytes "2,1\nA,65,0\nA,1,0\nA,33,0\nA,97,0\nL,65\n")
-    ≡ bytes "2,1" ∷ bytes "A,65,0" ∷ bytes "A,1,0" ∷ bytes "A,33,0" ∷ bytes "A,97,0" ∷ bytes "L,65" ∷ []
+-- "input 2,1 / A,65 / A,1 / A,33 / A,97 / L,65 (one a line)", with station 0 behind the sizes and a tier behind each card that is added
+pub listing-lines : lines-of (bytes "2,1,0\nA,65,0\nA,1,0\nA,33,0\nA,97,0\nL,65\n")
+    ≡ bytes "2,1,0" ∷ bytes "A,65,0" ∷ bytes "A,1,0" ∷ bytes "A,33,0" ∷ bytes "A,97,0" ∷ bytes "L,65" ∷ []
 unfolding lines-of but-empty-last parted
 listing-lines = refl
 
-pub listing-sizes : pair-of (bytes "2,1") ≡ Given 2 1
-unfolding pair-of parted number-of no-leading-zero all-digits value
+pub listing-sizes : sizes-of (bytes "2,1,0") ≡ Given 2 1 0
+unfolding sizes-of parted number-of no-leading-zero all-digits value
 listing-sizes = refl
 
 pub listing-commands : map command-of (bytes "A,65,0" ∷ bytes "A,1,0" ∷ bytes "A,33,0" ∷ bytes "A,97,0" ∷ bytes "L,65" ∷ [])
@@ -114,9 +115,9 @@ unfolding command-of parted number-of no-leading-zero all-digits value
 no-tiers = refl
 
 pub no-sizes :
-    map pair-of
-    (bytes "" ∷ bytes "2" ∷ bytes "2,1\r" ∷ bytes "2, 1" ∷ bytes "2,1," ∷ bytes "2,1,1" ∷ bytes ",2,1" ∷ bytes "02,1" ∷ bytes "2,01"
-    ∷ bytes "4294967296,1" ∷ bytes "2," ∷ bytes ",1" ∷ bytes "A,65" ∷ [])
-    ≡ replicate 13 no-pair
-unfolding pair-of parted number-of no-leading-zero all-digits value
+    map sizes-of
+    (bytes "" ∷ bytes "2" ∷ bytes "2,1" ∷ bytes "2,1,0\r" ∷ bytes "2, 1,0" ∷ bytes "2,1," ∷ bytes "2,1,0," ∷ bytes "2,1,0,0" ∷ bytes ",2,1" ∷ bytes "02,1,0"
+    ∷ bytes "2,01,0" ∷ bytes "2,1,00" ∷ bytes "4294967296,1,0" ∷ bytes "2,1,4294967296" ∷ bytes "2,,0" ∷ bytes "A,65,0" ∷ [])
+    ≡ replicate 16 other-sizes
+unfolding sizes-of parted number-of no-leading-zero all-digits value
 no-sizes = refl

@@ -12,10 +12,10 @@ use Rattle.pinorange.proofs.pinorange_house.Statement.{statement}
 use Rattle.pinorange.proofs.pinorange_house.Tie as tie
 
 abbrev Inv-loop : tie.InvT-loop
-Inv-loop tabulation₀ table i₀ tabulation i = (i ≤ 2048) × (length tabulation ≡ 2048) × (length table ≡ 2048) × (take i tabulation ≡ take i table)
+Inv-loop tabulation₀ table i₀ tabulation i = (i ≤ 2560) × (length tabulation ≡ 2560) × (length table ≡ 2560) × (take i tabulation ≡ take i table)
 
 abbrev μ-loop : tie.MeasureT-loop
-μ-loop tabulation₀ table i₀ tabulation i = 2048 - i
+μ-loop tabulation₀ table i₀ tabulation i = 2560 - i
 
 returns : tie.Need-returns Inv-loop μ-loop
 returns c = let e = house-refused _ (c .if1 .taken) in (sym (e .0), sym (e .1))
@@ -65,9 +65,9 @@ returns-2 c =
     let h = c .before .before in
     let d = h .before in
     let t = h .house-tabulation .result in
-    let i : l .i ≡ 2048 = omega arith in
+    let i : l .i ≡ 2560 = omega arith in
     let e : l .tabulation ≡ t =
-    sym (take-all 2048 (l .tabulation) (omega arith)) ∙ (rw i at (l .inv .3)) ∙ take-all 2048 t (omega arith) in
+    sym (take-all 2560 (l .tabulation) (omega arith)) ∙ (rw i at (l .inv .3)) ∙ take-all 2560 t (omega arith) in
     let f = house-accepted _ (d .if1 .left) in
     (sym (f .0), e ∙ house-is t (h .house-tabulation .ensures) ∙ sym (f .1))
 

@@ -65,7 +65,7 @@ stayed = (
     stay-dropped (plain (λ _. u32)) yes,
     (
       stay-dropped (plain (λ _. u32)) yes,
-      (stay-ref (1 ∷ []) tt (plain (λ _. T.the-row)), tt),
+      (stay-dropped (plain (λ _. u32)) yes, (stay-ref (1 ∷ []) tt (plain (λ _. T.the-row)), tt)),
     ),
   ),
 )
@@ -76,25 +76,25 @@ Callee 𝓤 H A at-mem run = tripleOf 𝓤 H A callee.signature (callee.spec �
 
 module _ {M : Type 1} (𝓤 : URA M) (H : Heap 𝓤) (A : Atoms 𝓤) (W : Given 𝓤 H A) (at-mem : Memory → SProp 𝓤) (run : Routine → Fun 𝓤)
     (κ₀ κ₁ : Lft) (bounds : AllOutlive 2 (self.signature .outlives) (κ₀, (κ₁, tt))) (q₀ q₁ : Share)
-    (ws : RefT (List ℕ)) (r s : ℕ) (m : RefT Counters) (r-fits : r < 2 ^ 32) (s-fits : s < 2 ^ 32) where
+    (ws : RefT (List ℕ)) (r s t : ℕ) (m : RefT Counters) (r-fits : r < 2 ^ 32) (s-fits : s < 2 ^ 32) (t-fits : t < 2 ^ 32) where
   abbrev Arg : Type 0
-  Arg = RefT (List ℕ) × (ℕ × (ℕ × (RefT Counters × Unit {0})))
+  Arg = RefT (List ℕ) × (ℕ × (ℕ × (ℕ × (RefT Counters × Unit {0}))))
 
   abbrev a : Arg
-  a = (ws, (r, (s, (m, tt))))
+  a = (ws, (r, (s, (t, (m, tt)))))
 
-  abbrev vals : List Val × (List Val × (List Val × (List Val × Unit {0})))
-  vals = (slice-val ws ∷ [], (vint w32 r ∷ [], (vint w32 s ∷ [], (ref-val m ∷ [], tt))))
+  abbrev vals : List Val × (List Val × (List Val × (List Val × (List Val × Unit {0}))))
+  vals = (slice-val ws ∷ [], (vint w32 r ∷ [], (vint w32 s ∷ [], (vint w32 t ∷ [], (ref-val m ∷ [], tt)))))
 
   abbrev Post : Val → SProp 𝓤
   Post = walkOf 𝓤 H A self.ended stayed (self.clauses 𝓤 H A at-mem run) .post (((κ₀, (κ₁, tt)), (q₀, (q₁, tt)), bounds, a, vals), tt)
 
   -- what the call answers and leaves
   abbrev answer : ℕ
-  answer = fresh-refusal (length (ws .now)) r s
+  answer = fresh-refusal (length (ws .now)) r s t
 
   abbrev laid : List ℕ
-  laid = fresh-words (ws .now) r s
+  laid = fresh-words (ws .now) r s t
 
   -- what is had at the end: the borrow at the counters given back, the tokens, and what says the last words
   abbrev Had : Counted → List ℕ → List (Item 𝓤)
@@ -105,94 +105,99 @@ module _ {M : Type 1} (𝓤 : URA M) (H : Heap 𝓤) (A : Atoms 𝓤) (W : Given
   exits c us fits e₀ e₁ e₂ long =
       qed W (Had c us) ∵
       suffices ! _ (ends-at 𝓤 H A self.ended stayed (self.clauses 𝓤 H A at-mem run) W (((κ₀, (κ₁, tt)), (q₀, (q₁, tt)), bounds, a, vals), tt)
-      (vint w32 (c .answer)) (c .answer) (us, (tt, (tt, (c .counters, tt)))) (long, (tt, (tt, (tt, tt))))) $
+      (vint w32 (c .answer)) (c .answer) (us, (tt, (tt, (tt, (c .counters, tt))))) (long, (tt, (tt, (tt, (tt, tt)))))) $
       says ! _ (with-fact 𝓤 _ e₀ (with-fact 𝓤 _ e₁ (shown 𝓤 _ e₂))) $
       move ! (3 ∷ []) $ split ! $ move ! (4 ∷ 1 ∷ []) $ join ! $ move ! (1 ∷ 0 ∷ []) $ join ! $ frame ! $
-      feqI ! (List Val) (ref-val m ∷ []) (ref-val m ∷ []) refl $ fjoin3 ! $ nothing ! $ move ! (1 ∷ 0 ∷ []) $ fjoin ! $ nothing ! $ fjoin ! $ nothing ! $ fjoin ! $
+      feqI ! (List Val) (ref-val m ∷ []) (ref-val m ∷ []) refl $ fjoin3 ! $ nothing ! $ move ! (1 ∷ 0 ∷ []) $ fjoin ! $ nothing ! $ fjoin ! $ nothing ! $ fjoin ! $ nothing ! $ fjoin ! $
       move ! (1 ∷ 0 ∷ []) $ fjoin ! $ owned ! u32 (Is u32) (uint-makes 𝓤 H A W w32) (c .answer) _ (refl, fits) $ move ! (1 ∷ 0 ∷ []) $ done !
 
   -- what the callee's triple binds outside, and how it is entered
   abbrev Passed : Type 0
-  Passed = RefT (List ℕ) × (ℕ × (ℕ × (Counters × Unit {0})))
+  Passed = RefT (List ℕ) × (ℕ × (ℕ × (ℕ × (Counters × Unit {0}))))
 
   abbrev passed : Passed
-  passed = (ws, (r, (s, (m .now, tt))))
+  passed = (ws, (r, (s, (t, (m .now, tt)))))
 
   abbrev to-callee : Callee 𝓤 H A at-mem run .Ghost
-  to-callee = (((κ₀, tt), (q₀, tt), tt, passed, (slice-val ws ∷ [], (vint w32 r ∷ [], (vint w32 s ∷ [], (counters-val (m .now) ∷ [], tt))))), tt)
+  to-callee = (((κ₀, tt), (q₀, tt), tt, passed, (slice-val ws ∷ [], (vint w32 r ∷ [], (vint w32 s ∷ [], (vint w32 t ∷ [], (counters-val (m .now) ∷ [], tt)))))), tt)
 
   abbrev Handed : List (Item 𝓤)
   Handed = ‵ (flft κ₀ q₀) ∷ ‵ (MutSlice (named 0) κ₀ u32 .own ws (slice-val ws ∷ [])) ∷ ‵ (T.the-row .own (m .now) (counters-val (m .now) ∷ [])) ∷ []
 
   goes-callee : ent 𝓤 (⋆ 𝓤 H A Handed) (Callee 𝓤 H A at-mem run .pre to-callee)
   goes-callee =
-      qed W Handed ∵ nothing ! $ move ! (3 ∷ 0 ∷ []) $ fjoin ! $ owned ! u32 (Is u32) (uint-makes 𝓤 H A W w32) s _ (refl, s-fits) $ fjoin ! $
+      qed W Handed ∵ nothing ! $ move ! (3 ∷ 0 ∷ []) $ fjoin ! $ owned ! u32 (Is u32) (uint-makes 𝓤 H A W w32) t _ (refl, t-fits) $ fjoin ! $
+      owned ! u32 (Is u32) (uint-makes 𝓤 H A W w32) s _ (refl, s-fits) $ fjoin ! $
       owned ! u32 (Is u32) (uint-makes 𝓤 H A W w32) r _ (refl, r-fits) $ fjoin ! $ move ! (2 ∷ 0 ∷ []) $ fjoin ! $
       nothing ! $ move ! (2 ∷ 0 ∷ []) $ join ! $ join ! $ frame ! $ done !
 
   module _ (C : Calls 𝓤 H) (Λ : Loops 𝓤 H) (fm : FmC 𝓤 H (W .laws) C) (known : Triple 𝓤 (C #callee) (Callee 𝓤 H A at-mem run)) where
     walk : Room u32 (length (ws .now)) → ent 𝓤 (onEntry 𝓤 H A self.signature (κ₀, (κ₁, tt)) (q₀, (q₁, tt)) a vals)
-        (WpFn 𝓤 H C Λ code.function (slice-val ws ∷ vint w32 r ∷ vint w32 s ∷ ref-val m ∷ []) Post)
+        (WpFn 𝓤 H C Λ code.function (slice-val ws ∷ vint w32 r ∷ vint w32 s ∷ vint w32 t ∷ ref-val m ∷ []) Post)
     walk room =
-        qed W ((‵ (flft κ₀ q₀) ⊛ ‵ (flft κ₁ q₁) ⊛ ‵ ftrue) ∷ ‵ (owns (MutSlice (named 0) κ₀ u32 ∷ u32 ∷ u32 ∷ MutRef (named 1) κ₁ T.the-row ∷ []) a vals) ∷ []) ∵
-        enter ! C Λ code.function (slice-val ws ∷ vint w32 r ∷ vint w32 s ∷ ref-val m ∷ []) _ $
-        alloc1 ! (λ l0. alloc1 ! (λ l1. alloc1 ! (λ l2. alloc1 ! (λ l3. alloc1 ! (λ l4. alloc1 ! (λ l5. alloc1 ! (λ l6. alloc1 ! (λ l7. alloc1 ! (λ l8.
-        alloc0 ! $ params1 ! $ pass1 ! (init ! 14 refl (tt, (tt, (record { fits = room .0 }, tt)))) $ pass1 ! (init ! 12 refl (tt, record { fits = r-fits })) $
-        pass1 ! (init ! 10 refl (tt, record { fits = s-fits })) $ pass1 ! (init ! 8 refl (tt, tt)) $ pass0 ! $
-        -- [_8; …; down to room for _0; …; the tokens; what the parameters own]
-        move ! (19 ∷ []) $ fsplit ! $ move ! (1 ∷ []) $ fsplit ! $ drop ! $ fsplit ! $ drop ! $ fsplit ! $ fsplit3 ! $ drop ! $
-        move ! (22 ∷ []) $ split ! $ move ! (1 ∷ []) $ split ! $
-        -- [the counters' token; true; the words' token; the seen counters; the borrow; true; what words own; _8; …]
+        qed W ((‵ (flft κ₀ q₀) ⊛ ‵ (flft κ₁ q₁) ⊛ ‵ ftrue) ∷ ‵ (owns (MutSlice (named 0) κ₀ u32 ∷ u32 ∷ u32 ∷ u32 ∷ MutRef (named 1) κ₁ T.the-row ∷ []) a vals) ∷ []) ∵
+        enter ! C Λ code.function (slice-val ws ∷ vint w32 r ∷ vint w32 s ∷ vint w32 t ∷ ref-val m ∷ []) _ $
+        alloc1 ! (λ l0. alloc1 ! (λ l1. alloc1 ! (λ l2. alloc1 ! (λ l3. alloc1 ! (λ l4. alloc1 ! (λ l5. alloc1 ! (λ l6. alloc1 ! (λ l7. alloc1 ! (λ l8. alloc1 ! (λ l9.
+        alloc0 ! $ params1 ! $ pass1 ! (init ! 16 refl (tt, (tt, (record { fits = room .0 }, tt)))) $ pass1 ! (init ! 14 refl (tt, record { fits = r-fits })) $
+        pass1 ! (init ! 12 refl (tt, record { fits = s-fits })) $ pass1 ! (init ! 10 refl (tt, record { fits = t-fits })) $
+        pass1 ! (init ! 8 refl (tt, tt)) $ pass0 ! $
+        -- [_9; …; down to room for _0; …; the tokens; what the parameters own]
+        move ! (21 ∷ []) $ fsplit ! $ move ! (1 ∷ []) $ fsplit ! $ drop ! $ fsplit ! $ drop ! $ fsplit ! $ drop ! $ fsplit ! $ fsplit3 ! $ drop ! $
+        move ! (24 ∷ []) $ split ! $ move ! (1 ∷ []) $ split ! $
+        -- [the counters' token; true; the words' token; the seen counters; the borrow; true; what words own; _9; …]
         move ! (3 ∷ 4 ∷ 0 ∷ []) $ opens-struct T.the-type T′.the-laws ! tt m (λ is.
-        -- [the stored counters; what they own; the open borrow; obs; auth; true; the words' token; true; what words own; _8; …]
+        -- [the stored counters; what they own; the open borrow; obs; auth; true; the words' token; true; what words own; _9; …]
         assigns ! (of-opd ! (load ! (from ! (hop ! (look ! 17 refl) (stop !))) (look-raw ! 0 refl))) (from ! (stop !))
         (init ! 15 refl (LL.lawful T.the-type T′.the-laws 𝓤 H A W .typed (m .now) _ is .0)) $
-        assigns ! (addr ! (from ! (fld ! refl (hop ! (look-in ! 23 (sub ! 0 refl (whole !))) (stop !))))) (from ! (stop !)) (init ! 11 refl (tt, tt)) $
+        assigns ! (addr ! (from ! (fld ! refl (hop ! (look-in ! 25 (sub ! 0 refl (whole !))) (stop !))))) (from ! (stop !)) (init ! 11 refl (tt, tt)) $
         assigns ! (agg ! (and-then ! (load ! (from ! (stop !)) (look ! 11 refl))
-        (and-then ! (load ! (from ! (fld ! refl (stop !))) (look-in ! 23 (sub ! 1 refl (whole !)))) (no-more !)))) (from ! (stop !))
+        (and-then ! (load ! (from ! (fld ! refl (stop !))) (look-in ! 25 (sub ! 1 refl (whole !)))) (no-more !)))) (from ! (stop !))
         (init ! 9 refl (tt, (tt, (record { fits = room .0 }, tt)))) $
         move ! (6 ∷ 8 ∷ 1 ∷ []) $ use3 W (raw (Callee 𝓤 H A at-mem run .pre to-callee)) goes-callee $
-        -- [the callee's pre; the stored counters; the open borrow; obs; auth; true; true; _8; …]
+        -- [the callee's pre; the stored counters; the open borrow; obs; auth; true; true; _9; …]
         calls-at ! fm (Callee 𝓤 H A at-mem run) known to-callee (and-then ! (load ! (from ! (stop !)) (look ! 7 refl))
-        (and-then ! (load ! (from ! (stop !)) (look ! 19 refl)) (and-then ! (load ! (from ! (stop !)) (look ! 17 refl))
-        (and-then ! (load ! (from ! (stop !)) (look ! 13 refl)) (no-more !))))) (λ w.
+        (and-then ! (load ! (from ! (stop !)) (look ! 21 refl)) (and-then ! (load ! (from ! (stop !)) (look ! 19 refl))
+        (and-then ! (load ! (from ! (stop !)) (look ! 17 refl)) (and-then ! (load ! (from ! (stop !)) (look ! 13 refl)) (no-more !)))))) (λ w.
         use1 W (later (some (λ (c : Counted). ((‵ (flft κ₀ q₀) ⊛ ‵ ftrue) ⊛ ‵ (R.the-row .own c (w ∷ [])))
         ⊛ raw (ensured 𝓤 H A callee.ended (callee.clauses 𝓤 H A at-mem run) (κ₀, tt) passed tt c)))) (id⊢ 𝓤 _) $ await ! tt $ pick ! (λ c.
-        split ! $ move ! (1 ∷ []) $ use1 W (some (λ (zs : List ℕ × (Unit {0} × (Unit {0} × (Unit {0} × Unit {0})))). ‵ (lasts callee.ended (κ₀, tt) passed zs)
+        split ! $ move ! (1 ∷ []) $ use1 W (some (λ (zs : List ℕ × (Unit {0} × (Unit {0} × (Unit {0} × (Unit {0} × Unit {0}))))). ‵ (lasts callee.ended (κ₀, tt) passed zs)
         ⊛ raw (fact 𝓤 (c .answer ≡ answer)) ⊛ raw (fact 𝓤 (zs .0 ≡ laid)) ⊛ raw (fact 𝓤 (c .counters ≡ counted (m .now) (c .answer))))) (id⊢ 𝓤 _) $ pick ! (λ zs.
         split ! $ move ! (1 ∷ []) $ split ! $ heard ! (c .answer ≡ answer) (λ e₀. split ! $ heard ! (zs .0 ≡ laid) (λ e₁.
         heard ! (c .counters ≡ counted (m .now) (c .answer)) (λ e₂. fsplit ! $ fsplit ! $ move ! (1 ∷ []) $ feqL ! (λ long.
         move ! (2 ∷ []) $ split ! $ move ! (1 ∷ []) $ peeks ! R.the-row (Is R.the-row) (shows 𝓤 H A R.the-row) c (w ∷ []) (λ is′.
-        -- [what the result owns; the words' token; the last words; …; the stored counters; the open borrow; obs; auth; true; true; _8; …]
+        -- [what the result owns; the words' token; the last words; …; the stored counters; the open borrow; obs; auth; true; true; _9; …]
         land ! (from ! (stop !)) (init ! 14 refl (LL.lawful R.the-type R′.the-laws 𝓤 H A W .typed c _ is′ .0)) $
-        rewrite ! 14 (λ (u : Val). ‵ (fat fullShare R′.mir l6 0 u)) (spelled c w is′) refl $
+        rewrite ! 14 (λ (u : Val). ‵ (fat fullShare R′.mir l7 0 u)) (spelled c w is′) refl $
         assigns ! (of-opd ! (load ! (from ! (fld ! refl (stop !))) (look-in ! 14 (sub ! 1 refl (whole !))))) (from ! (hop ! (look ! 18 refl) (stop !)))
         (store-raw ! 4 refl (LL.lawful T.the-type T′.the-laws 𝓤 H A W .typed (c .counters) _ (counters-of c w is′) .0)) $
         assigns ! (of-opd ! (load ! (from ! (fld ! refl (stop !))) (look-in ! 14 (sub ! 0 refl (whole !))))) (from ! (stop !))
-        (init ! 26 refl (tt, record { fits = answer-fits c w is′ })) $
+        (init ! 28 refl (tt, record { fits = answer-fits c w is′ })) $
         move ! (4 ∷ 5 ∷ 6 ∷ 7 ∷ []) $ closes-struct T.the-type T′.the-laws T′.the-plain ! tt m (c .counters) (counters-of c w is′) $ move ! (3 ∷ []) $ drop ! $
-        -- [the seen counters; the borrow; the counters' token; the words' token; the last words; …; true; true; _8; …]
-        returns ! (look ! 24 refl) $ forget ! 8 refl $ forget ! 10 refl $ forget ! 12 refl $ forget ! 14 refl $ forget ! 16 refl $ forget ! 18 refl $
-        forget ! 20 refl $ forget ! 22 refl $ forget ! 24 refl $ move ! (24 ∷ 25 ∷ []) $ free1 ! $ move ! (22 ∷ 23 ∷ []) $ free1 ! $
-        move ! (20 ∷ 21 ∷ []) $ free1 ! $ move ! (18 ∷ 19 ∷ []) $ free1 ! $ move ! (16 ∷ 17 ∷ []) $ free1 ! $ move ! (14 ∷ 15 ∷ []) $ free1 ! $
-        move ! (12 ∷ 13 ∷ []) $ free1 ! $ move ! (10 ∷ 11 ∷ []) $ free1 ! $ move ! (8 ∷ 9 ∷ []) $ free1 ! $ free0 ! $
-        keep ! (0 ∷ 1 ∷ 2 ∷ 3 ∷ 4 ∷ []) $ by ! (exits c (zs .0) (answer-fits c w is′) e₀ e₁ e₂ long)))))))))))))))))))
+        -- [the seen counters; the borrow; the counters' token; the words' token; the last words; …; true; true; _9; …]
+        returns ! (look ! 26 refl) $ forget ! 8 refl $ forget ! 10 refl $ forget ! 12 refl $ forget ! 14 refl $ forget ! 16 refl $ forget ! 18 refl $ forget ! 20 refl $ forget ! 22 refl $ forget ! 24 refl $ forget ! 26 refl $
+        move ! (26 ∷ 27 ∷ []) $ free1 ! $ move ! (24 ∷ 25 ∷ []) $ free1 ! $ move ! (22 ∷ 23 ∷ []) $ free1 ! $ move ! (20 ∷ 21 ∷ []) $ free1 ! $
+        move ! (18 ∷ 19 ∷ []) $ free1 ! $ move ! (16 ∷ 17 ∷ []) $ free1 ! $ move ! (14 ∷ 15 ∷ []) $ free1 ! $ move ! (12 ∷ 13 ∷ []) $ free1 ! $
+        move ! (10 ∷ 11 ∷ []) $ free1 ! $ move ! (8 ∷ 9 ∷ []) $ free1 ! $ free0 ! $
+        keep ! (0 ∷ 1 ∷ 2 ∷ 3 ∷ 4 ∷ []) $ by ! (exits c (zs .0) (answer-fits c w is′) e₀ e₁ e₂ long))))))))))))))))))))
 
 module _ {M : Type 1} (𝓤 : URA M) (H : Heap 𝓤) (A : Atoms 𝓤) (W : Given 𝓤 H A) (at-mem : Memory → SProp 𝓤) (run : Routine → Fun 𝓤) where
   walks : (C : Calls 𝓤 H) (Λ : Loops 𝓤 H) → FmC 𝓤 H (W .laws) C → Triple 𝓤 (C #callee) (Callee 𝓤 H A at-mem run)
       → Walks 𝓤 H A self.ended stayed (WpFn 𝓤 H C Λ code.function) (self.clauses 𝓤 H A at-mem run)
   walks C Λ fm known = walked 𝓤 H A self.ended stayed (self.clauses 𝓤 H A at-mem run) (WpFn 𝓤 H C Λ code.function)
-      (λ κs. (slice-vals, (uint-vals w32, (uint-vals w32, (ptr-vals, tt)))))
-      (λ κs. (mut-slice-tells (named 0) (κs .0) u32, (uint-tells w32, (uint-tells w32, (mut-tells (named 1) (κs .1 .0) T.the-row, tt)))))
+      (λ κs. (slice-vals, (uint-vals w32, (uint-vals w32, (uint-vals w32, (ptr-vals, tt))))))
+      (λ κs. (mut-slice-tells (named 0) (κs .0) u32, (uint-tells w32, (uint-tells w32, (uint-tells w32, (mut-tells (named 1) (κs .1 .0) T.the-row, tt))))))
       (λ κs qs bounds a g are. via 𝓤 _ (fst∗ 𝓤 _ (emp 𝓤)) (walk 𝓤 H A W at-mem run (κs .0) (κs .1 .0) bounds (qs .0) (qs .1 .0)
-      (a .0) (a .1 .0) (a .1 .1 .0) (a .1 .1 .1 .0) (are .1 .0 .1) (are .1 .1 .0 .1) C Λ fm known (are .0 .0 .1)))
+      (a .0) (a .1 .0) (a .1 .1 .0) (a .1 .1 .1 .0) (a .1 .1 .1 .1 .0) (are .1 .0 .1) (are .1 .1 .0 .1) (are .1 .1 .1 .0 .1) C Λ fm known (are .0 .0 .1)))
 
   goes : AllGo 𝓤 H A W 2 (self.signature .params) (self.ended .kept) stayed
   goes = (
     goes-gave-slice 𝓤 H A W 2 0 tt (plain (λ _. u32)),
     (
       goes-dropped 𝓤 H A W 2 (plain (λ _. u32)) yes (λ κs x f. refl),
-      (goes-dropped 𝓤 H A W 2 (plain (λ _. u32)) yes (λ κs x f. refl), (goes-ref 𝓤 H A W 2 1 tt (plain (λ _. T.the-row)), tt)),
+      (
+        goes-dropped 𝓤 H A W 2 (plain (λ _. u32)) yes (λ κs x f. refl),
+        (goes-dropped 𝓤 H A W 2 (plain (λ _. u32)) yes (λ κs x f. refl), (goes-ref 𝓤 H A W 2 1 tt (plain (λ _. T.the-row)), tt)),
+      ),
     ),
   )
 

@@ -42,7 +42,7 @@ abbrev read : tie.After-wide → tie.After-read-header
 read w = w .before .before
 
 filled : (w : tie.After-wide) → w .wide .result ≡ stash-count (read w .before .before .before .before .args .words .now)
-filled w = w .wide .ensures ∙ read w .read-header .ensures .1 .1 .1
+filled w = w .wide .ensures ∙ read w .read-header .ensures .1 .1 .1 .0
 
 mul-length : tie.Need-mul-length
 mul-length c = omega (arith, filled c, viewed _ (accepted (read c .before)))
