@@ -7,6 +7,10 @@
  * The tier of a key is a number from 0 to PINORANGE_MAX_TIER: the price tier of a card. It is given when the key is inserted and stands beside it in the
  * words. It has no part in where a key sits: two sets of the same keys with other tiers differ in the tier words alone.
  *
+ * The station number, 0 to PINORANGE_MAX_STATION, is given when a dictionary is laid and stands in its words (word 4). It has a part in where every key sits, so
+ * that a fleet which crowds the slots at one station does not at the next. Every other call takes it from the words. Two dictionaries of one set, with one
+ * tabulation, r, s and station, have the same words; those of two stations never do.
+ *
  * What the caller sees to: no pointer is null (a length of 0 needs one, too), pointers are aligned, and no two lent pieces of memory overlap. One
  * tabulation goes with a dictionary; under another its words are, in general, the image of no set (4). No call keeps state of its own. The promises hold when
  * a call returns: let nothing else touch the same words or scratch meanwhile. After a reset in the middle of a call, zero the scratch, and check.
@@ -21,8 +25,8 @@ extern "C" {
 #endif
 
 /* The other numbers that a call answers. A call tries those that it can give in the order 1, 2, 3, 4, 5, 9, 10, 6, 7, 11, 12, 8; only the opening of a sale
- * tries 4 behind 7. Of a call on words, PINORANGE_WRONG_SHAPE (2) says: there are fewer than 4 words, word 0 (r) is not 1 to 1,024, word 1 (s) is above 64, or
- * there are not PINORANGE_WORDS(r, s). */
+ * tries 4 behind 7. Of a call on words, PINORANGE_WRONG_SHAPE (2) says: there are fewer than 5 words, word 0 (r) is not 1 to 1,024, word 1 (s) is above 64, word 4
+ * (the station) is above 255, or there are not PINORANGE_WORDS(r, s). */
 #define PINORANGE_SHORT_SCRATCH 3u /* the scratch is shorter than PINORANGE_SCRATCH(r, s) */
 #define PINORANGE_NOT_CANONICAL 4u /* under the lent tabulation the words are the canonical image of no set; of a sale: the tier found is above 7 */
 #define PINORANGE_WRONG_TIER 9u    /* insert with a tier above PINORANGE_MAX_TIER */
@@ -40,9 +44,9 @@ extern "C" {
 #define PINORANGE_MAX_STEP 500    /* the largest step, up or down, in tenths of a cent */
 
 /* Sizes in 32-bit words, for r slots in each table and s stash places: the dictionary, and the scratch that insert, remove, check and trail borrow. The
- * words are r, s, the number of keys and that of the stashed ones; then the slots of table 0 and of table 1, three words each: key, next number, tier; then
+ * words are r, s, the number of keys, that of the stashed ones and the station; then the slots of table 0 and of table 1, three words each: key, next number, tier; then
  * the stash places, two words each: key, tier. An empty slot or place is zeros. */
-#define PINORANGE_WORDS(r, s) (4u + 6u * (r) + 2u * (s))
+#define PINORANGE_WORDS(r, s) (5u + 6u * (r) + 2u * (s))
 #define PINORANGE_SCRATCH(r, s) (12u * (r) + 8u * (s))
 
 /* Counts of calls. A count at 4,294,967,295 stays there. */
@@ -51,10 +55,11 @@ struct pinorange_counters {
     uint32_t refused; /* refused */
 };
 
-/* Lays an empty dictionary: the words become r, s and zeros, whatever they were.
- * Refused (2): r is not 1 to 1,024, s is above 64, or the length is not PINORANGE_WORDS(r, s); the words stay.
+/* Lays an empty dictionary: the words become r, s, 0, 0, the station and zeros, whatever they were.
+ * Refused (2): r is not 1 to 1,024, s is above 64, the station is above 255, or the length is not PINORANGE_WORDS(r, s); the words stay.
  * The counters move on by one, done or refused. */
-uint32_t pinorange_init(uint32_t *words, size_t words_length, uint32_t r, uint32_t s, struct pinorange_counters *counters);
+uint32_t pinorange_init(uint32_t *words, size_t words_length, uint32_t r, uint32_t s, uint32_t station,
+                        struct pinorange_counters *counters);
 
 /* Puts a key with its tier into the set. Done (0): the words are the canonical image of the set with the key at this tier, in every word.
  * Refused (1, 2, 3, 4, 5, 9, 10, 6 or 8, tried in that order): the words stay. 8 exactly when there is no way at all to give each key of the new set one of

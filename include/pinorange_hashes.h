@@ -14,27 +14,29 @@ extern "C" {
 #endif
 
 /* The version of the library and of the layout of the words. Heads whose first numbers differ must not be mixed: see CHANGELOG.md. */
-#define PINORANGE_VERSION "2.2.0"
+#define PINORANGE_VERSION "3.0.0"
 
 /* The numbers that a call answers. */
 #define PINORANGE_DONE 0u             /* accepted */
-#define PINORANGE_WRONG_TABULATION 1u /* the tabulation is not 2,048 entries long */
-#define PINORANGE_WRONG_SHAPE 2u      /* here: r is not 1 to 1,024 */
+#define PINORANGE_WRONG_TABULATION 1u /* the tabulation is not 2,560 entries long */
+#define PINORANGE_WRONG_SHAPE 2u      /* here: r is not 1 to 1,024, or the station is above 255 */
 #define PINORANGE_BLANK_KEY 5u        /* the key is 0 */
 
-#define PINORANGE_TABULATION_LENGTH 2048u /* entries of a tabulation: 1,024 for table 0, then 1,024 for table 1 */
+#define PINORANGE_TABULATION_LENGTH 2560u /* entries of a tabulation: 1,280 for table 0, then 1,280 for table 1 */
 #define PINORANGE_MAX_SLOTS 1024u         /* the largest r */
+#define PINORANGE_MAX_STATION 255u        /* the largest station number */
 
-/* The two slots in which a key may sit, one in each table of r slots.
+/* The two slots in which a key may sit, one in each table of r slots, at a station: 0 to PINORANGE_MAX_STATION, the number that the dictionary was laid with
+ * (its word 4). At another station the same keys crowd other slots.
  *
  * Reads: the `length` entries of `tabulation` (any length, any content).
  * Done (0): `*table0` and `*table1` are the key's hashes, both below r: in table k the sum, over the bytes b0 (lowest) to b3 of the
- *   key, of entry 1024 k + 256 i + bi, modulo r.
+ *   key, of entry 1280 k + 256 i + bi, and of entry 1280 k + 1024 + (b0 + station) modulo 256; all of it modulo r.
  * Refused (1, 2 or 5, tried in that order): `*table0` and `*table1` stay as they were.
  * The tabulation is never written. No pointer may be null (a length of 0 needs one, too), all are aligned, and `table0` and `table1` lie apart from
  * each other and from the tabulation. */
-uint32_t pinorange_hashes(const uint16_t *tabulation, size_t length, uint32_t r, uint32_t key, uint32_t *table0,
-                          uint32_t *table1);
+uint32_t pinorange_hashes(const uint16_t *tabulation, size_t length, uint32_t r, uint32_t station, uint32_t key,
+                          uint32_t *table0, uint32_t *table1);
 
 #ifdef __cplusplus
 }
