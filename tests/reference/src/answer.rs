@@ -11,10 +11,12 @@
 /// found is above 7."
 #[derive(Clone, Copy, Debug, PartialEq, Eq, PartialOrd, Ord, Hash)]
 pub enum Refusal {
-    /// Paper: 1, "wrong book": "book not 2,048 long".
+    /// Paper: 1, "wrong book": "book not 2,048 long"; request Five: "The book becomes 2,560
+    /// numbers".
     WrongTabulation = 1,
     /// Paper: 2, "wrong shape": "list shorter than 4 words, r or s outside its range, or length not
-    /// 4 + 4r + s"; request One: "the length becomes 4 + 6r + 2s".
+    /// 4 + 4r + s"; request One: "the length becomes 4 + 6r + 2s"; request Five: "the length grows
+    /// by one" and "a station above 255, given or in word 4, is a 2".
     WrongShape = 2,
     /// Paper: 3, "short sheet": "work sheet shorter than 8r + 4s"; request One: "at least
     /// 12r + 8s".

@@ -1,33 +1,33 @@
 //! The calls on a list: init, insert, remove, lookup, check, the stash view and the trail; request
 //! Four's opening of a sale stands in [`crate::sale`]. All are total: tabulation, words, scratch
-//! and trail sheet may have any length and content. The engine given says how images and trails are
-//! worked out.
+//! and trail sheet may have any length and content. Only init is given a station; the others use
+//! the words' own. The engine given says how images and trails are worked out.
 
 use crate::answer::{Answer, Found, Refusal};
 use crate::counters::Counters;
 use crate::hash::{hashes, TABULATION_LEN};
 use crate::image::Engine;
-use crate::layout::{Shape, Slot, PLACE_LEN};
+use crate::layout::{Shape, Slot, HEADER_LEN, PLACE_LEN};
 use crate::set::{members, set, Set, MAX_TIER};
 
 /// Makes the words an empty list (the paper's "lay").
 ///
 /// Paper: "Laying fresh takes r and s and gives only 2; it borrows neither book nor sheet, and
-/// accepted it leaves r, s and zeros."
-pub fn init(r: u32, s: u32, words: &mut [u32], counters: &mut Counters) -> Answer {
-    let answer = init_words(r, s, words);
+/// accepted it leaves r, s and zeros." Request Five: "A station number, 0 to 255, is given when a
+/// list is laid and stands as word 4".
+pub fn init(r: u32, s: u32, station: u32, words: &mut [u32], counters: &mut Counters) -> Answer {
+    let answer = init_words(r, s, station, words);
     counters.count(answer);
     answer
 }
 
-fn init_words(r: u32, s: u32, words: &mut [u32]) -> Answer {
-    let shape = Shape::new(r, s)?;
+fn init_words(r: u32, s: u32, station: u32, words: &mut [u32]) -> Answer {
+    let shape = Shape::new(r, s, station)?;
     if words.len() != shape.words_len() {
         return Err(Refusal::WrongShape);
     }
     words.fill(0);
-    words[0] = r;
-    words[1] = s;
+    words[..HEADER_LEN].copy_from_slice(&shape.header(0, 0));
     Ok(())
 }
 
@@ -89,7 +89,7 @@ pub fn lookup(tabulation: &[u16], words: &[u32], key: u32) -> Result<Found, Refu
         return Err(Refusal::WrongTabulation);
     }
     let shape = Shape::of(words)?;
-    let hashes = hashes(tabulation, shape.r(), key)?;
+    let hashes = hashes(tabulation, shape.r(), shape.station(), key)?;
     let own_slots = [0, 1].map(|table| Slot { table, index: hashes[table] as usize });
     let entries = own_slots.into_iter().filter_map(|slot| shape.entry(words, slot));
     let stored = entries.map(|entry| (entry.key, entry.tier));
@@ -148,17 +148,17 @@ pub fn trail(
     Ok(trail.len())
 }
 
-/// The set whose image the words are; or 1, 2, 3 or 4, in this order.
+/// The shape of the words and the set whose image they are; or 1, 2, 3 or 4, in this order.
 ///
 /// Every key of a set stands in the set's image, in a slot or in the stash, with its tier beside
-/// it, and no other does. So the words are the image of the keys and tiers that stand in them, or
-/// of no set at all.
+/// it, and no other does. So the words are the image of the keys and tiers that stand in them, at
+/// the station in their word 4, or of no set at all.
 fn listed_set(
     engine: &impl Engine,
     tabulation: &[u16],
     words: &[u32],
     scratch_len: usize,
-) -> Result<Set, Refusal> {
+) -> Result<(Shape, Set), Refusal> {
     if tabulation.len() != TABULATION_LEN {
         return Err(Refusal::WrongTabulation);
     }
@@ -167,29 +167,31 @@ fn listed_set(
         return Err(Refusal::ShortScratch);
     }
     let members = shape.members(words);
-    let image = engine.image(tabulation, shape.r(), shape.s(), &members);
-    if image.as_deref() != Some(words) {
+    let (r, s, station) = shape.numbers();
+    if engine.image(tabulation, r, s, station, &members).as_deref() != Some(words) {
         return Err(Refusal::NotCanonical);
     }
-    set(&members).ok_or(Refusal::NotCanonical)
+    let set = set(&members).ok_or(Refusal::NotCanonical)?;
+    Ok((shape, set))
 }
 
-/// The set whose image the words are, with the key in it; or 1, 2, 3, 4, 5 or 7, in this order.
+/// The shape of the words and the set whose image they are, with the key in it; or 1, 2, 3, 4, 5 or
+/// 7, in this order.
 fn set_with_listed(
     engine: &impl Engine,
     tabulation: &[u16],
     words: &[u32],
     scratch_len: usize,
     key: u32,
-) -> Result<Set, Refusal> {
-    let set = listed_set(engine, tabulation, words, scratch_len)?;
+) -> Result<(Shape, Set), Refusal> {
+    let (shape, set) = listed_set(engine, tabulation, words, scratch_len)?;
     if key == 0 {
         return Err(Refusal::BlankKey);
     }
     if !set.contains_key(&key) {
         return Err(Refusal::NotListed);
     }
-    Ok(set)
+    Ok((shape, set))
 }
 
 /// The words after an insert, or its refusal.
@@ -201,7 +203,7 @@ fn with_key(
     key: u32,
     tier: u32,
 ) -> Result<Vec<u32>, Refusal> {
-    let mut set = listed_set(engine, tabulation, words, scratch_len)?;
+    let (shape, mut set) = listed_set(engine, tabulation, words, scratch_len)?;
     if key == 0 {
         return Err(Refusal::BlankKey);
     }
@@ -213,7 +215,8 @@ fn with_key(
         Some(_) => return Err(Refusal::Listed),
         None => {}
     }
-    engine.image(tabulation, words[0], words[1], &members(&set)).ok_or(Refusal::FullStash)
+    let (r, s, station) = shape.numbers();
+    engine.image(tabulation, r, s, station, &members(&set)).ok_or(Refusal::FullStash)
 }
 
 /// The words after a remove, or its refusal.
@@ -224,9 +227,10 @@ fn without_key(
     scratch_len: usize,
     key: u32,
 ) -> Result<Vec<u32>, Refusal> {
-    let mut set = set_with_listed(engine, tabulation, words, scratch_len, key)?;
+    let (shape, mut set) = set_with_listed(engine, tabulation, words, scratch_len, key)?;
     set.remove(&key);
-    let image = engine.image(tabulation, words[0], words[1], &members(&set));
+    let (r, s, station) = shape.numbers();
+    let image = engine.image(tabulation, r, s, station, &members(&set));
     Ok(image.expect("a smaller set needs no more stash places"))
 }
 
@@ -239,8 +243,9 @@ fn trail_of(
     key: u32,
     trail_sheet_len: usize,
 ) -> Result<Vec<u32>, Refusal> {
-    let set = set_with_listed(engine, tabulation, words, scratch_len, key)?;
-    let trail = engine.trail(tabulation, words[0], words[1], &members(&set), key);
+    let (shape, set) = set_with_listed(engine, tabulation, words, scratch_len, key)?;
+    let (r, s, station) = shape.numbers();
+    let trail = engine.trail(tabulation, r, s, station, &members(&set), key);
     let trail = trail.expect("a listed key has a trail");
     if trail_sheet_len < trail.len() {
         return Err(Refusal::ShortTrailSheet);

@@ -29,7 +29,7 @@ pub fn run(engine: &impl Engine, book: Option<&[u8]>, input: &[u8]) -> Vec<u8> {
 /// The tabulation in the bytes of book.bin, if it is one.
 ///
 /// Paper: "4,096 bytes, low byte first; if it is missing or of another length, the program prints B
-/// and stops".
+/// and stops". Request Five: "book.bin has 5,120 bytes".
 pub fn tabulation_from(book: Option<&[u8]>) -> Option<Vec<u16>> {
     let bytes = book.filter(|bytes| bytes.len() == 2 * TABULATION_LEN)?;
     Some(bytes.chunks_exact(2).map(|pair| u16::from_le_bytes([pair[0], pair[1]])).collect())
@@ -44,9 +44,7 @@ pub fn session(engine: &impl Engine, book: Option<&[u8]>, input: &[u8]) -> Sessi
     };
     let lines = lines(input);
     // Paper: "if it is line 1, or line 1 is absent or refused, that is E,1 and the program stops".
-    let Some(shape) =
-        lines.first().and_then(|line| parse_shape(line)).and_then(|(r, s)| session.init(r, s))
-    else {
+    let Some(shape) = lines.first().and_then(|line| session.init(line)) else {
         session.print("E,1");
         return session;
     };
@@ -62,13 +60,14 @@ pub fn session(engine: &impl Engine, book: Option<&[u8]>, input: &[u8]) -> Sessi
 }
 
 impl Session {
-    /// Executes line 1. Paper: "Line 1 is r,s; accepted, it prints nothing."
-    fn init(&mut self, r: u32, s: u32) -> Option<Shape> {
-        // For an r or s out of range there are no words to borrow, and init refuses it all the
-        // same.
-        let len = Shape::new(r, s).map_or(0, Shape::words_len);
+    /// Executes line 1, unless it is of another form. Paper: "Line 1 is r,s; accepted, it prints
+    /// nothing." Request Five: "line 1 of the program ends with the station".
+    fn init(&mut self, line: &[u8]) -> Option<Shape> {
+        let [r, s, station] = parse_line_1(line)?;
+        // For a number out of range there are no words to borrow, and init refuses it all the same.
+        let len = Shape::new(r, s, station).map_or(0, Shape::words_len);
         self.words = vec![0; len];
-        calls::init(r, s, &mut self.words, &mut self.counters).ok()?;
+        calls::init(r, s, station, &mut self.words, &mut self.counters).ok()?;
         Shape::of(&self.words).ok()
     }
 
@@ -154,9 +153,10 @@ fn fields(line: &[u8]) -> Vec<&[u8]> {
     line.split(|&byte| byte == b',').collect()
 }
 
-fn parse_shape(line: &[u8]) -> Option<(u32, u32)> {
+/// The numbers r, s and station of line 1.
+fn parse_line_1(line: &[u8]) -> Option<[u32; 3]> {
     match fields(line)[..] {
-        [r, s] => Some((parse_number(r)?, parse_number(s)?)),
+        [r, s, station] => Some([parse_number(r)?, parse_number(s)?, parse_number(station)?]),
         _ => None,
     }
 }

@@ -3,7 +3,7 @@
 //! hold it and the trails against the slow definitions.
 
 use crate::answer::{Found, Refusal};
-use crate::hash::TABULATION_LEN;
+use crate::hash::{HALF_LEN, STRETCH_LEN, TABULATION_LEN};
 use crate::image::Engine;
 use crate::layout::{Shape, HEADER_LEN, PLACE_LEN, SLOT_LEN};
 use crate::set::{Member, MAX_TIER};
@@ -13,8 +13,15 @@ use crate::set::{Member, MAX_TIER};
 pub struct Fast;
 
 impl Engine for Fast {
-    fn image(&self, tabulation: &[u16], r: u32, s: u32, members: &[Member]) -> Option<Vec<u32>> {
-        image(tabulation, r, s, members)
+    fn image(
+        &self,
+        tabulation: &[u16],
+        r: u32,
+        s: u32,
+        station: u32,
+        members: &[Member],
+    ) -> Option<Vec<u32>> {
+        image(tabulation, r, s, station, members)
     }
 
     fn trail(
@@ -22,18 +29,25 @@ impl Engine for Fast {
         tabulation: &[u16],
         r: u32,
         s: u32,
+        station: u32,
         members: &[Member],
         key: u32,
     ) -> Option<Vec<u32>> {
-        trail(tabulation, r, s, members, key)
+        trail(tabulation, r, s, station, members, key)
     }
 }
 
 /// The words of the canonical image of a set; the same as [`crate::image::image`].
 ///
 /// Paper: "The canonical image".
-pub fn image(tabulation: &[u16], r: u32, s: u32, members: &[Member]) -> Option<Vec<u32>> {
-    let shape = Shape::new(r, s).ok()?;
+pub fn image(
+    tabulation: &[u16],
+    r: u32,
+    s: u32,
+    station: u32,
+    members: &[Member],
+) -> Option<Vec<u32>> {
+    let shape = Shape::new(r, s, station).ok()?;
     let tabulation: &[u16; TABULATION_LEN] = tabulation.try_into().ok()?;
     let mut members = members.to_vec();
     members.sort_unstable();
@@ -43,14 +57,14 @@ pub fn image(tabulation: &[u16], r: u32, s: u32, members: &[Member]) -> Option<V
     if keys.first() == Some(&0) || two_tiers || tiers.iter().any(|&tier| tier > MAX_TIER) {
         return None;
     }
-    let ends: Vec<[u32; 2]> = keys.iter().map(|&key| ends(tabulation, r, key)).collect();
+    let ends: Vec<[u32; 2]> = keys.iter().map(|&key| ends(tabulation, r, station, key)).collect();
     let parts = Parts::new(2 * r as usize, &ends);
     let stashed = parts.in_stash().count();
     if stashed > s as usize {
         return None;
     }
     let mut words = vec![0; shape.words_len()];
-    words[..HEADER_LEN].copy_from_slice(&[r, s, keys.len() as u32, stashed as u32]);
+    words[..HEADER_LEN].copy_from_slice(&shape.header(keys.len(), stashed));
     let next = next_keys(&keys, &parts);
     for (slot, &i) in assignment(&ends, &parts).iter().enumerate() {
         if i != NONE {
@@ -70,9 +84,16 @@ pub fn image(tabulation: &[u16], r: u32, s: u32, members: &[Member]) -> Option<V
 ///
 /// Request Two: "The trail starts with a seated card; each next one is the card sitting in the last
 /// one's other pocket. It ends with the root".
-pub fn trail(tabulation: &[u16], r: u32, s: u32, members: &[Member], key: u32) -> Option<Vec<u32>> {
-    let words = image(tabulation, r, s, members)?;
-    let stored = Stored { tabulation: tabulation.try_into().ok()?, r, words };
+pub fn trail(
+    tabulation: &[u16],
+    r: u32,
+    s: u32,
+    station: u32,
+    members: &[Member],
+    key: u32,
+) -> Option<Vec<u32>> {
+    let words = image(tabulation, r, s, station, members)?;
+    let stored = Stored { tabulation: tabulation.try_into().ok()?, r, station, words };
     if !members.iter().any(|&(listed, _)| listed == key) {
         return None;
     }
@@ -106,7 +127,7 @@ pub fn lookup(tabulation: &[u16], words: &[u32], key: u32) -> Result<Found, Refu
     if key == 0 {
         return Err(Refusal::BlankKey);
     }
-    for end in ends(tabulation, shape.r(), key) {
+    for end in ends(tabulation, shape.r(), shape.station(), key) {
         let at = HEADER_LEN + SLOT_LEN * end as usize;
         if words[at] == key {
             return Ok(Found::Listed(words[at + 2]));
@@ -123,15 +144,21 @@ pub fn lookup(tabulation: &[u16], words: &[u32], key: u32) -> Result<Found, Refu
 /// Stands for "no key" among key numbers.
 const NONE: u32 = u32::MAX;
 
-/// The two slots of a key (the paper's "places"), numbered through both tables: slot i of table 0
-/// is i and slot i of table 1 is r + i.
+/// The two slots of a key (the paper's "places") at a station, numbered through both tables: slot i
+/// of table 0 is i and slot i of table 1 is r + i.
+///
+/// Request Five: "a place's sum adds the fifth stretch's entry at (b0 + station number) modulo
+/// 256". That is the lowest byte of key + station, also where this sum wraps.
 #[inline]
-fn ends(tabulation: &[u16; TABULATION_LEN], r: u32, key: u32) -> [u32; 2] {
-    let [b0, b1, b2, b3] = key.to_le_bytes().map(usize::from);
-    let entry = |i: usize| u32::from(tabulation[i]);
-    let sum0 = entry(b0) + entry(256 + b1) + entry(512 + b2) + entry(768 + b3);
-    let sum1 = entry(1_024 + b0) + entry(1_280 + b1) + entry(1_536 + b2) + entry(1_792 + b3);
-    [sum0 % r, r + sum1 % r]
+fn ends(tabulation: &[u16; TABULATION_LEN], r: u32, station: u32, key: u32) -> [u32; 2] {
+    let [b0, b1, b2, b3] = key.to_le_bytes();
+    let [moved, ..] = key.wrapping_add(station).to_le_bytes();
+    [0, 1].map(|table| {
+        let half = &tabulation[HALF_LEN * table..][..HALF_LEN];
+        let entry = |i: usize, byte: u8| u32::from(half[STRETCH_LEN * i + usize::from(byte)]);
+        let sum = entry(0, b0) + entry(1, b1) + entry(2, b2) + entry(3, b3) + entry(4, moved);
+        table as u32 * r + sum % r
+    })
 }
 
 /// The components of a set of keys and what goes to the stash. Keys go by their number in ascending
@@ -325,12 +352,13 @@ fn next_keys(keys: &[u32], parts: &Parts) -> Vec<u32> {
 struct Stored<'a> {
     tabulation: &'a [u16; TABULATION_LEN],
     r: u32,
+    station: u32,
     words: Vec<u32>,
 }
 
 impl Stored<'_> {
     fn ends(&self, key: u32) -> [u32; 2] {
-        ends(self.tabulation, self.r, key)
+        ends(self.tabulation, self.r, self.station, key)
     }
 
     /// The words of a slot: key, next and tier.

@@ -32,12 +32,13 @@ impl Edge {
     }
 }
 
-/// The edges of a set of keys, ascending by key, each key once; refused as [`hashes`] refuses.
-pub fn edges(tabulation: &[u16], r: u32, keys: &[u32]) -> Result<Vec<Edge>, Refusal> {
+/// The edges of a set of keys at a station, ascending by key, each key once; refused as [`hashes`]
+/// refuses.
+pub fn edges(tabulation: &[u16], r: u32, station: u32, keys: &[u32]) -> Result<Vec<Edge>, Refusal> {
     let set: BTreeSet<u32> = keys.iter().copied().collect();
     set.into_iter()
         .map(|key| {
-            let [index0, index1] = hashes(tabulation, r, key)?.map(|hash| hash as usize);
+            let [index0, index1] = hashes(tabulation, r, station, key)?.map(|hash| hash as usize);
             let slots = [Slot { table: 0, index: index0 }, Slot { table: 1, index: index1 }];
             Ok(Edge { key, slots })
         })

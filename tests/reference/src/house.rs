@@ -6,6 +6,7 @@ use crate::hash::TABULATION_LEN;
 /// The house tabulation.
 ///
 /// Paper: "The house spread book ships as a table of 2,048 numbers." and "All entries differ."
+/// Request Five: "The house book keeps its rule to entry 2,559."
 pub static HOUSE: [u16; TABULATION_LEN] = table();
 
 /// One entry by the rule.

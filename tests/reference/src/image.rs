@@ -13,19 +13,27 @@ use crate::trail::trail;
 /// A way to work out canonical images and trails. [`Slow`] is the definition, [`crate::fast::Fast`]
 /// another way; the calls, the reference model and the console take either.
 pub trait Engine {
-    /// The words of the canonical image of a set, its members (key, tier) given in any order (a
-    /// repeated one counts once). `None` when there is none: the stash would need more than `s`
-    /// places, or the tabulation, `r`, `s`, a key or a tier is one that no list has, or a key
-    /// stands with two tiers.
-    fn image(&self, tabulation: &[u16], r: u32, s: u32, members: &[Member]) -> Option<Vec<u32>>;
+    /// The words of the canonical image of a set at a station, its members (key, tier) given in any
+    /// order (a repeated one counts once). `None` when there is none: the stash would need more
+    /// than `s` places, or the tabulation, `r`, `s`, `station`, a key or a tier is one that no list
+    /// has, or a key stands with two tiers.
+    fn image(
+        &self,
+        tabulation: &[u16],
+        r: u32,
+        s: u32,
+        station: u32,
+        members: &[Member],
+    ) -> Option<Vec<u32>>;
 
-    /// The trail of a key in the canonical image of a set, first key first; empty for a key in the
-    /// stash. `None` when the key is not in the set, or the set has no image.
+    /// The trail of a key in the canonical image of a set at a station, first key first; empty for
+    /// a key in the stash. `None` when the key is not in the set, or the set has no image.
     fn trail(
         &self,
         tabulation: &[u16],
         r: u32,
         s: u32,
+        station: u32,
         members: &[Member],
         key: u32,
     ) -> Option<Vec<u32>>;
@@ -33,8 +41,15 @@ pub trait Engine {
 
 /// Lets a borrowed engine, also one behind `dyn`, stand where an engine is asked for.
 impl<E: Engine + ?Sized> Engine for &E {
-    fn image(&self, tabulation: &[u16], r: u32, s: u32, members: &[Member]) -> Option<Vec<u32>> {
-        (**self).image(tabulation, r, s, members)
+    fn image(
+        &self,
+        tabulation: &[u16],
+        r: u32,
+        s: u32,
+        station: u32,
+        members: &[Member],
+    ) -> Option<Vec<u32>> {
+        (**self).image(tabulation, r, s, station, members)
     }
 
     fn trail(
@@ -42,10 +57,11 @@ impl<E: Engine + ?Sized> Engine for &E {
         tabulation: &[u16],
         r: u32,
         s: u32,
+        station: u32,
         members: &[Member],
         key: u32,
     ) -> Option<Vec<u32>> {
-        (**self).trail(tabulation, r, s, members, key)
+        (**self).trail(tabulation, r, s, station, members, key)
     }
 }
 
@@ -54,8 +70,15 @@ impl<E: Engine + ?Sized> Engine for &E {
 pub struct Slow;
 
 impl Engine for Slow {
-    fn image(&self, tabulation: &[u16], r: u32, s: u32, members: &[Member]) -> Option<Vec<u32>> {
-        image(tabulation, r, s, members)
+    fn image(
+        &self,
+        tabulation: &[u16],
+        r: u32,
+        s: u32,
+        station: u32,
+        members: &[Member],
+    ) -> Option<Vec<u32>> {
+        image(tabulation, r, s, station, members)
     }
 
     fn trail(
@@ -63,10 +86,11 @@ impl Engine for Slow {
         tabulation: &[u16],
         r: u32,
         s: u32,
+        station: u32,
         members: &[Member],
         key: u32,
     ) -> Option<Vec<u32>> {
-        trail(tabulation, r, s, members, key)
+        trail(tabulation, r, s, station, members, key)
     }
 }
 
@@ -76,12 +100,18 @@ pub type Assignment = BTreeMap<Slot, u32>;
 /// The words of the canonical image of a set, by the definition; see [`Engine::image`].
 ///
 /// Paper: "The canonical image", from document 000, section 3.1. It speaks of keys and slots only;
-/// the tiers are written beside the keys in the end.
-pub fn image(tabulation: &[u16], r: u32, s: u32, members: &[Member]) -> Option<Vec<u32>> {
-    let shape = Shape::new(r, s).ok()?;
+/// the station decides over the slots, and the tiers are written beside the keys in the end.
+pub fn image(
+    tabulation: &[u16],
+    r: u32,
+    s: u32,
+    station: u32,
+    members: &[Member],
+) -> Option<Vec<u32>> {
+    let shape = Shape::new(r, s, station).ok()?;
     let tiers = set(members)?;
     let keys: Vec<u32> = tiers.keys().copied().collect();
-    let edges = edges(tabulation, r, &keys).ok()?;
+    let edges = edges(tabulation, r, station, &keys).ok()?;
     let mut contents = Contents::default();
     for component in components(&edges) {
         let (kept, stashed) = split_stash(&component);
@@ -91,9 +121,14 @@ pub fn image(tabulation: &[u16], r: u32, s: u32, members: &[Member]) -> Option<V
     (contents.stash.len() <= s as usize).then(|| shape.write(&contents))
 }
 
-/// The whole canonical stash of a set of keys, however many places it needs.
-pub fn canonical_stash(tabulation: &[u16], r: u32, keys: &[u32]) -> Result<BTreeSet<u32>, Refusal> {
-    let edges = edges(tabulation, r, keys)?;
+/// The whole canonical stash of a set of keys at a station, however many places it needs.
+pub fn canonical_stash(
+    tabulation: &[u16],
+    r: u32,
+    station: u32,
+    keys: &[u32],
+) -> Result<BTreeSet<u32>, Refusal> {
+    let edges = edges(tabulation, r, station, keys)?;
     let stashes = components(&edges).into_iter().flat_map(|component| split_stash(&component).1);
     Ok(stashes.collect())
 }

@@ -4,15 +4,15 @@
 use std::collections::{BTreeMap, BTreeSet};
 
 use crate::answer::Refusal;
-use crate::hash::MAX_R;
+use crate::hash::{MAX_R, MAX_STATION};
 use crate::set::{Member, Set};
 
 /// The largest s. Paper: "s (drawer places, 0 to 64)".
 pub const MAX_S: u32 = 64;
 
 /// The length of the header. Paper: "Words 0 to 3 are r [..], s [..], the number of cards, and the
-/// number of cards in the drawer."
-pub const HEADER_LEN: usize = 4;
+/// number of cards in the drawer." Request Five: "A station number [..] stands as word 4".
+pub const HEADER_LEN: usize = 5;
 
 /// The length of a slot. Request One: "A pocket becomes card, next, tier".
 pub const SLOT_LEN: usize = 3;
@@ -40,7 +40,7 @@ pub struct Entry {
     pub tier: u32,
 }
 
-/// Everything that stands in a list besides r, s and the two counts.
+/// Everything that stands in a list besides its header.
 #[derive(Clone, Debug, Default, PartialEq, Eq)]
 pub struct Contents {
     /// The filled slots. Request One: "empty ones are zeros".
@@ -49,35 +49,43 @@ pub struct Contents {
     pub stash: Set,
 }
 
-/// An r and an s within their ranges.
+/// An r, an s and a station within their ranges: all that init is given.
 #[derive(Clone, Copy, Debug, PartialEq, Eq)]
 pub struct Shape {
     r: u32,
     s: u32,
+    station: u32,
 }
 
 impl Shape {
-    /// The shape with these numbers, or 2 ("r or s outside its range").
-    pub fn new(r: u32, s: u32) -> Result<Shape, Refusal> {
-        if !(1..=MAX_R).contains(&r) || s > MAX_S {
+    /// The shape with these numbers, or 2 ("r or s outside its range"; request Five: "a station
+    /// above 255, given or in word 4, is a 2").
+    pub fn new(r: u32, s: u32, station: u32) -> Result<Shape, Refusal> {
+        if !(1..=MAX_R).contains(&r) || s > MAX_S || station > MAX_STATION {
             return Err(Refusal::WrongShape);
         }
-        Ok(Shape { r, s })
+        Ok(Shape { r, s, station })
     }
 
-    /// The shape that borrowed words have by their own words 0 and 1.
+    /// The shape that borrowed words have by their own words 0, 1 and 4.
     ///
     /// Paper, 2: "list shorter than 4 words, r or s outside its range, or length not 4 + 4r + s",
-    /// which request One makes 4 + 6r + 2s.
+    /// which requests One and Five make 5 + 6r + 2s; so words shorter than their header have no
+    /// shape.
     pub fn of(words: &[u32]) -> Result<Shape, Refusal> {
-        if words.len() < HEADER_LEN {
+        let &[r, s, _, _, station, ..] = words else {
             return Err(Refusal::WrongShape);
-        }
-        let shape = Shape::new(words[0], words[1])?;
+        };
+        let shape = Shape::new(r, s, station)?;
         if words.len() != shape.words_len() {
             return Err(Refusal::WrongShape);
         }
         Ok(shape)
+    }
+
+    /// The numbers r, s and station, as init is given them.
+    pub fn numbers(self) -> (u32, u32, u32) {
+        (self.r, self.s, self.station)
     }
 
     /// Slots in a table (the paper's "pockets in a rack").
@@ -90,7 +98,18 @@ impl Shape {
         self.s
     }
 
-    /// Request One: "the length becomes 4 + 6r + 2s". No wrap: r and s are within their ranges.
+    /// The station, which the hashes take.
+    pub fn station(self) -> u32 {
+        self.station
+    }
+
+    /// The header of words of this shape with these counts.
+    pub fn header(self, keys: usize, stashed: usize) -> [u32; HEADER_LEN] {
+        [self.r, self.s, keys as u32, stashed as u32, self.station]
+    }
+
+    /// Request One: "the length becomes 4 + 6r + 2s"; request Five: "the length grows by one". No
+    /// wrap: r and s are within their ranges.
     pub fn words_len(self) -> usize {
         self.place_at(self.s as usize)
     }
@@ -165,10 +184,7 @@ impl Shape {
             words[self.place_at(place)] = key;
             words[self.place_at(place) + 1] = tier;
         }
-        words[0] = self.r;
-        words[1] = self.s;
-        words[2] = keys.len() as u32;
-        words[3] = contents.stash.len() as u32;
+        words[..HEADER_LEN].copy_from_slice(&self.header(keys.len(), contents.stash.len()));
         words
     }
 }

@@ -111,8 +111,8 @@ pub enum Reply {
 /// The reference model.
 ///
 /// Paper: "The register has the sequence's book [..]; of the list it knows only what lay was given.
-/// Its state is a set of cards, empty at first." Request One: ""set" means cards with their tiers
-/// everywhere".
+/// Its state is a set of cards, empty at first." What init was given is r, s and, with request
+/// Five, the station. Request One: ""set" means cards with their tiers everywhere".
 #[derive(Clone, Debug)]
 pub struct Model<E> {
     engine: E,
@@ -123,10 +123,16 @@ pub struct Model<E> {
 
 impl<E: Engine> Model<E> {
     /// The model at the start of a sequence, or why no sequence starts so: it needs a tabulation of
-    /// the right length and an r and s that init accepts.
-    pub fn new(engine: E, tabulation: &[u16], r: u32, s: u32) -> Result<Self, Refusal> {
+    /// the right length and an r, an s and a station that init accepts.
+    pub fn new(
+        engine: E,
+        tabulation: &[u16],
+        r: u32,
+        s: u32,
+        station: u32,
+    ) -> Result<Self, Refusal> {
         refuse_tabulation(tabulation.len())?;
-        let shape = Shape::new(r, s)?;
+        let shape = Shape::new(r, s, station)?;
         Ok(Model { engine, tabulation: tabulation.to_vec(), shape, set: Set::new() })
     }
 
@@ -237,8 +243,8 @@ impl<E: Engine> Model<E> {
         trail_sheet_len: usize,
     ) -> Result<Vec<u32>, Refusal> {
         self.try_remove(tabulation_len, scratch_len, key)?;
-        let (r, s) = (self.shape.r(), self.shape.s());
-        let trail = self.engine.trail(&self.tabulation, r, s, &members(&self.set), key);
+        let (r, s, station) = self.shape.numbers();
+        let trail = self.engine.trail(&self.tabulation, r, s, station, &members(&self.set), key);
         let trail = trail.expect("a listed key has a trail");
         if trail_sheet_len < trail.len() {
             return Err(Refusal::ShortTrailSheet);
@@ -263,7 +269,8 @@ impl<E: Engine> Model<E> {
     }
 
     fn image(&self, set: &Set) -> Option<Vec<u32>> {
-        self.engine.image(&self.tabulation, self.shape.r(), self.shape.s(), &members(set))
+        let (r, s, station) = self.shape.numbers();
+        self.engine.image(&self.tabulation, r, s, station, &members(set))
     }
 
     fn refuse_lengths(&self, tabulation_len: usize, scratch_len: usize) -> Answer {

@@ -16,7 +16,7 @@ pub enum Place {
     Stash(u32),
 }
 
-/// A placement of all keys, or `None` when there is none.
+/// A placement of all keys at a station, or `None` when there is none.
 ///
 /// Document 000, section 3: "An element x can be stored in three possible locations: entry h0(x) of
 /// table T0, entry h1(x) of table T1, or stashed in the secondary data structure." One key to a
@@ -25,9 +25,10 @@ pub fn placement(
     tabulation: &[u16],
     r: u32,
     s: u32,
+    station: u32,
     keys: &[u32],
 ) -> Result<Option<BTreeMap<u32, Place>>, Refusal> {
-    let edges = edges(tabulation, r, keys)?;
+    let edges = edges(tabulation, r, station, keys)?;
     let mut holders: BTreeMap<Place, Edge> = BTreeMap::new();
     for edge in &edges {
         if !augment(*edge, s, &mut holders, &mut BTreeSet::new()) {

@@ -3,26 +3,27 @@
 
 use std::collections::BTreeSet;
 
-use crate::hash::TABULATION_LEN;
+use crate::hash::{HALF_LEN, MAX_STATION, TABULATION_LEN};
 use crate::rng::Rng;
 use crate::set::{Member, MAX_TIER};
 
 /// The paper's "test book".
 ///
 /// Paper: "Test book: entry v is v and entry 1,024 + v is v/16 rounded down, for v from 0 to 255;
-/// all others 0."
+/// all others 0." Request Five: "The test board runs with station 0, its rack 1 entries moved to
+/// 1,280 and its new stretches zero".
 pub fn test_tabulation() -> Vec<u16> {
     let hashes: Vec<[u16; 2]> = (0..=255).map(|v| [v, v / 16]).collect();
     chosen_tabulation(&hashes)
 }
 
 /// A tabulation under which key v, below 256, has the hashes `hashes[v]` (before they are taken
-/// modulo r); entries that are not chosen are 0.
+/// modulo r) at every station; entries that are not chosen are 0, the fifth stretches too.
 pub fn chosen_tabulation(hashes: &[[u16; 2]]) -> Vec<u16> {
     let mut tabulation = vec![0; TABULATION_LEN];
     for (v, &[hash0, hash1]) in hashes.iter().enumerate() {
         tabulation[v] = hash0;
-        tabulation[1_024 + v] = hash1;
+        tabulation[HALF_LEN + v] = hash1;
     }
     tabulation
 }
@@ -30,6 +31,15 @@ pub fn chosen_tabulation(hashes: &[[u16; 2]]) -> Vec<u16> {
 /// A random tabulation with all entries below `values`.
 pub fn random_tabulation(rng: &mut Rng, values: usize) -> Vec<u16> {
     (0..TABULATION_LEN).map(|_| rng.below(values) as u16).collect()
+}
+
+/// A random station: a quarter of the time the first or the last, else any from 0 to 255.
+pub fn random_station(rng: &mut Rng) -> u32 {
+    if rng.one_in(4) {
+        rng.pick(&[0, MAX_STATION])
+    } else {
+        rng.below(MAX_STATION as usize + 1) as u32
+    }
 }
 
 /// A random set of `count` keys in ascending order: half of the time small keys (of which there are

@@ -13,10 +13,17 @@ use crate::set::Member;
 /// Request Two: "The trail starts with a seated card; each next one is the card sitting in the last
 /// one's other pocket. It ends with the root [..]"; "a drawer card's trail is empty. Every trail
 /// ends without a repeated card." The last is asserted.
-pub fn trail(tabulation: &[u16], r: u32, s: u32, members: &[Member], key: u32) -> Option<Vec<u32>> {
-    let held = held(&image(tabulation, r, s, members)?);
+pub fn trail(
+    tabulation: &[u16],
+    r: u32,
+    s: u32,
+    station: u32,
+    members: &[Member],
+    key: u32,
+) -> Option<Vec<u32>> {
+    let held = held(&image(tabulation, r, s, station, members)?);
     let keys: Vec<u32> = members.iter().map(|&(key, _)| key).collect();
-    let component = component_of(&edges(tabulation, r, &keys).ok()?, key)?;
+    let component = component_of(&edges(tabulation, r, station, &keys).ok()?, key)?;
     if !is_stored(key, &held) {
         return Some(Vec::new());
     }

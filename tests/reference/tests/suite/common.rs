@@ -22,16 +22,23 @@ pub fn engines() -> [(&'static str, &'static dyn Engine); 2] {
 pub type HandEntry = (usize, usize, u32, u32, u32);
 
 /// The words of a list written out by hand; `count` is word 2. Deliberately not by `layout`.
-pub fn hand_words(r: u32, s: u32, count: u32, entries: &[HandEntry], stash: &[Member]) -> Vec<u32> {
+pub fn hand_words(
+    r: u32,
+    s: u32,
+    station: u32,
+    count: u32,
+    entries: &[HandEntry],
+    stash: &[Member],
+) -> Vec<u32> {
     let per_table = 3 * r as usize;
-    let mut words = vec![0; 4 + 2 * per_table + 2 * s as usize];
-    words[..4].copy_from_slice(&[r, s, count, stash.len() as u32]);
+    let mut words = vec![0; 5 + 2 * per_table + 2 * s as usize];
+    words[..5].copy_from_slice(&[r, s, count, stash.len() as u32, station]);
     for &(table, index, key, next, tier) in entries {
-        let at = 4 + table * per_table + 3 * index;
+        let at = 5 + table * per_table + 3 * index;
         words[at..at + 3].copy_from_slice(&[key, next, tier]);
     }
     for (place, &(key, tier)) in stash.iter().enumerate() {
-        let at = 4 + 2 * per_table + 2 * place;
+        let at = 5 + 2 * per_table + 2 * place;
         words[at..at + 2].copy_from_slice(&[key, tier]);
     }
     words
@@ -40,8 +47,8 @@ pub fn hand_words(r: u32, s: u32, count: u32, entries: &[HandEntry], stash: &[Me
 /// The positions of the tier words with the positions of their key words, read off without the
 /// layout module.
 pub fn tier_words(words: &[u32]) -> Vec<(usize, usize)> {
-    let stash_at = 4 + 6 * words[0] as usize;
-    let slots = (4..stash_at).step_by(3).map(|at| (at + 2, at));
+    let stash_at = 5 + 6 * words[0] as usize;
+    let slots = (5..stash_at).step_by(3).map(|at| (at + 2, at));
     let places = (stash_at..words.len()).step_by(2).map(|at| (at + 1, at));
     slots.chain(places).collect()
 }
@@ -58,10 +65,10 @@ pub struct Harness<'a> {
 
 impl<'a> Harness<'a> {
     /// A fresh list; the words held something else before.
-    pub fn new(engine: &'a dyn Engine, tabulation: &[u16], r: u32, s: u32) -> Self {
-        let mut words = vec![7; (4 + 6 * r + 2 * s) as usize];
+    pub fn new(engine: &'a dyn Engine, tabulation: &[u16], r: u32, s: u32, station: u32) -> Self {
+        let mut words = vec![7; (5 + 6 * r + 2 * s) as usize];
         let mut counters = Counters::default();
-        assert_eq!(calls::init(r, s, &mut words, &mut counters), Ok(()));
+        assert_eq!(calls::init(r, s, station, &mut words, &mut counters), Ok(()));
         assert_eq!(counters, Counters { done: 1, refused: 0 });
         let scratch_len = (12 * r + 8 * s) as usize;
         Harness { engine, tabulation: tabulation.to_vec(), words, scratch_len, counters }

@@ -1,5 +1,5 @@
-//! The console program: the paper's worked listing (with tier 0, and with other tiers), its
-//! grammar, random inputs against the reference model, and the binary itself.
+//! The console program: the paper's worked listing (with tier 0, with other tiers, and at another
+//! station), its grammar, random inputs against the reference model, and the binary itself.
 
 use std::io::Write;
 use std::path::PathBuf;
@@ -12,22 +12,38 @@ use reference::fast::Fast;
 use reference::image::Slow;
 use reference::model::{Call, Model, Reply};
 use reference::rng::Rng;
-use reference::samples::{random_tabulation, test_tabulation};
+use reference::samples::{random_station, random_tabulation, test_tabulation};
 
 use crate::common::{engines, Tally};
 
-const LISTING_INPUT: &str = "2,1\nA,65,0\nA,1,0\nA,33,0\nA,97,0\nL,65\n";
+const LISTING_INPUT: &str = "2,1,0\nA,65,0\nA,1,0\nA,33,0\nA,97,0\nL,65\n";
 const LISTING_OUTPUT: &str =
     "A,65,0,0\nA,1,0,0\nA,33,0,0\nA,97,0,8\nL,65,0\nP,0,1,1,33,0\nP,1,0,33,1,0\nD,65,0\n";
 
 /// The same with other tiers and some more lines.
 const TIERS_INPUT: &str =
-    "2,1\nA,65,7\nA,1,2\nA,33,5\nA,97,3\nA,65,6\nA,65,8\nA,65,7\nL,65\nL,33\nL,97\nW,97\n";
+    "2,1,0\nA,65,7\nA,1,2\nA,33,5\nA,97,3\nA,65,6\nA,65,8\nA,65,7\nL,65\nL,33\nL,97\nW,97\n";
 const TIERS_OUTPUT: &str = "A,65,7,0\nA,1,2,0\nA,33,5,0\nA,97,3,8\nA,65,6,10\nA,65,8,9\nA,65,7,6\n\
     L,65,7\nL,33,5\nL,97,N\nW,97,7\nP,0,1,1,33,2\nP,1,0,33,1,5\nD,65,7\n";
 
 fn bytes_of(tabulation: &[u16]) -> Vec<u8> {
     tabulation.iter().flat_map(|entry| [(entry % 256) as u8, (entry / 256) as u8]).collect()
+}
+
+/// At station 31 with other fifth stretches: entry 1,024 + v is 1 for v = 32 alone, and entry
+/// 2,304 + v is 1 for v = 128 alone. So key 1, with (1 + 31) modulo 256, is moved from slot 1 of
+/// table 0 to slot 0, and key 97, with 97 + 31, from slot 0 of table 1 to slot 1; keys 65 and 33
+/// stay where the test book has them.
+const STATION_INPUT: &str =
+    "2,1,31\nA,65,7\nA,1,2\nA,33,5\nA,97,3\nL,1\nL,97\nW,65\nL,65\nA,65,8\nA,1,3\n";
+const STATION_OUTPUT: &str = "A,65,7,0\nA,1,2,0\nA,33,5,0\nA,97,3,0\nL,1,2\nL,97,3\nW,65,0\n\
+    L,65,N\nA,65,8,9\nA,1,3,10\nP,0,0,1,33,2\nP,0,1,33,97,5\nP,1,0,1,33,2\nP,1,1,97,1,3\n";
+
+fn station_tabulation() -> Vec<u16> {
+    let mut tabulation = test_tabulation();
+    tabulation[1_024 + 32] = 1;
+    tabulation[2_304 + 128] = 1;
+    tabulation
 }
 
 /// What the console prints with the test book.
@@ -43,7 +59,7 @@ fn worked_listing_and_its_words() {
         let session = session(&engine, Some(&book), LISTING_INPUT.as_bytes());
         assert_eq!(String::from_utf8(session.output).unwrap(), LISTING_OUTPUT);
         let slots = [0, 0, 0, 1, 33, 0, 33, 1, 0, 0, 0, 0];
-        assert_eq!(session.words, [&[2, 1, 3, 1], &slots[..], &[65, 0]].concat());
+        assert_eq!(session.words, [&[2, 1, 3, 1, 0], &slots[..], &[65, 0]].concat());
         assert_eq!(session.counters, Counters { done: 4, refused: 1 });
     }
 }
@@ -55,8 +71,20 @@ fn the_listing_with_other_tiers_and_its_words() {
         let session = session(&engine, Some(&book), TIERS_INPUT.as_bytes());
         assert_eq!(String::from_utf8(session.output).unwrap(), TIERS_OUTPUT);
         let slots = [0, 0, 0, 1, 33, 2, 33, 1, 5, 0, 0, 0];
-        assert_eq!(session.words, [&[2, 1, 3, 1], &slots[..], &[65, 7]].concat());
+        assert_eq!(session.words, [&[2, 1, 3, 1, 0], &slots[..], &[65, 7]].concat());
         assert_eq!(session.counters, Counters { done: 4, refused: 5 });
+    }
+}
+
+#[test]
+fn a_listing_at_another_station_and_its_words() {
+    let book = bytes_of(&station_tabulation());
+    for (_, engine) in engines() {
+        let session = session(&engine, Some(&book), STATION_INPUT.as_bytes());
+        assert_eq!(String::from_utf8(session.output).unwrap(), STATION_OUTPUT);
+        let slots = [1, 33, 2, 33, 97, 5, 1, 33, 2, 97, 1, 3];
+        assert_eq!(session.words, [&[2, 1, 3, 0, 31], &slots[..], &[0, 0]].concat());
+        assert_eq!(session.counters, Counters { done: 6, refused: 2 });
     }
 }
 
@@ -64,40 +92,50 @@ fn the_listing_with_other_tiers_and_its_words() {
 fn a_book_of_another_length_prints_b_whatever_the_input() {
     for input in [LISTING_INPUT, "", "x"] {
         assert_eq!(run(&Fast, None, input.as_bytes()), b"B\n");
-        for len in [0, 1, 4_095, 4_097, 2_048, 8_192] {
+        for len in [0, 1, 5_119, 5_121, 4_096, 2_560, 10_240] {
             assert_eq!(run(&Fast, Some(&vec![0; len]), input.as_bytes()), b"B\n");
         }
     }
-    assert_eq!(run(&Fast, Some(&[0; 4_096]), b"1,0"), b"");
+    assert_eq!(run(&Fast, Some(&[0; 5_120]), b"1,0,0"), b"");
 }
 
 #[test]
 fn the_book_is_read_low_byte_first() {
-    let mut bytes = vec![0; 4_096];
+    let mut bytes = vec![0; 5_120];
     bytes[2 * 9 + 1] = 2; // entry 9 is 512
+    bytes[5_119] = 1; // entry 2,559, the last of table 1's fifth stretch, is 256
     let printed = b"A,9,4,0\nP,0,512,9,9,4\nP,1,0,9,9,4\n";
-    assert_eq!(run(&Fast, Some(&bytes), b"1000,0\nA,9,4"), printed);
+    assert_eq!(run(&Fast, Some(&bytes), b"1000,0,0\nA,9,4"), printed);
+    let printed = b"A,9,4,0\nP,0,512,9,9,4\nP,1,256,9,9,4\n";
+    assert_eq!(run(&Fast, Some(&bytes), b"1000,0,246\nA,9,4"), printed, "9 + 246 is 255");
 }
 
 /// Line 1 of every form that is not accepted: E,1 and nothing more, whatever follows.
 #[test]
 fn a_bad_line_1_stops_the_program() {
-    let refused = "0,1|1025,1|1,65|4294967295,1|1,4294967295|2147483649,1|1,2147483649";
+    let refused = "0,1,0|1025,1,0|1,65,0|4294967295,1,0|1,4294967295,0|2147483649,1,0\
+        |1,2147483649,0|2,1,256|2,1,257|2,1,512|2,1,65536|2,1,2147483648|2,1,4294967295|0,65,256";
     let other_forms =
-        "|2|2,|,1|,|2,1,|2,1,1|2;1|02,1|2,01|00,1|+2,1|-2,1|2,-0|2, 1| 2,1|2,1 |2,1\r|2.0,1\
-        |0x2,1|4294967296,1|2,4294967296|2,99999999999999999999|A,65|A,65,0|\"2\",1|2,1\0|٢,1";
+        "|2|2,|,1|,|2,1|1,0|1024,64|2,1,|2,,0|,1,0|,,|2,1,0,|2,1,0,0|,2,1,0|2,1;0|2;1,0|02,1,0\
+        |2,01,0|2,1,00|2,1,01|2,1,007|00,1,0|+2,1,0|-2,1,0|2,-0,0|2,1,-0|2,1,+0|2,1,-1|2, 1,0\
+        |2,1, 0| 2,1,0|2,1,0 |2,1,0\r|2,1\r|2.0,1,0|2,1,0.0|0x2,1,0|2,1,0x0|4294967296,1,0\
+        |2,4294967296,0|2,1,4294967296|2,1,4294967551|2,1,18446744073709551616\
+        |2,99999999999999999999,0|A,65|A,65,0|2,1,A|\"2\",1,0|2,1,\"0\"|2,1,0\0|2,1,\0|٢,1,0\
+        |2,1,٠";
     for line in refused.split('|').chain(other_forms.split('|')) {
-        for rest in ["", "\n", "\nA,65,0\n", "\n2,1\nA,65,0\n"] {
+        for rest in ["", "\n", "\nA,65,0\n", "\n2,1,0\nA,65,0\n"] {
             assert_eq!(printed(format!("{line}{rest}")), "E,1\n", "{line:?} {rest:?}");
         }
     }
     assert_eq!(printed(""), "E,1\n", "line 1 is absent");
-    assert_eq!(printed(b"\xff,1"), "E,1\n");
+    assert_eq!(printed(b"\xff,1,0"), "E,1\n");
+    assert_eq!(printed(b"2,1,\xff"), "E,1\n");
 }
 
 #[test]
 fn an_accepted_line_1_prints_nothing() {
-    for line in ["2,1", "1,0", "1024,64", "1024,64\n", "1,64"] {
+    for line in ["2,1,0", "1,0,0", "1024,64,0", "1024,64,255", "1024,64,255\n", "1,64,10", "1,0,9"]
+    {
         assert_eq!(printed(line), "", "{line:?}");
     }
 }
@@ -108,7 +146,7 @@ fn lines_of_another_form_print_their_number() {
     let other_forms =
         "|,|A|A,|,5|A,5|A,5,|A,,5|A,,|,,|,5,5|A,5,5,|A,,5,5|A,5,,5|A,5,5,5|A,5,5,0|A;5,0|A,5;0\
         |a,5,0|w,5|l,5|AA,5,0|B,5,0|B,5|C,5|P,0,1,1,1|P,0,1,1,1,0|D,65|D,65,0|E,2|2,1|2,1,0|5,0\
-        |5,A,0|A,05,0|A,00,0|A,+5,0|A,-5,0|A,-0,0|A, 5,0|A,5 ,0| A,5,0|A ,5,0|A,5,0\r|\r| \
+        |2,1,0,0|5,A,0|A,05,0|A,00,0|A,+5,0|A,-5,0|A,-0,0|A, 5,0|A,5 ,0| A,5,0|A ,5,0|A,5,0\r|\r| \
         |A,5.0,0|A,5e0,0|A,0x5,0|A,4294967296,0|A,4294967300,0|A,42949672950,0\
         |A,10000000000,0|W,4294967296|L,4294967296|A,18446744073709551621,0|A,\"5\",0\
         |A,5\0,0|A,5,0\0|L,|L,01|W,01|W,|W|L|A\t5,0|A,5\t,0|A,٥,0|A,4 294,0|A,5,B|A,B,5|A,5,N\
@@ -117,18 +155,18 @@ fn lines_of_another_form_print_their_number() {
         |A,0,4294967296|A,0,08|W,5,0|L,5,0|W,5,3|L,5,3|W,0,0|L,0,0|W,5,|L,5,";
     for line in other_forms.split('|') {
         let expected = "A,5,3,0\nE,3\nL,5,3\nP,0,1,5,5,3\nP,1,0,5,5,3\n";
-        assert_eq!(printed(format!("2,1\nA,5,3\n{line}\nL,5\n")), expected, "{line:?}");
+        assert_eq!(printed(format!("2,1,0\nA,5,3\n{line}\nL,5\n")), expected, "{line:?}");
     }
-    assert_eq!(printed(b"2,1\nA,\xff,0\n\xc3\x28\nA,1,\xff\n"), "E,2\nE,3\nE,4\n");
+    assert_eq!(printed(b"2,1,0\nA,\xff,0\n\xc3\x28\nA,1,\xff\n"), "E,2\nE,3\nE,4\n");
     // A line may be of any length.
     let zeros = "0".repeat(100_000);
-    let long = format!("2,1\nA,{zeros},0\nA,1{zeros},0\nA,1,{zeros}\nA,1,1{zeros}\n");
+    let long = format!("2,1,0\nA,{zeros},0\nA,1{zeros},0\nA,1,{zeros}\nA,1,1{zeros}\n");
     assert_eq!(printed(long), "E,2\nE,3\nE,4\nE,5\n");
 }
 
 #[test]
 fn every_line_counts_for_its_number() {
-    let input = format!("2,1\n{}\nA,x,0\n", "L,1\n\n".repeat(60));
+    let input = format!("2,1,0\n{}\nA,x,0\n", "L,1\n\n".repeat(60));
     let expected: String =
         (0..60).map(|i| format!("L,1,N\nE,{}\n", 3 + 2 * i)).collect::<String>() + "E,122\nE,123\n";
     assert_eq!(printed(input), expected);
@@ -137,36 +175,36 @@ fn every_line_counts_for_its_number() {
 #[test]
 fn a_newline_or_the_end_of_input_ends_a_line() {
     let listed = "A,5,1,0\nP,0,1,5,5,1\nP,1,0,5,5,1\n";
-    assert_eq!(printed("2,1\nA,5,1"), listed, "the last newline is missing");
-    assert_eq!(printed("2,1\nA,5,1\n"), listed, "nothing after the last newline is no line");
+    assert_eq!(printed("2,1,0\nA,5,1"), listed, "the last newline is missing");
+    assert_eq!(printed("2,1,0\nA,5,1\n"), listed, "nothing after the last newline is no line");
     assert_eq!(
-        printed("2,1\nA,5,1\n\n"),
+        printed("2,1,0\nA,5,1\n\n"),
         listed.replacen("P", "E,3\nP", 1),
         "an empty line is a line"
     );
-    assert_eq!(printed("2,1\n "), "E,2\n");
+    assert_eq!(printed("2,1,0\n "), "E,2\n");
     assert_eq!(printed("\n"), "E,1\n");
 }
 
 #[test]
 fn answers_and_refusals_are_printed_by_number() {
-    assert_eq!(printed("2,1\nL,0\nA,0,0\nW,0\nA,0,8\n"), "L,0,R5\nA,0,0,5\nW,0,5\nA,0,8,5\n");
+    assert_eq!(printed("2,1,0\nL,0\nA,0,0\nW,0\nA,0,8\n"), "L,0,R5\nA,0,0,5\nW,0,5\nA,0,8,5\n");
     assert_eq!(
-        printed("2,1\nW,7\nA,7,2\nA,7,2\nA,7,0\nL,7\nW,7\nL,7\n"),
+        printed("2,1,0\nW,7\nA,7,2\nA,7,2\nA,7,0\nL,7\nW,7\nL,7\n"),
         "W,7,7\nA,7,2,0\nA,7,2,6\nA,7,0,10\nL,7,2\nW,7,0\nL,7,N\n"
     );
     // A tier above 7 is of a right form, and refused with 9, before 10 and 6.
     assert_eq!(
-        printed("2,1\nA,7,8\nA,7,4294967295\nA,7,7\nA,7,8\nW,7\n"),
+        printed("2,1,0\nA,7,8\nA,7,4294967295\nA,7,7\nA,7,8\nW,7\n"),
         "A,7,8,9\nA,7,4294967295,9\nA,7,7,0\nA,7,8,9\nW,7,0\n"
     );
     let last = "A,4294967295,7,0\nL,4294967295,7\n\
         P,0,1,4294967295,4294967295,7\nP,1,1,4294967295,4294967295,7\n";
-    assert_eq!(printed("2,1\nA,4294967295,7\nL,4294967295"), last);
+    assert_eq!(printed("2,1,0\nA,4294967295,7\nL,4294967295"), last);
     // Three keys in the stash are printed in ascending order, one a line; 10 and 9 go before 8.
     let full = "A,9,1,0\nA,7,6,0\nA,5,0,0\nA,3,4,0\nA,1,3,0\nA,2,0,8\nA,9,1,6\nA,9,2,10\nA,2,8,9\n\
         P,0,0,1,3,3\nP,1,0,3,1,4\nD,5,0\nD,7,6\nD,9,1\n";
-    let input = "1,3\nA,9,1\nA,7,6\nA,5,0\nA,3,4\nA,1,3\nA,2,0\nA,9,1\nA,9,2\nA,2,8\n";
+    let input = "1,3,0\nA,9,1\nA,7,6\nA,5,0\nA,3,4\nA,1,3\nA,2,0\nA,9,1\nA,9,2\nA,2,8\n";
     assert_eq!(printed(input), full);
 }
 
@@ -216,7 +254,7 @@ fn reread(line: &str) -> Option<(&str, u32, u32)> {
 
 /// What the console should print for a line, by the reference model.
 fn answered(model: &mut Model<Slow>, line: &str, line_number: usize, tally: &mut Tally) -> String {
-    let (tabulation_len, scratch_len) = (2_048, 10_000);
+    let (tabulation_len, scratch_len) = (2_560, 10_000);
     let Some((letter, key, tier)) = reread(line) else {
         tally.add("lines of another form");
         return format!("E,{line_number}\n");
@@ -240,12 +278,12 @@ fn answered(model: &mut Model<Slow>, line: &str, line_number: usize, tally: &mut
 /// The P and D lines of words, read off without the layout module.
 fn listing(words: &[u32]) -> String {
     let r = words[0] as usize;
-    let slots = (0..2 * r).filter(|slot| words[4 + 3 * slot] != 0);
+    let slots = (0..2 * r).filter(|slot| words[5 + 3 * slot] != 0);
     let filled = slots.map(|slot| {
-        let [key, next, tier] = [4, 5, 6].map(|at| words[at + 3 * slot]);
+        let [key, next, tier] = [5, 6, 7].map(|at| words[at + 3 * slot]);
         format!("P,{},{},{key},{next},{tier}\n", slot / r, slot % r)
     });
-    let places = (4 + 6 * r..words.len()).step_by(2).filter(|&at| words[at] != 0);
+    let places = (5 + 6 * r..words.len()).step_by(2).filter(|&at| words[at] != 0);
     let stash = places.map(|at| format!("D,{},{}\n", words[at], words[at + 1]));
     filled.chain(stash).collect()
 }
@@ -257,8 +295,20 @@ fn random_inputs_print_what_the_reference_model_answers() {
     for _ in 0..500 {
         let (r, s) = (1 + rng.below(3) as u32, rng.below(3) as u32);
         let tabulation = random_tabulation(&mut rng, 5);
-        let mut model = Model::new(Slow, &tabulation, r, s).unwrap();
-        let mut input = format!("{r},{s}\n");
+        let station = random_station(&mut rng);
+        let mut model = Model::new(Slow, &tabulation, r, s, station).unwrap();
+        if rng.one_in(10) {
+            let line_1 = match rng.below(4) {
+                0 => format!("{r},{s}"),
+                1 => format!("{r},{s},{}", station + 256),
+                2 => format!("{r},{s},{}", rng.next_u32() | 256),
+                _ => format!("{r},{s},{station},{station}"),
+            };
+            let output = run(&Fast, Some(&bytes_of(&tabulation)), line_1.as_bytes());
+            assert_eq!(output, b"E,1\n", "{line_1:?}");
+            tally.add("wrong line 1");
+        }
+        let mut input = format!("{r},{s},{station}\n");
         let mut expected = String::new();
         for line_number in 2..2 + rng.below(30) {
             let line = random_line(&mut rng);
@@ -277,6 +327,7 @@ fn random_inputs_print_what_the_reference_model_answers() {
     }
     let wanted = [
         "inputs",
+        "wrong line 1",
         "lines",
         "lines of another form",
         "A 0",
@@ -325,7 +376,12 @@ fn the_binary_reads_book_bin_and_standard_input() {
     assert_eq!(run_binary("listing", Some(&book), listing), LISTING_OUTPUT.as_bytes());
     let tiers = TIERS_INPUT.as_bytes();
     assert_eq!(run_binary("tiers", Some(&book), tiers), TIERS_OUTPUT.as_bytes());
+    let station =
+        run_binary("station", Some(&bytes_of(&station_tabulation())), STATION_INPUT.as_bytes());
+    assert_eq!(station, STATION_OUTPUT.as_bytes());
+    assert_eq!(run_binary("no-station", Some(&book), b"2,1\nA,65,0\n"), b"E,1\n");
     assert_eq!(run_binary("no-input", Some(&book), b""), b"E,1\n");
     assert_eq!(run_binary("no-book", None, listing), b"B\n");
     assert_eq!(run_binary("short-book", Some(&book[1..]), listing), b"B\n");
+    assert_eq!(run_binary("old-book", Some(&book[..4_096]), listing), b"B\n");
 }

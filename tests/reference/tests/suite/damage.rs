@@ -1,6 +1,6 @@
-//! Damage of single words, tier words included: check finds it, unless the damaged words are the
-//! image of another set. Which words are images is told by a table of the images of all sets over a
-//! few keys and tiers.
+//! Damage of single words, tier words and the station included: check finds it, unless the damaged
+//! words are the image of another set or of the same set at another station. Which words are images
+//! is told by a table of the images of all sets over a few keys and tiers at two stations.
 
 use std::collections::BTreeMap;
 
@@ -8,7 +8,7 @@ use reference::answer::Refusal;
 use reference::calls::check;
 use reference::image::{Engine, Slow};
 use reference::rng::Rng;
-use reference::samples::chosen_tabulation;
+use reference::samples::{chosen_tabulation, random_station};
 use reference::set::Member;
 
 use crate::common::{all_sets, engines, hand_words, tier_words, Tally};
@@ -22,9 +22,10 @@ fn checked(tabulation: &[u16], words: &[u32]) -> Result<(), Refusal> {
 }
 
 /// A small board: its tabulation and the images of all sets of keys from 1 to 5 with tiers from 0
-/// to 2.
+/// to 2, at two stations.
 struct Images {
     tabulation: Vec<u16>,
+    stations: [u32; 2],
     sets: BTreeMap<Vec<u32>, Vec<Member>>,
 }
 
@@ -33,18 +34,27 @@ impl Images {
         let (r, s) = (1 + rng.below(2) as u32, rng.below(3) as u32);
         let ends: Vec<[u16; 2]> =
             (0..6).map(|_| [rng.below(2) as u16, rng.below(2) as u16]).collect();
-        let tabulation = chosen_tabulation(&ends);
+        let mut tabulation = chosen_tabulation(&ends);
+        // Some ones in the fifth stretches, so that another station moves some keys.
+        for at in (1_024..1_280).chain(2_304..2_560) {
+            tabulation[at] = rng.one_in(4).into();
+        }
+        let station = random_station(rng);
+        let stations = [station, (station + 1 + rng.below(255) as u32) % 256];
         let sets = all_sets(&[1, 2, 3, 4, 5], &[0, 1, 2]);
-        let images = sets
-            .into_iter()
-            .filter_map(|set| Some((Slow.image(&tabulation, r, s, &set)?, set)))
-            .collect();
-        Images { sets: images, tabulation }
+        let mut images = BTreeMap::new();
+        for station in stations {
+            for set in &sets {
+                let image = Slow.image(&tabulation, r, s, station, set);
+                images.extend(image.map(|words| (words, set.clone())));
+            }
+        }
+        Images { tabulation, stations, sets: images }
     }
 
-    /// The image of the empty set and some others.
+    /// The images of the empty set and some others.
     fn some(&self, rng: &mut Rng) -> Vec<(&Vec<u32>, &Vec<Member>)> {
-        self.sets.iter().filter(|(_, set)| set.is_empty() || rng.one_in(16)).collect()
+        self.sets.iter().filter(|(_, set)| set.is_empty() || rng.one_in(32)).collect()
     }
 }
 
@@ -53,6 +63,7 @@ fn kind(words: &[u32], at: usize) -> &'static str {
     match tier_words(words).into_iter().find(|&(tier_at, _)| tier_at == at) {
         Some((_, key_at)) if words[key_at] == 0 => "tier beside no key",
         Some(_) => "tier beside a key",
+        None if at == 4 => "station",
         None => "other word",
     }
 }
@@ -66,22 +77,31 @@ fn a_damaged_word_is_found_unless_the_words_are_another_image() {
         for (words, set) in images.some(&mut rng) {
             assert_eq!(checked(&images.tabulation, words), Ok(()));
             for at in 2..words.len() {
-                // Values of the few keys and tiers, and tiers above 7, so that the table of images
-                // tells the answer.
+                // Values of the few keys, tiers and stations, tiers above 7 and stations above 255,
+                // so that the table of images tells the answer.
                 let kind = kind(words, at);
-                let values = if kind == "other word" {
-                    [0, 1, 2, 3, 4, 5]
-                } else {
-                    [0, 1, 2, 8, 9, u32::MAX]
+                let [station, other_station] = images.stations;
+                let values = match kind {
+                    "other word" => [0, 1, 2, 3, 4, 5],
+                    "station" => [station, other_station, 256, 256 + station, 1 << 31, u32::MAX],
+                    _ => [0, 1, 2, 8, 9, u32::MAX],
                 };
                 for value in values.into_iter().filter(|&value| value != words[at]) {
                     let mut damaged = words.clone();
                     damaged[at] = value;
                     let other = images.sets.get(&damaged);
-                    assert_ne!(other, Some(set));
-                    let expected = other.map(|_| ()).ok_or(Refusal::NotCanonical);
+                    let is_same_set = other == Some(set);
+                    assert_eq!(is_same_set, kind == "station" && other.is_some());
+                    let wrong_station = kind == "station" && value > 255;
+                    let refusal =
+                        if wrong_station { Refusal::WrongShape } else { Refusal::NotCanonical };
+                    let expected = other.map(|_| ()).ok_or(refusal);
                     assert_eq!(checked(&images.tabulation, &damaged), expected, "{damaged:?}");
-                    let outcome = if other.is_some() { "another image" } else { "found" };
+                    let outcome = match expected {
+                        Ok(()) => "another image",
+                        Err(Refusal::WrongShape) => "wrong shape",
+                        Err(_) => "found",
+                    };
                     tally.add(format!("{kind}: {outcome}"));
                     assert!(kind != "tier beside no key" || other.is_none());
                 }
@@ -92,6 +112,9 @@ fn a_damaged_word_is_found_unless_the_words_are_another_image() {
     }
     let wanted = [
         "images",
+        "station: wrong shape",
+        "station: found",
+        "station: another image",
         "other word: found",
         "other word: another image",
         "tier beside a key: found",
@@ -119,12 +142,19 @@ fn any_value_in_a_word_is_found_unless_the_words_are_another_image() {
                 damaged[at] = value;
                 let answer = checked(&images.tabulation, &damaged);
                 assert_eq!(answer, expected_of(&images.tabulation, words, set, at, value));
-                let outcome = if answer.is_ok() { "another image" } else { "found" };
+                let outcome = match answer {
+                    Ok(()) => "another image",
+                    Err(Refusal::WrongShape) => "wrong shape",
+                    Err(_) => "found",
+                };
                 tally.add(format!("{}: {outcome}", kind(words, at)));
             }
         }
     }
     let wanted = [
+        "station: wrong shape",
+        "station: found",
+        "station: another image",
         "other word: found",
         "other word: another image",
         "tier beside a key: found",
@@ -137,7 +167,8 @@ fn any_value_in_a_word_is_found_unless_the_words_are_another_image() {
 /// What check should answer with this value in one word of the image of a set.
 ///
 /// Only a stash key, or the tier of a key that stands in one place only, is told by a single word;
-/// only with such a word changed can the words be the image of another set.
+/// only with such a word changed can the words be the image of another set. With another station
+/// they can only be the image of the same set.
 fn expected_of(
     tabulation: &[u16],
     words: &[u32],
@@ -145,12 +176,20 @@ fn expected_of(
     at: usize,
     value: u32,
 ) -> Result<(), Refusal> {
-    let stash_at = 4 + 6 * words[0] as usize;
+    let stash_at = 5 + 6 * words[0] as usize;
     let key_words: Vec<usize> = tier_words(words).into_iter().map(|(_, key_at)| key_at).collect();
     let beside = tier_words(words).into_iter().find(|&(tier_at, _)| tier_at == at);
     let mut other = set.to_vec();
     let mut damaged = words.to_vec();
     damaged[at] = value;
+    let (r, s, station) = (words[0], words[1], words[4]);
+    if at == 4 && value > 255 {
+        return Err(Refusal::WrongShape);
+    }
+    if at == 4 {
+        let image = Slow.image(tabulation, r, s, value, set);
+        return if image == Some(damaged) { Ok(()) } else { Err(Refusal::NotCanonical) };
+    }
     if let Some((_, key_at)) = beside {
         let key = words[key_at];
         let copies = key_words.iter().filter(|&&key_at| words[key_at] == key).count();
@@ -158,7 +197,7 @@ fn expected_of(
         let found = other.iter_mut().filter(|member| member.0 == key);
         found.for_each(|member| member.1 = value);
         if is_set {
-            let image = Slow.image(tabulation, words[0], words[1], &other);
+            let image = Slow.image(tabulation, r, s, station, &other);
             assert_eq!(image, Some(damaged), "tiers decide over no place");
         }
         return if is_set { Ok(()) } else { Err(Refusal::NotCanonical) };
@@ -168,7 +207,7 @@ fn expected_of(
     }
     let found = other.iter_mut().filter(|member| member.0 == words[at]);
     found.for_each(|member| member.0 = value);
-    let image = Slow.image(tabulation, words[0], words[1], &other);
+    let image = Slow.image(tabulation, r, s, station, &other);
     if image == Some(damaged) {
         Ok(())
     } else {
@@ -185,7 +224,7 @@ fn damage_of_r_or_s_alone_is_a_wrong_shape() {
         for (words, _) in images.some(&mut rng) {
             for at in 0..2 {
                 // A length fixes r once s is given, and s once r is: no other value keeps the
-                // shape. The last would, if 4 + 6r + 2s wrapped at 32 bits.
+                // shape. The last would, if 5 + 6r + 2s wrapped at 32 bits.
                 let far = [1_024, 1_025, u32::MAX, words[at] ^ 1 << 30, words[at] ^ 1 << 31];
                 for value in (0..70).chain(far).filter(|&value| value != words[at]) {
                     let mut damaged = words.clone();
@@ -207,7 +246,7 @@ fn damage_of_r_or_s_alone_is_a_wrong_shape() {
 #[test]
 fn damage_of_r_and_s_together_can_keep_the_shape() {
     let tabulation = chosen_tabulation(&[]);
-    let empty = hand_words(2, 1, 0, &[], &[]);
+    let empty = hand_words(2, 1, 9, 0, &[], &[]);
     let mut turned = empty.clone();
     turned[..2].copy_from_slice(&[1, 4]);
     assert_eq!(
@@ -216,7 +255,7 @@ fn damage_of_r_and_s_together_can_keep_the_shape() {
         "the image of the empty set of another shape"
     );
     for tier in [0, 2, 7] {
-        let mut turned = Slow.image(&tabulation, 2, 1, &[(3, tier)]).unwrap();
+        let mut turned = Slow.image(&tabulation, 2, 1, 9, &[(3, tier)]).unwrap();
         turned[..2].copy_from_slice(&[1, 4]);
         assert_eq!(checked(&tabulation, &turned), Err(Refusal::NotCanonical));
     }

@@ -12,16 +12,24 @@ use reference::house::HOUSE;
 use reference::image::{next_keys, Engine, Slow};
 use reference::rng::Rng;
 use reference::samples::{
-    chosen_tabulation, random_keys, random_tabulation, random_tier, random_tiers,
+    chosen_tabulation, random_keys, random_station, random_tabulation, random_tier, random_tiers,
 };
 use reference::set::{members, set, Member, Set};
 
 use crate::common::{many_keys, numbered_ends, on_cycle, Harness, Tally};
 
 /// Compares the engines for one set and says what kinds of board it was.
-fn compare(tabulation: &[u16], r: u32, s: u32, members: &[Member], tally: &mut Tally) {
-    let image = Slow.image(tabulation, r, s, members);
-    assert_eq!(image, Fast.image(tabulation, r, s, members), "r {r}, s {s}, {members:?}");
+fn compare(
+    tabulation: &[u16],
+    r: u32,
+    s: u32,
+    station: u32,
+    members: &[Member],
+    tally: &mut Tally,
+) {
+    let image = Slow.image(tabulation, r, s, station, members);
+    let fast = Fast.image(tabulation, r, s, station, members);
+    assert_eq!(image, fast, "r {r}, s {s}, station {station}, {members:?}");
     tally.add("boards");
     if members.iter().any(|&(_, tier)| tier != 0) {
         tally.add("with tiers");
@@ -40,11 +48,12 @@ fn fast_and_slow_agree_on_random_small_boards() {
     for _ in 0..24_000 {
         let r = 1 + rng.below(6) as u32;
         let s = rng.below(5) as u32;
+        let station = random_station(&mut rng);
         let values = 1 + rng.below(10);
         let tabulation = random_tabulation(&mut rng, values);
         let count = rng.below(11);
         let keys = random_keys(&mut rng, count);
-        for component in components(&edges(&tabulation, r, &keys).unwrap()) {
+        for component in components(&edges(&tabulation, r, station, &keys).unwrap()) {
             match simple_cycles(&component).len() {
                 0 => tally.add("components: trees"),
                 1 => tally.add("components: one cycle"),
@@ -52,7 +61,7 @@ fn fast_and_slow_agree_on_random_small_boards() {
             }
         }
         let members = random_tiers(&mut rng, &keys);
-        compare(&tabulation, r, s, &members, &mut tally);
+        compare(&tabulation, r, s, station, &members, &mut tally);
     }
     let wanted = [
         "boards",
@@ -78,7 +87,8 @@ fn fast_and_slow_agree_under_all_hashes() {
                 // The tiers change with the board and from key to key.
                 let tier = |key: u32| (number as u32 + 3 * key) % 8;
                 let members: Vec<Member> = (1..=count as u32).map(|key| (key, tier(key))).collect();
-                compare(&chosen_tabulation(&ends), r as u32, s, &members, &mut tally);
+                let station = (number % 256) as u32;
+                compare(&chosen_tabulation(&ends), r as u32, s, station, &members, &mut tally);
             }
         }
     }
@@ -94,34 +104,41 @@ fn fast_and_slow_agree_on_larger_sparse_boards() {
         let tabulation = random_tabulation(&mut rng, 65_536);
         let keys = random_keys(&mut rng, 28);
         let members = random_tiers(&mut rng, &keys);
-        compare(&tabulation, 32, 1, &members, &mut tally);
+        let station = random_station(&mut rng);
+        compare(&tabulation, 32, 1, station, &members, &mut tally);
     }
     tally.report("sparse boards", &["boards", "with stash", "without stash"]);
 }
 
 #[test]
 fn engines_give_no_image_where_no_list_is() {
-    let tabulation = vec![0; 2_048];
+    let tabulation = vec![0; 2_560];
     for engine in [&Slow as &dyn Engine, &Fast] {
-        for (len, r, s, members) in [
-            (2_047, 1, 1, &[(1, 0)][..]),
-            (2_048, 0, 1, &[(1, 0)]),
-            (2_048, 1_025, 1, &[(1, 0)]),
-            (2_048, 1, 65, &[(1, 0)]),
-            (2_048, 1, 1, &[(0, 0), (1, 0)]),
-            (2_048, 1, 1, &[(1, 1), (0, 5)]),
-            (2_048, 1, 1, &[(1, 0), (2, 0), (3, 0), (4, 0)]),
-            (2_048, 1, 1, &[(1, 8)]),
-            (2_048, 1, 1, &[(1, 0), (2, u32::MAX)]),
-            (2_048, 1, 1, &[(1, 0), (1, 1)]),
-            (2_048, 1, 1, &[(1, 5), (2, 5), (1, 4)]),
+        for (len, r, s, station, members) in [
+            (2_559, 1, 1, 0, &[(1, 0)][..]),
+            (2_048, 1, 1, 0, &[(1, 0)]),
+            (2_560, 0, 1, 0, &[(1, 0)]),
+            (2_560, 1_025, 1, 0, &[(1, 0)]),
+            (2_560, 1, 65, 0, &[(1, 0)]),
+            (2_560, 1, 1, 256, &[(1, 0)]),
+            (2_560, 1, 1, 256, &[]),
+            (2_560, 1, 1, u32::MAX, &[(1, 0)]),
+            (2_560, 1, 1, u32::MAX, &[]),
+            (2_560, 1, 1, 9, &[(0, 0), (1, 0)]),
+            (2_560, 1, 1, 9, &[(1, 1), (0, 5)]),
+            (2_560, 1, 1, 9, &[(1, 0), (2, 0), (3, 0), (4, 0)]),
+            (2_560, 1, 1, 9, &[(1, 8)]),
+            (2_560, 1, 1, 9, &[(1, 0), (2, u32::MAX)]),
+            (2_560, 1, 1, 9, &[(1, 0), (1, 1)]),
+            (2_560, 1, 1, 9, &[(1, 5), (2, 5), (1, 4)]),
         ] {
-            assert_eq!(engine.image(&tabulation[..len], r, s, members), None, "{members:?}");
+            let image = engine.image(&tabulation[..len], r, s, station, members);
+            assert_eq!(image, None, "station {station}, {members:?}");
         }
-        let ordered = engine.image(&tabulation, 1, 1, &[(1, 7), (2, 0), (3, 6)]);
+        let ordered = engine.image(&tabulation, 1, 1, 255, &[(1, 7), (2, 0), (3, 6)]);
         assert!(ordered.is_some());
         assert_eq!(
-            engine.image(&tabulation, 1, 1, &[(3, 6), (1, 7), (2, 0), (3, 6), (1, 7)]),
+            engine.image(&tabulation, 1, 1, 255, &[(3, 6), (1, 7), (2, 0), (3, 6), (1, 7)]),
             ordered,
             "any order, each member once"
         );
@@ -136,11 +153,19 @@ fn cycle_rank(component: &[Edge]) -> usize {
 
 /// Checks words against the image rule a third way: no list of cycles, no assignment of its own.
 /// Says how many components of each kind there were.
-fn check_by_rule(tabulation: &[u16], r: u32, s: u32, set: &Set, words: &[u32], tally: &mut Tally) {
-    let stash_at = 4 + 6 * r as usize;
+fn check_by_rule(
+    tabulation: &[u16],
+    r: u32,
+    s: u32,
+    station: u32,
+    set: &Set,
+    words: &[u32],
+    tally: &mut Tally,
+) {
+    let stash_at = 5 + 6 * r as usize;
     let mut entries: BTreeMap<u32, Vec<(usize, u32)>> = BTreeMap::new();
     for slot in 0..2 * r as usize {
-        let (key, next, tier) = (words[4 + 3 * slot], words[5 + 3 * slot], words[6 + 3 * slot]);
+        let (key, next, tier) = (words[5 + 3 * slot], words[6 + 3 * slot], words[7 + 3 * slot]);
         if key == 0 {
             assert_eq!((next, tier), (0, 0), "an empty slot is 0, 0, 0");
         } else {
@@ -150,7 +175,7 @@ fn check_by_rule(tabulation: &[u16], r: u32, s: u32, set: &Set, words: &[u32], t
     }
     let keys: Vec<u32> = set.keys().copied().collect();
     let mut stash = BTreeSet::new();
-    for mut kept in components(&edges(tabulation, r, &keys).unwrap()) {
+    for mut kept in components(&edges(tabulation, r, station, &keys).unwrap()) {
         while cycle_rank(&kept) > 1 {
             let largest = kept
                 .iter()
@@ -171,7 +196,8 @@ fn check_by_rule(tabulation: &[u16], r: u32, s: u32, set: &Set, words: &[u32], t
             kept.iter().filter(|edge| on_cycle(&kept, edge)).map(|edge| edge.key).min()
         };
         for edge in &kept {
-            let [h0, h1] = hashes(tabulation, r, edge.key).unwrap().map(|hash| hash as usize);
+            let own = hashes(tabulation, r, station, edge.key).unwrap();
+            let [h0, h1] = own.map(|hash| hash as usize);
             let own = [h0, r as usize + h1];
             let held = entries.remove(&edge.key).expect("a kept key is stored");
             assert!(held
@@ -188,7 +214,7 @@ fn check_by_rule(tabulation: &[u16], r: u32, s: u32, set: &Set, words: &[u32], t
         }
     }
     assert!(entries.is_empty(), "nothing else is stored");
-    assert_eq!(words[..4], [r, s, keys.len() as u32, stash.len() as u32]);
+    assert_eq!(words[..5], [r, s, keys.len() as u32, stash.len() as u32, station]);
     let mut places: Vec<u32> = stash.into_iter().flat_map(|key| [key, set[&key]]).collect();
     places.resize(2 * s as usize, 0);
     assert_eq!(words[stash_at..], places);
@@ -206,15 +232,17 @@ fn images_obey_the_rule_checked_a_third_way() {
         } else {
             (12 + rng.below(20), 30)
         };
+        let (r, station) = (r as u32, random_station(&mut rng));
         let tabulation = random_tabulation(&mut rng, 1_000);
         let keys = random_keys(&mut rng, count);
         let members = random_tiers(&mut rng, &keys);
-        let Some(words) = Fast.image(&tabulation, r as u32, 64, &members) else {
+        let Some(words) = Fast.image(&tabulation, r, 64, station, &members) else {
             panic!("64 places are enough")
         };
-        check_by_rule(&tabulation, r as u32, 64, &set(&members).unwrap(), &words, &mut tally);
+        let set = set(&members).unwrap();
+        check_by_rule(&tabulation, r, 64, station, &set, &words, &mut tally);
         if board % 2 == 0 {
-            assert_eq!(Slow.image(&tabulation, r as u32, 64, &members), Some(words));
+            assert_eq!(Slow.image(&tabulation, r, 64, station, &members), Some(words));
         }
         tally.add("boards");
     }
@@ -227,7 +255,8 @@ fn full_size_lists_hold_together() {
     let mut tally = Tally::default();
     let mixed = random_tabulation(&mut rng, 65_536);
     for tabulation in [&HOUSE[..], &mixed] {
-        let mut list = Harness::new(&Fast, tabulation, 1_024, 64);
+        let station = 1 + rng.below(255) as u32;
+        let mut list = Harness::new(&Fast, tabulation, 1_024, 64, station);
         let mut listed = Set::new();
         for key in many_keys(&mut rng, 1_500) {
             let tier = random_tier(&mut rng);
@@ -246,7 +275,8 @@ fn full_size_lists_hold_together() {
         }
         tally.add_many("stash keys", list.words[3] as usize);
         let listed = members(&listed);
-        assert_eq!(Fast.image(tabulation, 1_024, 64, &listed).as_ref(), Some(&list.words));
+        let image = Fast.image(tabulation, 1_024, 64, station, &listed);
+        assert_eq!(image.as_ref(), Some(&list.words));
         let mut scratch = vec![3; 12 * 1_024 + 8 * 64];
         assert_eq!(check(&Fast, tabulation, &list.words, &mut scratch), Ok(()));
         // Take out every second key, and the list is that of the others put in afresh.
@@ -256,7 +286,7 @@ fn full_size_lists_hold_together() {
             assert_eq!(list.remove(key), Ok(()));
             tally.add("removed");
         }
-        let mut others = Harness::new(&Fast, tabulation, 1_024, 64);
+        let mut others = Harness::new(&Fast, tabulation, 1_024, 64, station);
         for (key, tier) in listed.iter().copied().skip(1).step_by(2) {
             assert_eq!(others.insert(key, tier), Ok(()));
         }

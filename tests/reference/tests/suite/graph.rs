@@ -6,7 +6,7 @@ use std::collections::{BTreeMap, BTreeSet};
 use reference::graph::{components, edges, reachable, simple_cycles, Edge};
 use reference::layout::Slot;
 use reference::rng::Rng;
-use reference::samples::{random_keys, random_tabulation};
+use reference::samples::{random_keys, random_station, random_tabulation};
 
 use crate::common::Tally;
 
@@ -42,9 +42,9 @@ fn listed_cycles_are_the_cycles_among_all_subsets() {
     let mut rng = Rng::new(21);
     let mut tally = Tally::default();
     for _ in 0..600 {
-        let r = 1 + rng.below(5) as u32;
+        let (r, station) = (1 + rng.below(5) as u32, random_station(&mut rng));
         let (tabulation, count) = (random_tabulation(&mut rng, 7), rng.below(9));
-        let edges = edges(&tabulation, r, &random_keys(&mut rng, count)).unwrap();
+        let edges = edges(&tabulation, r, station, &random_keys(&mut rng, count)).unwrap();
         let cycles = simple_cycles(&edges);
         assert_eq!(cycles, cycles_among_all_subsets(&edges), "{edges:?}");
         tally.add("boards");
@@ -63,9 +63,9 @@ fn components_are_the_connected_keys() {
     let mut rng = Rng::new(22);
     let mut tally = Tally::default();
     for _ in 0..500 {
-        let r = 1 + rng.below(6) as u32;
+        let (r, station) = (1 + rng.below(6) as u32, random_station(&mut rng));
         let (tabulation, count) = (random_tabulation(&mut rng, 9), rng.below(9));
-        let edges = edges(&tabulation, r, &random_keys(&mut rng, count)).unwrap();
+        let edges = edges(&tabulation, r, station, &random_keys(&mut rng, count)).unwrap();
         let components = components(&edges);
         assert_eq!(components.iter().map(Vec::len).sum::<usize>(), edges.len());
         let component_of = |key: u32| {

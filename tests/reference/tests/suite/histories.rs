@@ -1,5 +1,5 @@
-//! History independence: two random histories that end at one set leave the same words, and words
-//! of different sets differ.
+//! History independence: two random histories that end at one set at one station leave the same
+//! words, and words of different sets or different stations differ.
 
 use std::collections::BTreeMap;
 
@@ -7,7 +7,7 @@ use reference::answer::Refusal;
 use reference::image::{Engine, Slow};
 use reference::rng::Rng;
 use reference::samples::{
-    chosen_tabulation, random_keys, random_tabulation, random_tier, random_tiers,
+    chosen_tabulation, random_keys, random_station, random_tabulation, random_tier, random_tiers,
 };
 use reference::set::{members, Member, Set};
 
@@ -70,20 +70,21 @@ fn two_histories_of_one_set_leave_one_list() {
     for (name, engine) in engines() {
         for _ in 0..if name == "slow" { 120 } else { 1_000 } {
             let (r, s) = (1 + rng.below(4) as u32, rng.below(4) as u32);
+            let station = random_station(&mut rng);
             let tabulation = random_tabulation(&mut rng, 5);
             let keys = random_keys(&mut rng, 9);
             let target_keys = subset(&keys, rng.below(1 << 9));
             let others: Vec<u32> =
                 keys.iter().copied().filter(|key| !target_keys.contains(key)).collect();
             let target = random_tiers(&mut rng, &target_keys);
-            let Some(image) = Slow.image(&tabulation, r, s, &target) else {
+            let Some(image) = Slow.image(&tabulation, r, s, station, &target) else {
                 continue;
             };
             if target.is_empty() || others.is_empty() {
                 continue;
             }
             for _ in 0..2 {
-                let mut list = Harness::new(engine, &tabulation, r, s);
+                let mut list = Harness::new(engine, &tabulation, r, s, station);
                 random_history(&mut list, &target, &others, &mut rng, &mut tally);
                 assert_eq!(list.words, image, "{name}");
                 tally.add("histories");
@@ -117,10 +118,11 @@ fn different_sets_have_different_images() {
         let ends: Vec<[u16; 2]> =
             (0..8).map(|_| [rng.below(3) as u16, rng.below(3) as u16]).collect();
         let tabulation = chosen_tabulation(&ends);
+        let station = random_station(&mut rng);
         for (_, engine) in engines() {
             let mut seen = BTreeMap::new();
             for set in &sets {
-                let Some(words) = engine.image(&tabulation, 3, 1, set) else {
+                let Some(words) = engine.image(&tabulation, 3, 1, station, set) else {
                     continue;
                 };
                 assert_eq!(seen.insert(words, set), None);

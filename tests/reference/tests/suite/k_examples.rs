@@ -1,6 +1,7 @@
 //! Document 01's "Cards on a test board": K1 to K12, each as the image of its set and as the result
 //! of inserts in every order, with both engines. Request One: "Document 01's board has tier 0
-//! throughout." Then some of the boards with other tiers, T2 to T12.
+//! throughout." Request Five: "The test board runs with station 0". Then some of the boards with
+//! other tiers, T2 to T12.
 
 use reference::answer::Refusal;
 use reference::samples::test_tabulation;
@@ -21,7 +22,7 @@ struct Board {
 
 impl Board {
     fn words(&self) -> Vec<u32> {
-        hand_words(self.r, self.s, self.members.len() as u32, self.entries, self.stash)
+        hand_words(self.r, self.s, 0, self.members.len() as u32, self.entries, self.stash)
     }
 }
 
@@ -217,11 +218,11 @@ const BOARDS: [&Board; 21] = [
 fn boards_are_the_images_of_their_sets() {
     for (name, engine) in engines() {
         for board in BOARDS {
-            let image = engine.image(&test_tabulation(), board.r, board.s, board.members);
+            let image = engine.image(&test_tabulation(), board.r, board.s, 0, board.members);
             assert_eq!(image, Some(board.words()), "{}, {name}", board.name);
         }
         for board in [K6_TWO_PLACES, T6_TWO_PLACES] {
-            let k6 = engine.image(&test_tabulation(), 4, 1, board.members);
+            let k6 = engine.image(&test_tabulation(), 4, 1, 0, board.members);
             assert_eq!(k6, None, "{}, but s = 1, {name}", board.name);
         }
     }
@@ -233,7 +234,7 @@ fn boards_come_from_inserts_in_every_order() {
     for (name, engine) in engines() {
         for board in BOARDS {
             for order in permutations(board.members) {
-                let mut list = Harness::new(engine, &test_tabulation(), board.r, board.s);
+                let mut list = Harness::new(engine, &test_tabulation(), board.r, board.s, 0);
                 for &(key, tier) in &order {
                     assert_eq!(list.insert(key, tier), Ok(()), "{} {order:?}, {name}", board.name);
                 }
@@ -248,7 +249,7 @@ fn boards_come_from_inserts_in_every_order() {
 
 /// A list that was filled with a board's keys.
 fn filled(engine: &'static dyn reference::image::Engine, board: &Board) -> Harness<'static> {
-    let mut list = Harness::new(engine, &test_tabulation(), board.r, board.s);
+    let mut list = Harness::new(engine, &test_tabulation(), board.r, board.s, 0);
     for &(key, tier) in board.members {
         assert_eq!(list.insert(key, tier), Ok(()));
     }
@@ -288,7 +289,7 @@ fn k12_takes_two_keys_and_refuses_a_third() {
     for (_, engine) in engines() {
         for board in [K12, T12] {
             for order in permutations(board.members) {
-                let mut list = Harness::new(engine, &test_tabulation(), 1, 0);
+                let mut list = Harness::new(engine, &test_tabulation(), 1, 0, 0);
                 for (key, tier) in order {
                     assert_eq!(list.insert(key, tier), Ok(()));
                 }
@@ -310,7 +311,7 @@ fn removes_lead_back_to_k1_from_every_board() {
             for &(key, _) in board.members {
                 assert_eq!(list.remove(key), Ok(()), "{}", board.name);
             }
-            assert_eq!(list.words, hand_words(board.r, board.s, 0, &[], &[]), "{}", board.name);
+            assert_eq!(list.words, hand_words(board.r, board.s, 0, 0, &[], &[]), "{}", board.name);
         }
     }
 }

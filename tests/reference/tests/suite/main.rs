@@ -1,7 +1,7 @@
 //! The tests of the reference implementation, as one binary: document 01's boards and listings, its
-//! rules and those of requests One, Two and Four on random boards, and the fast engine against the
-//! slow one. Fixed seeds; nothing is timed. Run with `-- --nocapture` to see how many boards,
-//! sequences and lines were tried.
+//! rules and those of requests One, Two, Four and Five on random boards, and the fast engine
+//! against the slow one. Fixed seeds; nothing is timed. Run with `-- --nocapture` to see how many
+//! boards, sequences and lines were tried.
 
 mod common;
 mod console;
@@ -16,6 +16,7 @@ mod placements;
 mod refusals;
 mod sales;
 mod sequences;
+mod stations;
 mod tiers;
 mod trails;
 mod wrong_images;

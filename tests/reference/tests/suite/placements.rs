@@ -10,7 +10,7 @@ use reference::graph::{edges, Edge};
 use reference::image::{canonical_stash, Engine, Slow};
 use reference::placement::{placement, Place};
 use reference::rng::Rng;
-use reference::samples::{random_keys, random_tabulation, random_tiers};
+use reference::samples::{random_keys, random_station, random_tabulation, random_tiers};
 use reference::set::set;
 
 use crate::common::Tally;
@@ -34,10 +34,11 @@ fn matching_finds_a_placement_exactly_when_there_is_one() {
     let mut tally = Tally::default();
     for _ in 0..1_500 {
         let (r, s) = (1 + rng.below(3) as u32, rng.below(3) as u32);
+        let station = random_station(&mut rng);
         let (tabulation, count) = (random_tabulation(&mut rng, 5), rng.below(7));
         let keys = random_keys(&mut rng, count);
-        let edges = edges(&tabulation, r, &keys).unwrap();
-        let found = placement(&tabulation, r, s, &keys).unwrap();
+        let edges = edges(&tabulation, r, station, &keys).unwrap();
+        let found = placement(&tabulation, r, s, station, &keys).unwrap();
         assert_eq!(found.is_some(), placeable(&edges, &BTreeSet::new(), s));
         tally.add(if found.is_some() { "placed" } else { "not placeable" });
         let Some(found) = found else { continue };
@@ -58,17 +59,17 @@ fn the_canonical_stash_fits_exactly_when_a_placement_exists() {
     let mut rng = Rng::new(42);
     let mut tally = Tally::default();
     for _ in 0..4_000 {
-        let r = 1 + rng.below(6) as u32;
+        let (r, station) = (1 + rng.below(6) as u32, random_station(&mut rng));
         let (values, count) = (1 + rng.below(9), rng.below(9));
         let tabulation = random_tabulation(&mut rng, values);
         let keys = random_keys(&mut rng, count);
         let members = random_tiers(&mut rng, &keys);
-        let needed = canonical_stash(&tabulation, r, &keys).unwrap().len();
+        let needed = canonical_stash(&tabulation, r, station, &keys).unwrap().len();
         for s in 0..=4 {
-            let exists = placement(&tabulation, r, s, &keys).unwrap().is_some();
-            assert_eq!(needed <= s as usize, exists, "r {r}, s {s}, {keys:?}");
-            assert_eq!(Slow.image(&tabulation, r, s, &members).is_some(), exists);
-            assert_eq!(Fast.image(&tabulation, r, s, &members).is_some(), exists);
+            let exists = placement(&tabulation, r, s, station, &keys).unwrap().is_some();
+            assert_eq!(needed <= s as usize, exists, "r {r}, s {s}, station {station}, {keys:?}");
+            assert_eq!(Slow.image(&tabulation, r, s, station, &members).is_some(), exists);
+            assert_eq!(Fast.image(&tabulation, r, s, station, &members).is_some(), exists);
             tally.add(if exists { "placed" } else { "not placeable" });
         }
         tally.add("boards");
@@ -92,10 +93,11 @@ fn images_are_placements_that_lookup_reads() {
     let mut tally = Tally::default();
     for _ in 0..3_000 {
         let (r, s) = (1 + rng.below(5) as u32, rng.below(4) as u32);
+        let station = random_station(&mut rng);
         let (tabulation, count) = (random_tabulation(&mut rng, 6), rng.below(8));
         let keys = random_keys(&mut rng, count);
         let members = random_tiers(&mut rng, &keys);
-        let Some(words) = Slow.image(&tabulation, r, s, &members) else {
+        let Some(words) = Slow.image(&tabulation, r, s, station, &members) else {
             continue;
         };
         let set = set(&members).unwrap();

@@ -36,13 +36,14 @@ impl Defects {
     }
 }
 
-/// K5, whose stash is full, with other tiers: {1, 65, 129} with 129 in the stash.
+/// K5, whose stash is full, with other tiers: {1, 65, 129} with 129 in the stash. The station is 5,
+/// which changes no slot: the test tabulation has zeros in its fifth stretches.
 fn k5() -> Vec<u32> {
-    hand_words(4, 1, 3, &[(0, 1, 1, 65, 3), (1, 0, 65, 1, 0)], &[(129, 6)])
+    hand_words(4, 1, 5, 3, &[(0, 1, 1, 65, 3), (1, 0, 65, 1, 0)], &[(129, 6)])
 }
 
 /// The ways in which words can have a wrong shape; all keep their defect 4 if they have it.
-const WRONG_SHAPES: usize = 6;
+const WRONG_SHAPES: usize = 8;
 
 fn input_words(defects: Defects, way: usize) -> Vec<u32> {
     let mut words = k5();
@@ -53,10 +54,12 @@ fn input_words(defects: Defects, way: usize) -> Vec<u32> {
         match way {
             0 => drop(words.pop()),
             1 => words.push(0),
-            2 => words.truncate(3),
+            2 => words.truncate(4),
             3 => words[0] = 0,
             4 => words[1] = 65,
-            _ => words[0] = 1_025,
+            5 => words[0] = 1_025,
+            6 => words[4] = 256,
+            _ => words[4] = u32::MAX,
         }
     }
     words
@@ -65,7 +68,7 @@ fn input_words(defects: Defects, way: usize) -> Vec<u32> {
 fn input_tabulation(defects: Defects, way: usize) -> Vec<u16> {
     let mut tabulation = test_tabulation();
     if defects.has(1) {
-        tabulation.resize([2_047, 2_049, 0][way % 3], 0);
+        tabulation.resize([2_559, 2_561, 0, 2_048][way % 4], 0);
     }
     tabulation
 }
@@ -219,7 +222,7 @@ fn trail_refuses_in_order() {
 /// above 7, and so the words are no image whether the key is listed or not (7).
 fn opened(defects: Defects, way: usize) -> Answer {
     let (tabulation, mut words) = (input_tabulation(defects, way), input_words(defects, way));
-    for at in [9, 18, 29].into_iter().filter(|_| defects.has(4)) {
+    for at in [10, 19, 30].into_iter().filter(|_| defects.has(4)) {
         if let Some(tier) = words.get_mut(at) {
             *tier = [8, 9, u32::MAX][way % 3];
         }

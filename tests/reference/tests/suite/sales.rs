@@ -8,7 +8,7 @@ use reference::image::{Engine, Slow};
 use reference::model::{Call, Model, Reply};
 use reference::rng::Rng;
 use reference::sale::{close, open, Sale};
-use reference::samples::{random_tabulation, random_tier, test_tabulation};
+use reference::samples::{random_station, random_tabulation, random_tier, test_tabulation};
 
 use crate::common::{engines, hand_price, hand_words, random_prices, Harness, Tally};
 
@@ -20,7 +20,7 @@ const PRICES: [u32; 8] = [1_000, 990, 1_020, 970, 1_040, 950, 1_060, 500];
 
 /// K5 with these tiers of 1 (which is in table 0), 65 (in table 1) and 129 (in the stash).
 fn k5([of_1, of_65, of_129]: [u32; 3]) -> Vec<u32> {
-    hand_words(4, 1, 3, &[(0, 1, 1, 65, of_1), (1, 0, 65, 1, of_65)], &[(129, of_129)])
+    hand_words(4, 1, 0, 3, &[(0, 1, 1, 65, of_1), (1, 0, 65, 1, of_65)], &[(129, of_129)])
 }
 
 /// An opening on the test board.
@@ -61,7 +61,7 @@ fn a_sale_holds_key_tier_and_price() {
             assert_eq!(opened(&words, key, 1_000, &STEPS), at_1_000(key, tier));
         }
         for (_, engine) in engines() {
-            let mut list = Harness::new(engine, &test_tabulation(), 4, 0);
+            let mut list = Harness::new(engine, &test_tabulation(), 4, 0, 0);
             assert_eq!(list.insert(u32::MAX, tier), Ok(()));
             assert_eq!(list.open(u32::MAX, 1_000, &STEPS), at_1_000(u32::MAX, tier));
         }
@@ -72,12 +72,13 @@ fn a_sale_holds_key_tier_and_price() {
 #[test]
 fn every_refusal_and_its_neighbour() {
     let right_book = test_tabulation();
-    let (short_book, long_book) = (&right_book[..2_047], [&right_book[..], &[0]].concat());
+    let (short_book, long_book) = (&right_book[..2_559], [&right_book[..], &[0]].concat());
     let (right, above) = (k5([3, 0, 6]), k5([8, 8, 8]));
-    let (short, long) = (&right[..29], [&right[..], &[0]].concat());
+    let (short, long) = (&right[..30], [&right[..], &[0]].concat());
+    let no_station = hand_words(4, 1, 256, 3, &[(0, 1, 1, 65, 3), (1, 0, 65, 1, 0)], &[(129, 6)]);
     // A key 0 would have 0.0 and 1.0, and 0.0 is empty in K5. Here both hold 4, and there is no
     // stash: no zero stands where a key 0 would.
-    let no_zero = hand_words(4, 0, 1, &[(0, 0, 4, 4, 2), (1, 0, 4, 4, 2)], &[]);
+    let no_zero = hand_words(4, 0, 0, 1, &[(0, 0, 4, 4, 2), (1, 0, 4, 4, 2)], &[]);
     for (tabulation, words, key, base, answer, why) in [
         (&right_book[..], &right[..], 1, 1_000, 0, "accepted"),
         (short_book, &right, 1, 1_000, 1, "1 alone"),
@@ -85,6 +86,11 @@ fn every_refusal_and_its_neighbour() {
         (&right_book, short, 1, 1_000, 2, "2 alone"),
         (&right_book, &long, 1, 1_000, 2, "2 alone"),
         (&right_book, &[], 1, 1_000, 2, "2 alone"),
+        (&right_book[..2_048], &right, 1, 1_000, 1, "1 alone: the length without the station"),
+        (&right_book, &no_station, 1, 1_000, 2, "2 alone: a station above 255"),
+        (short_book, &no_station, 1, 1_000, 1, "1 before 2"),
+        (&right_book, &no_station, 0, 0, 2, "2 before 5"),
+        (&right_book, &no_station, 2, 0, 2, "2 before 7"),
         (&right_book, &right, 2, 1_000, 7, "7 alone"),
         (&right_book, &right, 193, 1_000, 7, "7 alone, with both its slots and the stash filled"),
         (&right_book, &above, 1, 1_000, 4, "4 alone"),
@@ -97,8 +103,8 @@ fn every_refusal_and_its_neighbour() {
         (&right_book, &above, 1, 0, 4, "4 before 12"),
         (&right_book, &right, 2, 0, 7, "7 before 12"),
         (&right_book, &above, 0, 0, 5, "5 before 4 and 12"),
-        (&right_book, &above[..29], 0, 0, 2, "2 before 5, 4 and 12"),
-        (&[], &above[..29], 0, 0, 1, "1 before all"),
+        (&right_book, &above[..30], 0, 0, 2, "2 before 5, 4 and 12"),
+        (&[], &above[..30], 0, 0, 1, "1 before all"),
     ] {
         let opened = open(tabulation, words, key, base, &STEPS);
         assert_eq!(number(opened.map(|_| ())), answer, "{key}, {base}: {why}");
@@ -231,7 +237,9 @@ fn a_tier_above_7_is_4_before_12() {
     }
 }
 
-/// Damage of each word but r and s: it counts only where it takes the key away or changes its tier.
+/// Damage of each word but r and s: it counts only where it takes the key away or changes its tier,
+/// or where the station is above 255. (Another station changes no slot here: the fifth stretches
+/// are zero.)
 #[test]
 fn a_list_tampered_in_any_other_way_is_not_refused() {
     let words = k5([3, 0, 6]);
@@ -242,8 +250,9 @@ fn a_list_tampered_in_any_other_way_is_not_refused() {
             let mut damaged = words.clone();
             damaged[at] = value;
             let is_image = check(&Slow, &test_tabulation(), &damaged, &mut [0; 56]).is_ok();
-            for (key, tier, key_at, tier_at) in [(1, 3, 7, 9), (65, 0, 16, 18), (129, 6, 28, 29)] {
+            for (key, tier, key_at, tier_at) in [(1, 3, 8, 10), (65, 0, 17, 19), (129, 6, 29, 30)] {
                 let expected = match at {
+                    4 if value > 255 => Err(Refusal::WrongShape),
                     _ if at == key_at => Err(Refusal::NotListed),
                     _ if at == tier_at => at_1_000(key, value),
                     _ => at_1_000(key, tier),
@@ -255,7 +264,7 @@ fn a_list_tampered_in_any_other_way_is_not_refused() {
             }
         }
     }
-    let wanted = ["no image, 0", "no image, 7", "no image, 4", "an image, 0"];
+    let wanted = ["no image, 0", "no image, 2", "no image, 7", "no image, 4", "an image, 0"];
     tally.report("tampered lists", &wanted);
 }
 
@@ -271,7 +280,7 @@ fn of_several_copies_the_first_counts() {
             let mut entries = vec![(0, 0, 17, 17, 2)];
             entries.extend((0..2).filter(|&copy| has(copy)).map(|copy| slots[copy]));
             let place = |copy: usize| if has(copy) { (17, tiers[copy]) } else { (3, 17) };
-            let words = hand_words(4, 3, 1, &entries, &[place(2), place(3), place(4)]);
+            let words = hand_words(4, 3, 0, 1, &entries, &[place(2), place(3), place(4)]);
             let expected = match (0..5).find(|&copy| has(copy)) {
                 Some(first) => at_1_000(17, tiers[first]),
                 None => Err(Refusal::NotListed),
@@ -286,7 +295,7 @@ fn of_several_copies_the_first_counts() {
 #[test]
 fn a_sale_closes_with_its_price_whatever_the_list_does() {
     for (_, engine) in engines() {
-        let mut list = Harness::new(engine, &test_tabulation(), 4, 1);
+        let mut list = Harness::new(engine, &test_tabulation(), 4, 1, 0);
         for (key, tier) in [(1, 3), (65, 0), (129, 6)] {
             assert_eq!(list.insert(key, tier), Ok(()));
         }
@@ -344,15 +353,15 @@ struct Runs<'a> {
 impl<'a> Runs<'a> {
     fn start(engine: &'a dyn Engine, rng: &mut Rng) -> Self {
         let (r, s) = (1 + rng.below(3) as u32, rng.below(3) as u32);
-        let tabulation = random_tabulation(rng, 4);
-        let [with, without] = [(); 2].map(|_| Harness::new(engine, &tabulation, r, s));
-        let model = Model::new(Slow, &tabulation, r, s).unwrap();
+        let (tabulation, station) = (random_tabulation(rng, 4), random_station(rng));
+        let [with, without] = [(); 2].map(|_| Harness::new(engine, &tabulation, r, s, station));
+        let model = Model::new(Slow, &tabulation, r, s, station).unwrap();
         Runs { with, without, model, sales: Vec::new() }
     }
 
     /// A random call that is no sale, made in both runs.
     fn call(&mut self, rng: &mut Rng, tally: &mut Tally) {
-        let (tabulation_len, scratch_len) = (2_048, self.with.scratch_len);
+        let (tabulation_len, scratch_len) = (2_560, self.with.scratch_len);
         let (key, tier, trail_sheet_len) = (rng.below(7) as u32, random_tier(rng), rng.below(5));
         let (call, name) = match rng.below(10) {
             0..=3 => (Call::Insert { tabulation_len, scratch_len, key, tier }, "insert"),
@@ -377,7 +386,7 @@ impl<'a> Runs<'a> {
     fn open(&mut self, rng: &mut Rng, tally: &mut Tally) {
         let (key, (base, steps)) = (rng.below(7) as u32, random_prices(rng));
         let listed = lookup(&self.without.tabulation, &self.without.words, key);
-        let call = Call::Open { tabulation_len: 2_048, key, base, steps: steps.clone() };
+        let call = Call::Open { tabulation_len: 2_560, key, base, steps: steps.clone() };
         let reply = made(&mut self.with, &call);
         assert_eq!(self.model.feed(&call), reply, "{call:?}");
         let Reply::Open(opened) = reply else { unreachable!("{reply:?} to an opening") };
@@ -459,26 +468,27 @@ fn a_run_with_sales_is_the_run_without_them() {
 /// The reference model by hand: it answers an opening from its own set, and the set stays.
 #[test]
 fn the_model_answers_sales() {
-    let (tabulation_len, scratch_len) = (2_048, 56);
-    let mut model = Model::new(Slow, &test_tabulation(), 4, 1).unwrap();
+    let (tabulation_len, scratch_len) = (2_560, 56);
+    let mut model = Model::new(Slow, &test_tabulation(), 4, 1, 0).unwrap();
     for (key, tier) in [(1, 3), (65, 0), (129, 6)] {
         let call = Call::Insert { tabulation_len, scratch_len, key, tier };
         assert_eq!(model.feed(&call), Reply::Answer(Ok(())));
     }
     let (words, set) = (model.words(), model.set().clone());
     for (tabulation_len, key, base, steps, opened) in [
-        (2_048, 1, 1_000, &STEPS[..], Ok(Sale { key: 1, tier: 3, price: 970 })),
-        (2_048, 65, 99_999, &[500; 8], Ok(Sale { key: 65, tier: 0, price: 100_499 })),
-        (2_048, 129, 501, &[-500; 8], Ok(Sale { key: 129, tier: 6, price: 1 })),
-        (2_048, 129, 500, &[-500; 8], Err(Refusal::WrongPrice)),
-        (2_048, 129, 0, &STEPS, Err(Refusal::WrongPrice)),
-        (2_048, 129, 100_000, &STEPS, Err(Refusal::WrongPrice)),
-        (2_048, 129, 1_000, &STEPS[..7], Err(Refusal::WrongPrice)),
-        (2_048, 129, 1_000, &[0, 0, 0, 0, 0, 0, 0, 501], Err(Refusal::WrongPrice)),
-        (2_048, 2, 0, &STEPS, Err(Refusal::NotListed)),
-        (2_048, 0, 0, &STEPS, Err(Refusal::BlankKey)),
-        (2_047, 0, 0, &STEPS, Err(Refusal::WrongTabulation)),
-        (2_049, 1, 1_000, &STEPS, Err(Refusal::WrongTabulation)),
+        (2_560, 1, 1_000, &STEPS[..], Ok(Sale { key: 1, tier: 3, price: 970 })),
+        (2_560, 65, 99_999, &[500; 8], Ok(Sale { key: 65, tier: 0, price: 100_499 })),
+        (2_560, 129, 501, &[-500; 8], Ok(Sale { key: 129, tier: 6, price: 1 })),
+        (2_560, 129, 500, &[-500; 8], Err(Refusal::WrongPrice)),
+        (2_560, 129, 0, &STEPS, Err(Refusal::WrongPrice)),
+        (2_560, 129, 100_000, &STEPS, Err(Refusal::WrongPrice)),
+        (2_560, 129, 1_000, &STEPS[..7], Err(Refusal::WrongPrice)),
+        (2_560, 129, 1_000, &[0, 0, 0, 0, 0, 0, 0, 501], Err(Refusal::WrongPrice)),
+        (2_560, 2, 0, &STEPS, Err(Refusal::NotListed)),
+        (2_560, 0, 0, &STEPS, Err(Refusal::BlankKey)),
+        (2_559, 0, 0, &STEPS, Err(Refusal::WrongTabulation)),
+        (2_561, 1, 1_000, &STEPS, Err(Refusal::WrongTabulation)),
+        (2_048, 1, 1_000, &STEPS, Err(Refusal::WrongTabulation)),
     ] {
         let call = Call::Open { tabulation_len, key, base, steps: steps.to_vec() };
         assert_eq!(model.feed(&call), Reply::Open(opened), "{call:?}");

@@ -10,7 +10,7 @@ use reference::image::{Engine, Slow};
 use reference::model::{Call, Model, Reply};
 use reference::rng::Rng;
 use reference::sale::{close, open, Sale};
-use reference::samples::{random_keys, random_tabulation, random_tiers};
+use reference::samples::{random_keys, random_station, random_tabulation, random_tiers};
 use reference::set::Set;
 
 use crate::common::{engines, hand_price, random_prices, Tally};
@@ -51,6 +51,7 @@ struct Sequence<'a> {
     tabulation: Vec<u16>,
     r: u32,
     s: u32,
+    station: u32,
     words: Vec<u32>,
     counters: Counters,
     /// Always by the definition, whichever engine stands behind the calls.
@@ -62,24 +63,24 @@ struct Sequence<'a> {
 impl<'a> Sequence<'a> {
     fn start(engine: &'a dyn Engine, rng: &mut Rng) -> Self {
         let (r, s) = (1 + rng.below(3) as u32, rng.below(3) as u32);
-        let tabulation = random_tabulation(rng, 4);
-        let mut words: Vec<u32> = (0..4 + 6 * r + 2 * s).map(|_| rng.next_u32()).collect();
+        let (tabulation, station) = (random_tabulation(rng, 4), random_station(rng));
+        let mut words: Vec<u32> = (0..5 + 6 * r + 2 * s).map(|_| rng.next_u32()).collect();
         let mut counters = Counters { done: rng.next_u32(), refused: rng.next_u32() };
-        assert_eq!(init(r, s, &mut words, &mut counters), Ok(()));
-        let model = Model::new(Slow, &tabulation, r, s).unwrap();
+        assert_eq!(init(r, s, station, &mut words, &mut counters), Ok(()));
+        let model = Model::new(Slow, &tabulation, r, s, station).unwrap();
         assert_eq!(
             words,
             model.words(),
             "with no call at all the words are the image of the empty set"
         );
-        Sequence { engine, tabulation, r, s, words, counters, model, sales: Vec::new() }
+        Sequence { engine, tabulation, r, s, station, words, counters, model, sales: Vec::new() }
     }
 
     /// The sequence's tabulation, or now and then one of a wrong length.
     fn input_tabulation(&self, rng: &mut Rng) -> Vec<u16> {
         let mut tabulation = self.tabulation.clone();
         if rng.one_in(12) {
-            let len = rng.pick(&[0, 1, 2_047, 2_049, 4_096]);
+            let len = rng.pick(&[0, 1, 2_048, 2_559, 2_561, 5_120]);
             tabulation.resize(len, 1);
         }
         tabulation
@@ -139,14 +140,17 @@ impl<'a> Sequence<'a> {
             15 | 16 => return self.close(rng),
             _ => {
                 // A call of another kind that is refused: an init with another shape.
-                let (r, s) = rng.pick(&[
-                    (self.r, self.s + 1),
-                    (self.r + 1, self.s),
-                    (0, self.s),
-                    (self.r, u32::MAX),
-                    (self.r + (1 << 31), self.s),
+                let (r, s, station) = rng.pick(&[
+                    (self.r, self.s + 1, self.station),
+                    (self.r + 1, self.s, self.station),
+                    (0, self.s, self.station),
+                    (self.r, u32::MAX, self.station),
+                    (self.r + (1 << 31), self.s, self.station),
+                    (self.r, self.s, 256),
+                    (self.r, self.s, self.station + 256),
+                    (self.r, self.s, u32::MAX),
                 ]);
-                let answer = init(r, s, words, counters);
+                let answer = init(r, s, station, words, counters);
                 return (Call::Other { refusal: Refusal::WrongShape }, Reply::Answer(answer));
             }
         };
@@ -289,15 +293,19 @@ fn sequences_answer_as_the_reference_model() {
 
 #[test]
 fn the_model_starts_only_where_init_is_accepted() {
-    let tabulation = vec![0; 2_048];
-    assert!(Model::new(Slow, &tabulation, 1_024, 64).is_ok());
-    for (len, r, s, refusal) in [
-        (2_047, 1, 1, Refusal::WrongTabulation),
-        (2_048, 0, 1, Refusal::WrongShape),
-        (2_048, 1_025, 1, Refusal::WrongShape),
-        (2_048, 1, 65, Refusal::WrongShape),
+    let tabulation = vec![0; 2_560];
+    assert!(Model::new(Slow, &tabulation, 1_024, 64, 255).is_ok());
+    for (len, r, s, station, refusal) in [
+        (2_559, 1, 1, 0, Refusal::WrongTabulation),
+        (2_048, 1, 1, 0, Refusal::WrongTabulation),
+        (2_559, 1, 1, 256, Refusal::WrongTabulation),
+        (2_560, 0, 1, 0, Refusal::WrongShape),
+        (2_560, 1_025, 1, 0, Refusal::WrongShape),
+        (2_560, 1, 65, 0, Refusal::WrongShape),
+        (2_560, 1, 1, 256, Refusal::WrongShape),
+        (2_560, 1, 1, u32::MAX, Refusal::WrongShape),
     ] {
-        assert_eq!(Model::new(Slow, &tabulation[..len], r, s).err(), Some(refusal));
+        assert_eq!(Model::new(Slow, &tabulation[..len], r, s, station).err(), Some(refusal));
     }
 }
 
@@ -305,12 +313,16 @@ fn the_model_starts_only_where_init_is_accepted() {
 /// repeat.
 fn any_words(rng: &mut Rng) -> Vec<u32> {
     let (r, s) = (1 + rng.below(3) as u32, rng.below(3) as u32);
-    let right_len = (4 + 6 * r + 2 * s) as usize;
+    let right_len = (5 + 6 * r + 2 * s) as usize;
     let len = if rng.one_in(4) { rng.below(28) } else { right_len };
     let mut words: Vec<u32> =
         (0..len).map(|_| if rng.one_in(3) { rng.below(7) as u32 } else { 0 }).collect();
-    for (at, value) in [(0, r), (1, s)] {
-        let value = if rng.one_in(10) { rng.next_u32() } else { value };
+    for (at, value) in [(0, r), (1, s), (4, random_station(rng))] {
+        let value = match rng.below(20) {
+            0 => rng.next_u32(),
+            1 => value + 256,
+            _ => value,
+        };
         if let Some(word) = words.get_mut(at) {
             *word = value;
         }
@@ -318,7 +330,7 @@ fn any_words(rng: &mut Rng) -> Vec<u32> {
     words
 }
 
-/// The words of an image, half of the time with one word changed.
+/// The words of an image, half of the time with one word changed, now and then the station.
 fn almost_image(tabulation: &[u16], rng: &mut Rng) -> Option<Vec<u32>> {
     let (r, s) = (1 + rng.below(3) as u32, rng.below(3) as u32);
     let count = rng.below(5);
@@ -326,10 +338,15 @@ fn almost_image(tabulation: &[u16], rng: &mut Rng) -> Option<Vec<u32>> {
     keys.iter_mut().for_each(|key| *key = 1 + *key % 7);
     keys.sort_unstable();
     keys.dedup();
-    let mut words = Slow.image(tabulation, r, s, &random_tiers(rng, &keys))?;
-    if rng.one_in(2) {
-        let at = rng.below(words.len());
-        words[at] = rng.below(9) as u32;
+    let station = random_station(rng);
+    let mut words = Slow.image(tabulation, r, s, station, &random_tiers(rng, &keys))?;
+    match rng.below(12) {
+        0 => words[4] = rng.below(512) as u32,
+        1..=5 => {
+            let at = rng.below(words.len());
+            words[at] = rng.below(9) as u32;
+        }
+        _ => {}
     }
     Some(words)
 }
@@ -359,7 +376,7 @@ fn calls_are_total_and_the_engines_agree_on_any_memory() {
     let mut rng = Rng::new(62);
     let mut tally = Tally::default();
     for _ in 0..6_000 {
-        let tabulation_len = if rng.one_in(15) { rng.below(3_000) } else { 2_048 };
+        let tabulation_len = if rng.one_in(15) { rng.below(3_000) } else { 2_560 };
         let tabulation: Vec<u16> = (0..tabulation_len).map(|_| rng.below(4) as u16).collect();
         let image = if rng.one_in(2) { almost_image(&tabulation, &mut rng) } else { None };
         let words = image.unwrap_or_else(|| any_words(&mut rng));

@@ -7,7 +7,9 @@ use reference::fast;
 use reference::image::Slow;
 use reference::model::{Call, Model, Reply};
 use reference::rng::Rng;
-use reference::samples::{random_keys, random_tabulation, random_tiers, test_tabulation, tier_0};
+use reference::samples::{
+    random_keys, random_station, random_tabulation, random_tiers, test_tabulation, tier_0,
+};
 use reference::set::{members, set, Member};
 
 use crate::common::{all_sets, engines, hand_words, tier_words, Harness, Tally};
@@ -33,7 +35,7 @@ fn found(words: &[u32], key: u32) -> Result<Found, Refusal> {
 fn nine_and_ten_come_in_their_order() {
     for (_, engine) in engines() {
         // K5 with other tiers: the stash is full.
-        let mut list = Harness::new(engine, &test_tabulation(), 4, 1);
+        let mut list = Harness::new(engine, &test_tabulation(), 4, 1, 0);
         for (key, tier) in [(1, 3), (65, 0), (129, 6)] {
             assert_eq!(list.insert(key, tier), Ok(()));
         }
@@ -64,12 +66,12 @@ fn nine_and_ten_come_in_their_order() {
 fn every_tier_to_7_is_accepted_and_none_above() {
     for (_, engine) in engines() {
         for tier in 0..=300 {
-            let mut list = Harness::new(engine, &test_tabulation(), 4, 1);
+            let mut list = Harness::new(engine, &test_tabulation(), 4, 1, 0);
             let answer = list.insert(17, tier);
             if tier <= 7 {
                 assert_eq!(answer, Ok(()));
                 let entries = [(0, 1, 17, 17, tier), (1, 1, 17, 17, tier)];
-                assert_eq!(list.words, hand_words(4, 1, 1, &entries, &[]));
+                assert_eq!(list.words, hand_words(4, 1, 0, 1, &entries, &[]));
                 assert_eq!(found(&list.words, 17), Ok(Found::Listed(tier)));
             } else {
                 assert_eq!(answer, Err(Refusal::WrongTier));
@@ -90,7 +92,7 @@ fn an_insert_of_a_listed_key_never_changes_its_tier() {
             let (r, s) = (1 + rng.below(4) as u32, rng.below(4) as u32);
             let (tabulation, count) = (random_tabulation(&mut rng, 5), 1 + rng.below(6));
             let keys = random_keys(&mut rng, count);
-            let mut list = Harness::new(engine, &tabulation, r, s);
+            let mut list = Harness::new(engine, &tabulation, r, s, random_station(&mut rng));
             let mut listed: Vec<Member> = random_tiers(&mut rng, &keys);
             listed.retain(|&(key, tier)| list.insert(key, tier).is_ok());
             let words = list.words.clone();
@@ -131,10 +133,10 @@ fn two_copies_with_unlike_tiers_are_tampering() {
             let k3 = [(0, 1, 1, 17, tier0), (1, 0, 1, 17, tier1), (1, 1, 17, 1, 5)];
             let expected =
                 if tier0 == tier1 && tier0 <= 7 { Ok(()) } else { Err(Refusal::NotCanonical) };
-            let k2 = hand_words(4, 1, 1, &k2, &[]);
+            let k2 = hand_words(4, 1, 0, 1, &k2, &[]);
             assert_eq!(checked(&k2), expected, "{tier0}, {tier1}");
             assert_eq!(found(&k2, 17), Ok(Found::Listed(tier0)), "the first counts");
-            let k3 = hand_words(4, 1, 2, &k3, &[]);
+            let k3 = hand_words(4, 1, 0, 2, &k3, &[]);
             assert_eq!(checked(&k3), expected, "{tier0}, {tier1}");
             assert_eq!(found(&k3, 1), Ok(Found::Listed(tier0)), "the first counts");
         }
@@ -146,7 +148,7 @@ fn two_copies_with_unlike_tiers_are_tampering() {
 #[test]
 fn a_wrong_tier_anywhere_stops_inserts_and_removes() {
     for (_, engine) in engines() {
-        let mut list = Harness::new(engine, &test_tabulation(), 4, 2);
+        let mut list = Harness::new(engine, &test_tabulation(), 4, 2, 0);
         for (key, tier) in [(1, 3), (65, 0), (129, 6), (17, 2)] {
             assert_eq!(list.insert(key, tier), Ok(()));
         }
@@ -165,7 +167,7 @@ fn a_wrong_tier_anywhere_stops_inserts_and_removes() {
                     assert_eq!(list.remove(key), Err(Refusal::NotCanonical));
                 }
                 assert_eq!(stash_answer(&list.words), Ok(()), "the view does not look");
-                assert_eq!(stash(&list.words), &list.words[28..30]);
+                assert_eq!(stash(&list.words), &list.words[29..31]);
             }
         }
     }
@@ -186,7 +188,7 @@ fn a_lookup_on_a_tampered_list_takes_the_first() {
         entries.extend(has(1).then_some(at_11));
         let place = |bit: usize, tier: u32| if has(bit) { (17, tier) } else { (3, 17) };
         let stash = [place(2, 7), place(3, 0), place(4, u32::MAX)];
-        let words = hand_words(4, 3, 1, &entries, &stash);
+        let words = hand_words(4, 3, 0, 1, &entries, &stash);
         let first = (0..5).find(|&bit| has(bit));
         let expected =
             first.map_or(Found::Absent, |bit| Found::Listed([4, 9, 7, 0, u32::MAX][bit]));
@@ -200,9 +202,9 @@ fn a_lookup_on_a_tampered_list_takes_the_first() {
 fn a_lookup_gives_the_tier_word_as_it_stands() {
     for tier in [0, 7, 8, 255, 1 << 31, u32::MAX] {
         let expected = Ok(Found::Listed(tier));
-        assert_eq!(found(&hand_words(4, 1, 1, &[(0, 1, 17, 17, tier)], &[]), 17), expected);
-        assert_eq!(found(&hand_words(4, 1, 1, &[(1, 1, 17, 17, tier)], &[]), 17), expected);
-        assert_eq!(found(&hand_words(4, 1, 1, &[], &[(17, tier)]), 17), expected);
+        assert_eq!(found(&hand_words(4, 1, 0, 1, &[(0, 1, 17, 17, tier)], &[]), 17), expected);
+        assert_eq!(found(&hand_words(4, 1, 0, 1, &[(1, 1, 17, 17, tier)], &[]), 17), expected);
+        assert_eq!(found(&hand_words(4, 1, 0, 1, &[], &[(17, tier)]), 17), expected);
     }
 }
 
@@ -215,7 +217,7 @@ fn the_same_keys_with_different_tiers_give_different_words() {
     for (_, engine) in engines() {
         let mut images: Vec<Vec<u32>> = sets
             .iter()
-            .map(|set| engine.image(&test_tabulation(), 4, 1, set).expect("K9 fits"))
+            .map(|set| engine.image(&test_tabulation(), 4, 1, 0, set).expect("K9 fits"))
             .collect();
         images.sort();
         images.dedup();
@@ -231,13 +233,14 @@ fn tiers_change_tier_words_alone() {
     let mut tally = Tally::default();
     for _ in 0..2_000 {
         let (r, s) = (1 + rng.below(5) as u32, rng.below(4) as u32);
+        let station = random_station(&mut rng);
         let (tabulation, count) = (random_tabulation(&mut rng, 6), rng.below(9));
         let keys = random_keys(&mut rng, count);
         let members = random_tiers(&mut rng, &keys);
         let tiers = set(&members).unwrap();
         for (_, engine) in engines() {
-            let plain = engine.image(&tabulation, r, s, &tier_0(&keys));
-            let tiered = engine.image(&tabulation, r, s, &members);
+            let plain = engine.image(&tabulation, r, s, station, &tier_0(&keys));
+            let tiered = engine.image(&tabulation, r, s, station, &members);
             tally.add(if plain.is_some() { "images" } else { "no image" });
             let expected = plain.map(|mut words| {
                 for (at, key_at) in tier_words(&words) {
@@ -255,8 +258,8 @@ fn tiers_change_tier_words_alone() {
 /// The reference model by hand: its set has tiers, and its view has both words of each place.
 #[test]
 fn the_model_keeps_tiers() {
-    let (tabulation_len, scratch_len) = (2_048, 56);
-    let mut model = Model::new(Slow, &test_tabulation(), 4, 1).unwrap();
+    let (tabulation_len, scratch_len) = (2_560, 56);
+    let mut model = Model::new(Slow, &test_tabulation(), 4, 1, 0).unwrap();
     let mut insert = |key: u32, tier: u32| match model.feed(&Call::Insert {
         tabulation_len,
         scratch_len,

@@ -14,8 +14,8 @@ use reference::image::{Engine, Slow};
 use reference::model::{Call, Model, Reply};
 use reference::rng::Rng;
 use reference::samples::{
-    chosen_tabulation, random_keys, random_tabulation, random_tier, random_tiers, test_tabulation,
-    tier_0,
+    chosen_tabulation, random_keys, random_station, random_tabulation, random_tier, random_tiers,
+    test_tabulation, tier_0,
 };
 use reference::set::Member;
 
@@ -39,7 +39,7 @@ impl Board {
 
     /// The list with this set, and with tiers that differ.
     fn list(&self, engine: &'static dyn Engine) -> Harness<'static> {
-        let mut list = Harness::new(engine, &test_tabulation(), self.r, self.s);
+        let mut list = Harness::new(engine, &test_tabulation(), self.r, self.s, 0);
         for key in self.keys() {
             assert_eq!(list.insert(key, key % 8), Ok(()), "{}", self.name);
         }
@@ -192,10 +192,14 @@ fn short_scratch_and_damaged_words_are_refused() {
             for at in 0..words.len() {
                 list.words = words.clone();
                 list.words[at] ^= 1 << 20;
-                let refusal = if at < 2 { Refusal::WrongShape } else { Refusal::NotCanonical };
+                let refusal = if [0, 1, 4].contains(&at) {
+                    Refusal::WrongShape
+                } else {
+                    Refusal::NotCanonical
+                };
                 if list.check() != Err(refusal) {
                     // One stash key for another can be the image of another set.
-                    assert!(list.check().is_ok() && at >= 4 + 6 * board.r as usize);
+                    assert!(list.check().is_ok() && at >= 5 + 6 * board.r as usize);
                     continue;
                 }
                 for &key in keys.iter().chain(&[0, 5]) {
@@ -209,12 +213,12 @@ fn short_scratch_and_damaged_words_are_refused() {
 
 /// The key that a slot of the words holds, 0 for none; read off without the layout module.
 fn held(words: &[u32], table: usize, index: u32) -> u32 {
-    words[4 + 3 * (table * words[0] as usize + index as usize)]
+    words[5 + 3 * (table * words[0] as usize + index as usize)]
 }
 
 /// The tables in whose slot the key sits.
 fn tables_of(tabulation: &[u16], words: &[u32], key: u32) -> Vec<usize> {
-    let own = hashes(tabulation, words[0], key).unwrap();
+    let own = hashes(tabulation, words[0], words[4], key).unwrap();
     (0..2).filter(|&table| held(words, table, own[table]) == key).collect()
 }
 
@@ -225,7 +229,7 @@ fn check_steps(tabulation: &[u16], words: &[u32], key: u32, trail: &[u32]) {
     assert_eq!(once.len(), trail.len(), "no key twice");
     assert!(trail.len() <= 2 * words[0] as usize, "at most 2r");
     for pair in trail.windows(2) {
-        let own = hashes(tabulation, words[0], pair[0]).unwrap();
+        let own = hashes(tabulation, words[0], words[4], pair[0]).unwrap();
         let [table] = tables_of(tabulation, words, pair[0])[..] else {
             panic!("{} is not the root and sits in one slot", pair[0])
         };
@@ -259,21 +263,32 @@ fn root(edges: &[Edge], stash: &[u32], key: u32) -> (u32, &'static str) {
 }
 
 /// Checks the trails of all keys of a set, by both engines and by the request's sentences.
-fn check_board(tabulation: &[u16], r: u32, s: u32, members: &[Member], tally: &mut Tally) {
-    let Some(words) = Fast.image(tabulation, r, s, members) else {
+fn check_board(
+    tabulation: &[u16],
+    r: u32,
+    s: u32,
+    station: u32,
+    members: &[Member],
+    tally: &mut Tally,
+) {
+    let Some(words) = Fast.image(tabulation, r, s, station, members) else {
         for (_, engine) in engines() {
             for key in (0..9).chain(members.iter().map(|&(key, _)| key)) {
-                assert_eq!(engine.trail(tabulation, r, s, members, key), None, "no image");
+                assert_eq!(engine.trail(tabulation, r, s, station, members, key), None, "no image");
             }
         }
         return tally.add("no image");
     };
     let keys: Vec<u32> = members.iter().map(|&(key, _)| key).collect();
-    let edges = edges(tabulation, r, &keys).unwrap();
-    let stash: Vec<u32> = words[4 + 6 * r as usize..].iter().copied().step_by(2).collect();
+    let edges = edges(tabulation, r, station, &keys).unwrap();
+    let stash: Vec<u32> = words[5 + 6 * r as usize..].iter().copied().step_by(2).collect();
     for &key in &keys {
-        let trail = Slow.trail(tabulation, r, s, members, key).expect("it is in the set");
-        assert_eq!(Fast.trail(tabulation, r, s, members, key).as_ref(), Some(&trail), "{key}");
+        let trail = Slow.trail(tabulation, r, s, station, members, key).expect("it is in the set");
+        assert_eq!(
+            Fast.trail(tabulation, r, s, station, members, key).as_ref(),
+            Some(&trail),
+            "{key}"
+        );
         tally.add(format!("trail of {}", trail.len().min(5)));
         if stash.contains(&key) {
             assert_eq!(trail, [], "a stash key's trail is empty");
@@ -281,7 +296,7 @@ fn check_board(tabulation: &[u16], r: u32, s: u32, members: &[Member], tally: &m
         }
         check_steps(tabulation, &words, key, &trail);
         let (root, kind) = root(&edges, &stash, key);
-        assert_eq!(trail.last(), Some(&root), "{kind}: r {r}, {members:?}, {key}");
+        assert_eq!(trail.last(), Some(&root), "{kind}: r {r}, {station}, {members:?}, {key}");
         tally.add(kind);
         if root == key {
             tally.add("trail of the root");
@@ -300,7 +315,7 @@ fn trails_on_random_small_boards() {
         let tabulation = random_tabulation(&mut rng, values);
         let keys = random_keys(&mut rng, count);
         let members = random_tiers(&mut rng, &keys);
-        check_board(&tabulation, r, s, &members, &mut tally);
+        check_board(&tabulation, r, s, random_station(&mut rng), &members, &mut tally);
     }
     let wanted = [
         "boards",
@@ -328,9 +343,9 @@ fn trails_under_all_hashes() {
             for number in 0..(r * r).pow(count as u32) {
                 let ends = numbered_ends(number, r, count);
                 let keys: Vec<u32> = (1..=count as u32).collect();
-                let s = (number % 4) as u32;
+                let (s, station) = ((number % 4) as u32, (number % 256) as u32);
                 let tabulation = chosen_tabulation(&ends);
-                check_board(&tabulation, r as u32, s, &tier_0(&keys), &mut tally);
+                check_board(&tabulation, r as u32, s, station, &tier_0(&keys), &mut tally);
             }
         }
     }
@@ -342,23 +357,27 @@ fn trails_under_all_hashes() {
 fn engines_give_no_trail_outside_the_set() {
     let tabulation = vec![0; TABULATION_LEN];
     for (_, engine) in engines() {
-        for (len, r, s, members, key) in [
-            (2_048, 1, 1, &[(1, 0)][..], 2),
-            (2_048, 1, 1, &[(1, 0)], 0),
-            (2_048, 1, 1, &[], 1),
-            (2_047, 1, 1, &[(1, 0)], 1),
-            (2_048, 0, 1, &[(1, 0)], 1),
-            (2_048, 1, 65, &[(1, 0)], 1),
-            (2_048, 1, 1, &[(0, 0)], 0),
-            (2_048, 1, 1, &[(1, 8)], 1),
-            (2_048, 1, 1, &[(1, 0), (1, 1)], 1),
-            (2_048, 1, 0, &[(1, 0), (2, 0), (3, 0)], 1),
+        for (len, r, s, station, members, key) in [
+            (2_560, 1, 1, 9, &[(1, 0)][..], 2),
+            (2_560, 1, 1, 9, &[(1, 0)], 0),
+            (2_560, 1, 1, 9, &[], 1),
+            (2_559, 1, 1, 0, &[(1, 0)], 1),
+            (2_048, 1, 1, 0, &[(1, 0)], 1),
+            (2_560, 0, 1, 0, &[(1, 0)], 1),
+            (2_560, 1, 65, 0, &[(1, 0)], 1),
+            (2_560, 1, 1, 256, &[(1, 0)], 1),
+            (2_560, 1, 1, u32::MAX, &[(1, 0)], 1),
+            (2_560, 1, 1, 9, &[(0, 0)], 0),
+            (2_560, 1, 1, 9, &[(1, 8)], 1),
+            (2_560, 1, 1, 9, &[(1, 0), (1, 1)], 1),
+            (2_560, 1, 0, 9, &[(1, 0), (2, 0), (3, 0)], 1),
         ] {
-            assert_eq!(engine.trail(&tabulation[..len], r, s, members, key), None, "{members:?}");
+            let trail = engine.trail(&tabulation[..len], r, s, station, members, key);
+            assert_eq!(trail, None, "station {station}, {members:?}");
         }
         let any_order = [(3, 6), (1, 7), (2, 0), (3, 6), (1, 7)];
         for (key, trail) in [(1, vec![1]), (2, vec![2, 1]), (3, vec![])] {
-            assert_eq!(engine.trail(&tabulation, 1, 1, &any_order, key), Some(trail));
+            assert_eq!(engine.trail(&tabulation, 1, 1, 255, &any_order, key), Some(trail));
         }
     }
 }
@@ -370,14 +389,14 @@ fn tiers_and_free_stash_places_change_no_trail() {
     let mut tally = Tally::default();
     for _ in 0..300 {
         let (r, tabulation) = (1 + rng.below(5) as u32, random_tabulation(&mut rng, 6));
-        let count = rng.below(9);
+        let (count, station) = (rng.below(9), random_station(&mut rng));
         let keys = subset(&random_keys(&mut rng, count), rng.below(1 << 9));
         let members = random_tiers(&mut rng, &keys);
         for &key in &keys {
-            let plain = Slow.trail(&tabulation, r, 64, &tier_0(&keys), key);
+            let plain = Slow.trail(&tabulation, r, 64, station, &tier_0(&keys), key);
             for (_, engine) in engines() {
-                assert_eq!(engine.trail(&tabulation, r, 64, &members, key), plain);
-                let fewer = engine.trail(&tabulation, r, count as u32, &members, key);
+                assert_eq!(engine.trail(&tabulation, r, 64, station, &members, key), plain);
+                let fewer = engine.trail(&tabulation, r, count as u32, station, &members, key);
                 assert_eq!(fewer, plain);
             }
             tally.add("keys");
@@ -387,14 +406,15 @@ fn tiers_and_free_stash_places_change_no_trail() {
 }
 
 /// A tabulation under which keys 1 to 2r form one cycle, for each r: key k has the hashes k/2 and
-/// (k + 1)/2 rounded down, so each key has one slot in common with the key before it.
+/// (k + 1)/2 rounded down, so each key has one slot in common with the key before it. The fifth
+/// stretches are zero, so any station will do.
 fn cycle_tabulation() -> Vec<u16> {
     let mut tabulation = vec![0; TABULATION_LEN];
     for byte in 0..256 {
         tabulation[byte] = byte as u16 / 2;
-        tabulation[1_024 + byte] = (byte as u16).div_ceil(2);
+        tabulation[1_280 + byte] = (byte as u16).div_ceil(2);
         tabulation[256 + byte] = 128 * byte as u16;
-        tabulation[1_280 + byte] = 128 * byte as u16;
+        tabulation[1_536 + byte] = 128 * byte as u16;
     }
     tabulation
 }
@@ -404,11 +424,12 @@ fn cycle_tabulation() -> Vec<u16> {
 /// each key k in the slot in common with k - 1; key k's other slot is held by k + 1. Without key 2r
 /// there is a path, key 1 sits in both its slots, and each key's other slot leads down to it.
 fn check_longest(engine: &dyn Engine, r: u32, tally: &mut Tally) {
-    let tabulation = cycle_tabulation();
+    let (tabulation, station) = (cycle_tabulation(), r % 256);
     let keys: Vec<u32> = (1..=2 * r).collect();
+    let image = |keys: &[u32]| engine.image(&tabulation, r, 0, station, &tier_0(keys));
     let mut list = Harness {
         engine,
-        words: engine.image(&tabulation, r, 0, &tier_0(&keys)).expect("one cycle needs no stash"),
+        words: image(&keys).expect("one cycle needs no stash"),
         tabulation: tabulation.clone(),
         scratch_len: 12 * r as usize,
         counters: Default::default(),
@@ -422,7 +443,7 @@ fn check_longest(engine: &dyn Engine, r: u32, tally: &mut Tally) {
     assert_eq!(list.trail(longest[middle], 2 * r as usize), Ok(longest[middle..].to_vec()));
     assert_eq!(list.trail(1, 1), Ok(vec![1]));
     let path = &keys[..keys.len() - 1];
-    list.words = engine.image(&tabulation, r, 0, &tier_0(path)).expect("a path needs no stash");
+    list.words = image(path).expect("a path needs no stash");
     let down: Vec<u32> = path.iter().rev().copied().collect();
     assert_eq!(list.trail(2 * r - 1, path.len()), Ok(down.clone()), "a tree gives 2r - 1");
     assert_eq!(list.trail(1, 1), Ok(vec![1]));
@@ -448,7 +469,7 @@ fn trails_of_2r_keys_are_reached() {
 fn step(tabulation: &[u16], words: &[u32], key: u32) -> u32 {
     match tables_of(tabulation, words, key)[..] {
         [table] => {
-            let own = hashes(tabulation, words[0], key).unwrap();
+            let own = hashes(tabulation, words[0], words[4], key).unwrap();
             held(words, 1 - table, own[1 - table])
         }
         _ => key,
@@ -457,9 +478,9 @@ fn step(tabulation: &[u16], words: &[u32], key: u32) -> u32 {
 
 /// The next number of a stored key.
 fn next(tabulation: &[u16], words: &[u32], key: u32) -> u32 {
-    let own = hashes(tabulation, words[0], key).unwrap();
+    let own = hashes(tabulation, words[0], words[4], key).unwrap();
     let table = tables_of(tabulation, words, key)[0];
-    words[5 + 3 * (table * words[0] as usize + own[table] as usize)]
+    words[6 + 3 * (table * words[0] as usize + own[table] as usize)]
 }
 
 /// On lists too large for the definition the end of a trail is told by where the steps would lead
@@ -492,7 +513,8 @@ fn trails_on_full_size_lists() {
                 .into_iter()
                 .map(|key| (key, random_tier(&mut rng)))
                 .collect();
-            let Some(words) = Fast.image(tabulation, 1_024, 64, &members) else {
+            let station = 1 + rng.below(255) as u32;
+            let Some(words) = Fast.image(tabulation, 1_024, 64, station, &members) else {
                 tally.add("no image");
                 continue;
             };
@@ -536,8 +558,8 @@ fn trails_on_full_size_lists() {
 /// The reference model by hand: it answers a trail from its own set, and the set stays.
 #[test]
 fn the_model_answers_trails() {
-    let (tabulation_len, scratch_len) = (2_048, 56);
-    let mut model = Model::new(Slow, &test_tabulation(), 4, 1).unwrap();
+    let (tabulation_len, scratch_len) = (2_560, 56);
+    let mut model = Model::new(Slow, &test_tabulation(), 4, 1, 0).unwrap();
     // K11.
     for key in [98, 225, 1, 34, 65] {
         let call = Call::Insert { tabulation_len, scratch_len, key, tier: 2 };
@@ -545,16 +567,17 @@ fn the_model_answers_trails() {
     }
     let words = model.words();
     for (tabulation_len, scratch_len, key, trail_sheet_len, trail) in [
-        (2_048, 56, 34, 3, Ok(vec![34, 225, 1])),
-        (2_048, 99, 34, 9, Ok(vec![34, 225, 1])),
-        (2_048, 56, 1, 1, Ok(vec![1])),
-        (2_048, 56, 98, 0, Ok(vec![])),
-        (2_048, 56, 34, 2, Err(Refusal::ShortTrailSheet)),
-        (2_048, 56, 1, 0, Err(Refusal::ShortTrailSheet)),
-        (2_048, 56, 33, 0, Err(Refusal::NotListed)),
-        (2_048, 56, 0, 0, Err(Refusal::BlankKey)),
-        (2_048, 55, 0, 0, Err(Refusal::ShortScratch)),
-        (2_047, 55, 0, 0, Err(Refusal::WrongTabulation)),
+        (2_560, 56, 34, 3, Ok(vec![34, 225, 1])),
+        (2_560, 99, 34, 9, Ok(vec![34, 225, 1])),
+        (2_560, 56, 1, 1, Ok(vec![1])),
+        (2_560, 56, 98, 0, Ok(vec![])),
+        (2_560, 56, 34, 2, Err(Refusal::ShortTrailSheet)),
+        (2_560, 56, 1, 0, Err(Refusal::ShortTrailSheet)),
+        (2_560, 56, 33, 0, Err(Refusal::NotListed)),
+        (2_560, 56, 0, 0, Err(Refusal::BlankKey)),
+        (2_560, 55, 0, 0, Err(Refusal::ShortScratch)),
+        (2_559, 55, 0, 0, Err(Refusal::WrongTabulation)),
+        (2_048, 56, 34, 3, Err(Refusal::WrongTabulation)),
     ] {
         let call = Call::Trail { tabulation_len, scratch_len, key, trail_sheet_len };
         assert_eq!(model.feed(&call), Reply::Trail(trail), "{call:?}");

@@ -27,9 +27,9 @@ fn tiered(keys: &[u32]) -> Vec<Member> {
     keys.iter().map(|&key| (key, tier(key))).collect()
 }
 
-/// The image of a set of keys with r = 4, s = 1.
+/// The image of a set of keys with r = 4, s = 1 and station 0.
 fn right_words(keys: &[u32]) -> Vec<u32> {
-    image(&test_tabulation(), 4, 1, &tiered(keys)).expect("the board has an image")
+    image(&test_tabulation(), 4, 1, 0, &tiered(keys)).expect("the board has an image")
 }
 
 /// The words of a wrong shuffle with r = 4, s = 1: every assignment with its own cycle of next
@@ -44,12 +44,12 @@ fn wrong_words(parts: &[&Assignment], stash: &[u32]) -> Vec<u32> {
                 .map(|(&slot, &key)| (slot, Entry { key, next: next[&key], tier: tier(key) })),
         );
     }
-    Shape::new(4, 1).unwrap().write(&contents)
+    Shape::new(4, 1, 0).unwrap().write(&contents)
 }
 
 /// The one component of a set of keys on the test board.
 fn component(keys: &[u32]) -> Vec<reference::graph::Edge> {
-    let mut parts = components(&edges(&test_tabulation(), 4, keys).unwrap());
+    let mut parts = components(&edges(&test_tabulation(), 4, 0, keys).unwrap());
     assert_eq!(parts.len(), 1, "{keys:?} is one component");
     parts.remove(0)
 }
@@ -76,7 +76,7 @@ fn largest_key_of_the_component_in_the_stash() {
     assert!(simple_cycles(&k11).iter().all(|cycle| !cycle.contains(&225)));
     assert_eq!(split_stash(&k11).1, [98]);
     // Without 225 two cycles of two are left, which are stored by themselves.
-    let rest = edges(&test_tabulation(), 4, &[1, 34, 65, 98]).unwrap();
+    let rest = edges(&test_tabulation(), 4, 0, &[1, 34, 65, 98]).unwrap();
     let parts: Vec<Assignment> = components(&rest).iter().map(|part| assignment(part)).collect();
     assert_eq!(parts.len(), 2);
     assert_wrong(&wrong_words(&[&parts[0], &parts[1]], &[225]), &K11);
@@ -126,7 +126,7 @@ fn one_of_two_slots_cleared() {
     for table in 0..2 {
         let mut wrong = k2.clone();
         wrong[2] = 0;
-        let at = Shape::new(4, 1).unwrap().slot_at(Slot { table, index: 1 });
+        let at = Shape::new(4, 1, 0).unwrap().slot_at(Slot { table, index: 1 });
         wrong[at..at + 3].fill(0);
         assert_wrong(&wrong, &[]);
         let found = lookup(&test_tabulation(), &wrong, 17);
@@ -137,13 +137,13 @@ fn one_of_two_slots_cleared() {
 /// Paper: "Threading drawer cards into the next numbers."
 #[test]
 fn stash_keys_among_the_next_numbers() {
-    let k5 = hand_words(4, 1, 3, &[(0, 1, 1, 65, 1), (1, 0, 65, 129, 2)], &[(129, 3)]);
+    let k5 = hand_words(4, 1, 0, 3, &[(0, 1, 1, 65, 1), (1, 0, 65, 129, 2)], &[(129, 3)]);
     assert_wrong(&k5, &[1, 65, 129]);
     for keys in [K9, K11] {
         let right = right_words(&keys);
         let threaded = next_keys(BTreeSet::from(keys));
         let mut wrong = right.clone();
-        for at in (4..28).step_by(3).filter(|&at| right[at] != 0) {
+        for at in (5..29).step_by(3).filter(|&at| right[at] != 0) {
             wrong[at + 1] = threaded[&right[at]];
         }
         assert_wrong(&wrong, &keys);
