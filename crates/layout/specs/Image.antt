@@ -228,6 +228,10 @@ module _ (P : Params) (L : List Entry) where
   unfolding image image-by
   image-params = refl
 
+-- Images of two stations differ: of one set, tabulation, r and s, and of any others.
+pub stations-differ : (P P′ : Params) (L L′ : List Entry) → (P .station ≡ P′ .station → ⊥) → image P L ≡ image P′ L′ → ⊥
+stations-differ P P′ L L′ n e = n (sym (image-station P L) ∙ ap station-of e ∙ image-station P′ L′)
+
 -- Words that have at every position the word of the image of S.
 pub record Laid (P : Params) (L : List Entry) (ws : List ℕ) : Type 0 where
   pub size : length ws ≡ words-length (P .slots) (P .places)

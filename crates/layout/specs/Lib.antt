@@ -10,8 +10,8 @@ pub mod Standing
 pub mod Fitting
 pub mod Look
 pub mod Canonical
-pub mod Bare
 pub mod Fresh
 pub mod Ends
+pub mod Bare
 pub mod Board
 pub mod Smallest
