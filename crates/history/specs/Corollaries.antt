@@ -1,6 +1,6 @@
 -- What else follows from the theorem about whole sequences: the answers alone; which runs are sequences; a lookup tells
--- the set; a refused call of another kind leaves words and set; a removal undoes an insert; what a trail answers. Assumes
--- nothing.
+-- the set; a refused call of another kind leaves words and set; a removal undoes an insert; what a trail answers; that
+-- stations stay apart. Assumes nothing.
 use Prim.Native.Nat.{ℕ, _-_, _≤_}
 use mathlib.Core.Path.{_≡_, refl, sym, _∙_, ap}
 use mathlib.Core.Bool.{not}
@@ -14,7 +14,8 @@ use Rattle.basics.specs.Sets.{member, Asc}
 use Rattle.refusals.specs.Refusal.{done, short-scratch, blank-key, key-absent, short-trail, first-refusal}
 use Rattle.tabulation.specs.Hash.{blank}
 use Rattle.layout.specs.Entries.{Entry, keys-of}
-use Rattle.layout.specs.Layout.{Params, scratch-length}
+use Rattle.layout.specs.Layout.{Params, station-of, scratch-length}
+use Rattle.layout.specs.Image.{image-station}
 use Rattle.layout.specs.Canonical.{image-of-keys}
 use Rattle.layout.specs.Answers.{looked-up}
 use Rattle.layout.specs.Look.{looked-entry, looked-none}
@@ -148,3 +149,14 @@ module _ {P : Params} {ws : List ℕ} {cs : List Call} (q : Sequence P ws cs) (k
   trail-shown scratch sheet e =
       trail-done (P .tabulation) (words-left P ws cs) scratch key sheet e .1
       ∙ ap (λ (L : List ℕ). L ++ replicate (length sheet - length L) 0) (held-asked (history q .final) key)
+
+-- stations
+
+-- No call changes the station number: word 4 stays what init was given,
+pub station-stays : {P : Params} {ws : List ℕ} {cs : List Call} → Sequence P ws cs → station-of (words-left P ws cs) ≡ P .station
+station-stays {P} {ws} {cs} q = ap station-of (history q .final .is .is) ∙ image-station P (set-left P ws cs)
+
+-- and lists of two stations never have the same words: "Identical words are now promised for lists of one station number."
+pub stations-apart : {P P′ : Params} {ws ws′ : List ℕ} {cs cs′ : List Call} → Sequence P ws cs → Sequence P′ ws′ cs′ → (P .station ≡ P′ .station → ⊥)
+    → words-left P ws cs ≡ words-left P′ ws′ cs′ → ⊥
+stations-apart q q′ n e = n (sym (station-stays q) ∙ ap station-of e ∙ station-stays q′)
