@@ -2,20 +2,22 @@
 -- whole to follow from the image rule. The hashes come from the test board's 2,560 numbers through the definition of crate tabulation: one
 -- test, which the checker computes, sees that each key's two hashes are its plain ends and that the image over these has the words; the laws
 -- of Ends turn it into statements about `image` and `fits`. Assumes nothing.
-use Prim.Native.Nat.{ℕ, zero, suc, _+_, _-_, _/_, _%_, _<_, _≤_}
-use mathlib.Core.Path.{_≡_, refl, _∙_}
+use Prim.Native.Nat.{ℕ, zero, suc, _+_, _*_, _-_, _/_, _%_, _<_, _≤_}
+use mathlib.Core.Path.{_≡_, refl, sym, _∙_, ap}
 use mathlib.Core.Bool.{Bool, true, false, not, cond, _&&_}
 use mathlib.Core.List.{List, [], _∷_, List·Memᴰ as In, List·Memᴰ·head as here, List·Memᴰ·tail as there}
 use native.Mathlib.Omega.{arith}
-use borrow.Author.Tests.{eqb-true, ne-eqb, ltb-true, leb-true, not-true}
+use borrow.Author.Tests.{eqb-true, ne-eqb, ltb-true, leb-true, not-true, lt-leb, le-leb, lt-ltb, le-ltb}
 use lib.Dec.{T, eqb, ltb, leb}
-use lib.ListN.{length}
-use Rattle.basics.specs.Tests.{and-true, T-true}
+use lib.ListN.{length, getD}
+use Rattle.basics.specs.Tests.{le?, and-true, T-true}
+use mathlib.Core.Logic.{inl, inr}
 use Rattle.basics.specs.Sets.{without, Asc, none, some}
 use Rattle.basics.specs.Lists.{same, same-true}
 use Rattle.cuckoo.specs.Graph.{label, joined, component, onCycle, cyclic, spare, settle, seated, stash, root, sits, occupant, next, slot-key, slot-next}
 use Rattle.cuckoo.specs.Agree.{agree-none, agree-some}
-use Rattle.tabulation.specs.Hash.{Family, hash, blank, tabulation-length}
+use Rattle.tabulation.specs.Hash.{Family, entry, hash, blank, tabulation-length}
+use Rattle.tabulation.specs.Stations.{Moved}
 use Rattle.tabulation.specs.Slots.{slot-0, slot-1}
 use Rattle.layout.specs.Entries.{Entry, max-tier, keys-of, tier-of, tiered}
 use Rattle.layout.specs.Layout.{Params, family, ValidSet, fits, image, fits-by, slot-words-by, image-by}
@@ -23,23 +25,91 @@ use Rattle.layout.specs.Ends.{Known, fits-known, image-known}
 
 -- the test board's tabulation
 
--- "entry v is v and entry 1,024 + v is v/16 rounded down, for v from 0 to 255; all others 0"; with stations "its rack 1 entries moved to 1,280 and
--- its new stretches zero"
-abbrev pub board-entry : ℕ → ℕ
-board-entry i = cond (ltb i 256) i (cond (leb 1280 i && ltb i 1536) ((i - 1280) / 16) 0)
+-- "entry v is v and entry 1,024 + v is v/16 rounded down, for v from 0 to 255; all others 0": table 1's entries from `start` on
+abbrev pub board-entry : ℕ → ℕ → ℕ
+board-entry start i = cond (ltb i 256) i (cond (leb start i && ltb i (start + 256)) ((i - start) / 16) 0)
 
 -- n entries from entry i on
-abbrev pub entries : ℕ → ℕ → List ℕ
-entries i zero = []
-entries i (suc n) = board-entry i ∷ entries (suc i) n
+abbrev pub entries : (ℕ → ℕ) → ℕ → ℕ → List ℕ
+entries f i zero = []
+entries f i (suc n) = f i ∷ entries f (suc i) n
 
+-- with stations: "its rack 1 entries moved to 1,280 and its new stretches zero"
 unfoldable pub board-tabulation : List ℕ
-board-tabulation = entries 0 tabulation-length
+board-tabulation = entries (board-entry 1280) 0 tabulation-length
+
+-- as document 01 has it
+unfoldable pub old-board : List ℕ
+old-board = entries (board-entry 1024) 0 2048
 
 -- it has the length of a tabulation
 pub board-length : length board-tabulation ≡ tabulation-length
 unfolding board-tabulation
 board-length = refl
+
+-- and it is document 01's, moved
+entries-at : (f : ℕ → ℕ) (i n k : ℕ) → k < n → getD (entries f i n) k 0 ≡ f (i + k)
+entries-at f i zero k l = absurd (omega arith)
+entries-at f i (suc n) zero l = let e : i ≡ i + 0 = omega arith in ap f e
+entries-at f i (suc n) (suc k) l = let e : suc i + k ≡ i + suc k = omega arith in entries-at f (suc i) n k (omega arith) ∙ ap f e
+
+module _ (start : ℕ) (far : 256 ≤ start) where
+  -- an entry of table 0's half, and one of table 1's
+  near : (k : ℕ) → k < start → board-entry start k ≡ cond (ltb k 256) k 0
+  near k l = rw (lt-leb start k l)
+
+  beyond : (k : ℕ) → board-entry start (start + k) ≡ cond (ltb k 256) (k / 16) 0
+  beyond k =
+      let a = le-ltb (start + k) 256 (omega arith) in
+      let b = le-leb start (start + k) (omega arith) in
+      let c : start + k - start ≡ k = omega arith in
+      elim (le? 256 k) [
+        | inl l ↦ rw (a, b, le-ltb (start + k) (start + 256) (omega arith), le-ltb k 256 l)
+        | inr l ↦ rw (a, b, lt-ltb (start + k) (start + 256) (omega arith), lt-ltb k 256 l, c)
+      ]
+
+pub board-moved : Moved old-board board-tabulation
+unfolding board-tabulation old-board
+board-moved = record { same = same; zeros = zeros }
+  where
+    new-at : (k : ℕ) → k < 2560 → getD (entries (board-entry 1280) 0 2560) k 0 ≡ board-entry 1280 k
+    new-at k l = let e : 0 + k ≡ k = omega arith in entries-at (board-entry 1280) 0 2560 k l ∙ ap (board-entry 1280) e
+
+    old-at : (k : ℕ) → k < 2048 → getD (entries (board-entry 1024) 0 2048) k 0 ≡ board-entry 1024 k
+    old-at k l = let e : 0 + k ≡ k = omega arith in entries-at (board-entry 1024) 0 2048 k l ∙ ap (board-entry 1024) e
+
+    same : (table i b : ℕ) → table < 2 → i < 4 → b < 256
+        → entry (entries (board-entry 1280) 0 2560) table i b ≡ getD (entries (board-entry 1024) 0 2048) (1024 * table + 256 * i + b) 0
+    same zero i b t l m =
+        let e : 1280 * 0 + 256 * i + b ≡ 1024 * 0 + 256 * i + b = omega arith in
+        new-at (1280 * 0 + 256 * i + b) (omega arith)
+        ∙ ap (board-entry 1280) e
+        ∙ near 1280 (omega arith) (1024 * 0 + 256 * i + b) (omega arith)
+        ∙ sym (near 1024 (omega arith) (1024 * 0 + 256 * i + b) (omega arith))
+        ∙ sym (old-at (1024 * 0 + 256 * i + b) (omega arith))
+    same (suc zero) i b t l m =
+        let e : 1280 * 1 + 256 * i + b ≡ 1280 + (256 * i + b) = omega arith in
+        let f : 1024 + (256 * i + b) ≡ 1024 * 1 + 256 * i + b = omega arith in
+        new-at (1280 * 1 + 256 * i + b) (omega arith)
+        ∙ ap (board-entry 1280) e
+        ∙ beyond 1280 (omega arith) (256 * i + b)
+        ∙ sym (beyond 1024 (omega arith) (256 * i + b))
+        ∙ ap (board-entry 1024) f
+        ∙ sym (old-at (1024 * 1 + 256 * i + b) (omega arith))
+    same (suc (suc k)) i b t l m = absurd (omega arith)
+
+    zeros : (table b : ℕ) → table < 2 → b < 256 → entry (entries (board-entry 1280) 0 2560) table 4 b ≡ 0
+    zeros zero b t m =
+        new-at (1280 * 0 + 256 * 4 + b) (omega arith)
+        ∙ near 1280 (omega arith) (1280 * 0 + 256 * 4 + b) (omega arith)
+        ∙ (rw (le-ltb (1280 * 0 + 256 * 4 + b) 256 (omega arith)))
+    zeros (suc zero) b t m =
+        let e : 1280 * 1 + 256 * 4 + b ≡ 1280 + (1024 + b) = omega arith in
+        new-at (1280 * 1 + 256 * 4 + b) (omega arith)
+        ∙ ap (board-entry 1280) e
+        ∙ beyond 1280 (omega arith) (1024 + b)
+        ∙ (rw (le-ltb (1024 + b) 256 (omega arith)))
+    zeros (suc (suc k)) b t m = absurd (omega arith)
 
 -- an image on the test board: r slots to a table, s places in the stash; "The test board runs with station 0"
 abbrev pub board : ℕ → ℕ → Params
