@@ -3,13 +3,16 @@
 use std::collections::BTreeSet;
 use std::fmt;
 
-use reference::hash::hashes;
+use reference::hash::{hashes, HALF_LEN, STRETCH_LEN, TABULATION_LEN};
 use reference::house::HOUSE;
 use reference::rng::Rng;
 use reference::samples::random_tiers;
 use reference::set::Member;
 
 pub const PLACES: u32 = 64;
+
+/// The station of every case.
+const STATION: u32 = 37;
 
 /// How many sets of keys a case with random keys has where times are taken. They are taken in turn, so that no processor learns one of them by heart: a head's list is
 /// another one at every call.
@@ -79,7 +82,7 @@ impl Case {
             Load::Full => house(r, full(r), sets),
             Load::Path => path(r),
             Load::Moves => moves(r),
-            Load::OnePlace => (vec![0; 2_048], vec![(1..=PLACES + 2).collect()]),
+            Load::OnePlace => (vec![0; TABULATION_LEN], vec![(1..=PLACES + 2).collect()]),
         };
         // The last key of a set is the extra one. No tier plays a part in where keys sit, so any tiers fit.
         let mut rng = Rng::new(u64::from(r));
@@ -87,8 +90,8 @@ impl Case {
             let mut members = random_tiers(&mut rng, &keys);
             let extra = members.pop().expect("a set of a case has keys");
             members.sort_unstable();
-            let words = reference::fast::image(&tabulation, r, PLACES, &members).expect("they fit");
-            Board { members, extra, words }
+            let words = reference::fast::image(&tabulation, r, PLACES, STATION, &members);
+            Board { members, extra, words: words.expect("they fit") }
         };
         let boards = sets.into_iter().map(board).collect();
         Case { load, r, tabulation, boards }
@@ -162,7 +165,7 @@ fn fitting_keys(rng: &mut Rng, tabulation: &[u16], r: u32, count: usize) -> Vec<
         if !seen.insert(key) {
             continue;
         }
-        let [first, second] = hashes(tabulation, r, key).expect("a sound book and key");
+        let [first, second] = hashes(tabulation, r, STATION, key).expect("a sound book and key");
         if room.add(first as usize, (r + second) as usize) {
             keys.push(key);
         }
@@ -189,15 +192,18 @@ fn house(r: u32, count: usize, sets: u64) -> Sets {
 
 /// A book under which keys are edges of one path through all slots, by the number in their two low bytes: `edge` says which edge of the path that is. Edge e joins
 /// the slots e and e + 1 of the path, of which the even ones are in table 0. An edge must be the sum of those of the two bytes, one of these even.
+/// The lowest byte's share stands in the station's stretch, so that the keys are this path at `STATION` alone.
 fn path_book(r: u32, edge: impl Fn(u32) -> u32) -> Vec<u16> {
-    let mut tabulation = vec![0u16; 2_048];
+    let mut tabulation = vec![0u16; TABULATION_LEN];
     for byte in 0..256u32 {
-        for (i, number) in [(0, byte), (256, byte << 8)] {
+        let low = 4 * STRETCH_LEN + ((byte + STATION) % 256) as usize;
+        let high = STRETCH_LEN + byte as usize;
+        for (i, number) in [(low, byte), (high, byte << 8)] {
             if number < 2 * r {
                 let e = edge(number);
                 // Rounding up and down adds up over the two bytes, since one of them has an even share.
-                tabulation[i + byte as usize] = e.div_ceil(2) as u16;
-                tabulation[1_024 + i + byte as usize] = (e / 2) as u16;
+                tabulation[i] = e.div_ceil(2) as u16;
+                tabulation[HALF_LEN + i] = (e / 2) as u16;
             }
         }
     }

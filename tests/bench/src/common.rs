@@ -1,40 +1,64 @@
 //! What both twins share: how a dictionary lies in words, the hash, the refusals, lookup, and the frame of the calls: a twin by itself has only the ways to read
 //! a set out of words and to write one.
 
+use std::ops::Range;
+
 use library::Counters;
 
-pub type Tabulation = [u16; 2_048];
+/// Entries of a stretch of a tabulation, one for each value of a byte. A table's half of it has five stretches: one for
+/// each byte of the key, and the station's.
+const STRETCH: usize = 256;
+const HALF: usize = 5 * STRETCH;
+type Tabulation = [u16; 2 * HALF];
 
-pub const HEADER: usize = 4;
+/// Words before the slots: r, s, how many keys, how many of them stashed, station.
+pub const HEADER: usize = 5;
+/// Where the two counts stand in them, which change with the set, and where the station.
+const COUNTS: Range<usize> = 2..4;
+pub const STATION_AT: usize = 4;
 /// Words of a slot: key, next, tier.
 pub const SLOT: usize = 3;
 /// Words of a stash place: key, tier.
 pub const PLACE: usize = 2;
 pub const MAX_TIER: u32 = 7;
 
-/// The slot of a key in a table of r slots.
-#[inline]
-fn hash(tabulation: &Tabulation, table: usize, r: u32, key: u32) -> u32 {
-    let bytes = key.to_le_bytes();
-    let entry = |i: usize| u32::from(tabulation[1_024 * table + 256 * i + usize::from(bytes[i])]);
-    (entry(0) + entry(1) + entry(2) + entry(3)) % r
+/// What the slots of a key hang on, taken once in a call. A station is a byte, so that adding it to one is modulo 256.
+#[derive(Clone, Copy)]
+pub struct Hashing<'a> {
+    tabulation: &'a Tabulation,
+    pub r: u32,
+    station: u8,
 }
 
-/// The two slots of a key in the row of both tables' slots.
-#[inline]
-pub fn ends(tabulation: &Tabulation, r: u32, key: u32) -> (usize, usize) {
-    let [first, second] = [0, 1].map(|table| hash(tabulation, table, r, key));
-    (first as usize, (r + second) as usize)
+impl Hashing<'_> {
+    /// The slot of a key in a table.
+    #[inline]
+    fn hash(self, table: usize, key: u32) -> u32 {
+        let [b0, b1, b2, b3] = key.to_le_bytes();
+        let entry = |i: usize, byte: u8| {
+            u32::from(self.tabulation[HALF * table + STRETCH * i + usize::from(byte)])
+        };
+        let of_key = entry(0, b0) + entry(1, b1) + entry(2, b2) + entry(3, b3);
+        (of_key + entry(4, b0.wrapping_add(self.station))) % self.r
+    }
+
+    /// The two slots of a key in the row of both tables' slots.
+    #[inline]
+    pub fn ends(self, key: u32) -> (usize, usize) {
+        let [first, second] = [0, 1].map(|table| self.hash(table, key));
+        (first as usize, (self.r + second) as usize)
+    }
 }
 
-/// r and s, if the words have the shape that their heading tells.
+/// r, s and the station, if the words have the shape that their heading tells.
 #[inline]
-fn shape(words: &[u32]) -> Option<(u32, u32)> {
-    let &[r, s, _, _, ..] = words else { return None };
+fn shape(words: &[u32]) -> Option<(u32, u32, u8)> {
+    let &[r, s, _, _, station, ..] = words else { return None };
+    let station = u8::try_from(station).ok()?;
     let fits = (1..=1_024).contains(&r)
         && s <= 64
         && words.len() == HEADER + 2 * SLOT * r as usize + PLACE * s as usize;
-    fits.then_some((r, s))
+    fits.then_some((r, s, station))
 }
 
 /// The words of the slots, three each, and those of the stash, two a place.
@@ -51,7 +75,7 @@ pub fn matches(
     places: impl Iterator<Item = [u32; PLACE]>,
 ) -> bool {
     let (in_slots, in_stash) = columns(words, words[0]);
-    words[2..HEADER] == heading.map(|count| count as u32)
+    words[COUNTS] == heading.map(|count| count as u32)
         && in_slots.chunks_exact(SLOT).zip(slots).all(|(words, slot)| words == slot)
         && in_stash.chunks_exact(PLACE).zip(places).all(|(words, place)| words == place)
 }
@@ -63,7 +87,7 @@ pub fn write(
     slots: impl Iterator<Item = [u32; SLOT]>,
     places: impl Iterator<Item = [u32; PLACE]>,
 ) {
-    words[2..HEADER].copy_from_slice(&heading.map(|count| count as u32));
+    words[COUNTS].copy_from_slice(&heading.map(|count| count as u32));
     let r = words[0] as usize;
     let (in_slots, in_stash) = words[HEADER..].split_at_mut(2 * SLOT * r);
     in_slots
@@ -88,13 +112,14 @@ pub fn tier_in_stash(places: &[u32], key: u32) -> Option<u32> {
 
 /// The tier that stands with the first copy of a key in words of the right shape: in its slot of table 0, in that of table 1, in the stash.
 #[inline]
-pub fn tier_in(tabulation: &Tabulation, words: &[u32], r: u32, key: u32) -> Option<u32> {
+pub fn tier_in(hashing: Hashing, words: &[u32], key: u32) -> Option<u32> {
     let in_slot = |slot: u32| {
         let slot = &words[HEADER + SLOT * slot as usize..][..SLOT];
         (slot[0] == key).then(|| slot[2])
     };
-    in_slot(hash(tabulation, 0, r, key))
-        .or_else(|| in_slot(r + hash(tabulation, 1, r, key)))
+    let r = hashing.r;
+    in_slot(hashing.hash(0, key))
+        .or_else(|| in_slot(r + hashing.hash(1, key)))
         .or_else(|| tier_in_stash(&words[HEADER + 2 * SLOT * r as usize..], key))
 }
 
@@ -110,11 +135,11 @@ pub fn lookup(
     tier: &mut u32,
 ) -> u32 {
     let Ok(tabulation) = <&Tabulation>::try_from(tabulation) else { return 1 };
-    let Some((r, _)) = shape(words) else { return 2 };
+    let Some((r, _, station)) = shape(words) else { return 2 };
     if key == 0 {
         return 5;
     }
-    let found = tier_in(tabulation, words, r, key);
+    let found = tier_in(Hashing { tabulation, r, station }, words, key);
     *listed = u32::from(found.is_some());
     if let Some(found) = found {
         *tier = found;
@@ -122,18 +147,18 @@ pub fn lookup(
     0
 }
 
-/// The refusals 1 to 3, or the tabulation, r and s.
+/// The refusals 1 to 3, or how keys are hashed, and s.
 pub fn early<'a>(
     tabulation: &'a [u16],
     words: &[u32],
     scratch: &[u32],
-) -> Result<(&'a Tabulation, u32, u32), u32> {
+) -> Result<(Hashing<'a>, u32), u32> {
     let tabulation = <&Tabulation>::try_from(tabulation).map_err(|_| 1u32)?;
-    let (r, s) = shape(words).ok_or(2u32)?;
+    let (r, s, station) = shape(words).ok_or(2u32)?;
     if scratch.len() < 12 * r as usize + 8 * s as usize {
         return Err(3);
     }
-    Ok((tabulation, r, s))
+    Ok((Hashing { tabulation, r, station }, s))
 }
 
 /// Where a new key belongs among `keys`, of which there may be `most`, or what refuses it: 5, 9, 10, 6 or 8. `tier_at` gives the tier of a key that is there.

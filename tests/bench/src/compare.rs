@@ -4,9 +4,9 @@ use std::collections::BTreeMap;
 
 use library::Counters;
 use reference::rng::Rng;
-use reference::samples::{random_keys, random_tabulation, random_tier};
+use reference::samples::{random_keys, random_station, random_tabulation, random_tier};
 
-use crate::common::{HEADER, PLACE, SLOT};
+use crate::common::{HEADER, PLACE, SLOT, STATION_AT};
 use crate::partners::{Call, Partner, PARTNERS};
 
 /// How many calls a board gets before the next one is laid.
@@ -62,7 +62,7 @@ fn random_board(rng: &mut Rng) -> Board {
     let values = rng.pick(&[1, 2, r as usize, 4 * r as usize, 65_536]);
     let tabulation = random_tabulation(rng, values);
     let keys = random_keys(rng, (most + most / 2 + 1).min(200));
-    let mut words = library::fresh(r, s);
+    let mut words = library::fresh(r, s, random_station(rng));
     let mut scratch = vec![0; library::scratch_length(r, s)];
     for _ in 0..rng.below(2 * most) {
         let (key, tier) = (rng.pick(&keys), random_tier(rng));
@@ -81,7 +81,7 @@ fn random_slot(rng: &mut Rng, words: &[u32]) -> usize {
 fn tamper(rng: &mut Rng, words: &mut [u32], keys: &[u32]) {
     let (one, two) = (random_slot(rng, words), random_slot(rng, words));
     let stash = HEADER + 2 * SLOT * words[0] as usize;
-    match rng.below(8) {
+    match rng.below(9) {
         0 => words[rng.below(words.len() - 2) + 2] = rng.pick(&[0, 1, 7, 8, u32::MAX]),
         1 => words[rng.below(words.len() - 2) + 2] = rng.pick(keys),
         2 => words.copy_within(one..one + SLOT, two),
@@ -92,6 +92,7 @@ fn tamper(rng: &mut Rng, words: &mut [u32], keys: &[u32]) {
             (0..PLACE).for_each(|i| words.swap(one + 2 * i, place + i));
         }
         6 => words.swap(one, two),
+        7 => words[STATION_AT] = rng.pick(&[0, 1, 254, 255, 256, u32::MAX]),
         _ => words[HEADER..stash]
             .chunks_exact_mut(SLOT)
             .filter(|slot| slot[0] == 0)

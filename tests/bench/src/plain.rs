@@ -4,8 +4,8 @@
 //! sort, it is used. Every call that is timed is compared with the library's.
 
 use crate::common::{
-    columns, early, ends, matches, place_to_insert, place_to_remove, tier_in, write, Tabulation,
-    MAX_TIER, PLACE, SLOT,
+    columns, early, matches, place_to_insert, place_to_remove, tier_in, write, Hashing, MAX_TIER,
+    PLACE, SLOT,
 };
 
 /// Scratch in its parts: keys (2r + s), held, next and sets (2r each), stash (s), and the tiers of what is held (2r) and stashed (s).
@@ -41,16 +41,15 @@ fn find(sets: &[u32], mut slot: usize) -> usize {
 }
 
 struct Build<'a, 'b> {
-    tabulation: &'a Tabulation,
-    r: u32,
+    hashing: Hashing<'a>,
     parts: &'a mut Parts<'b>,
 }
 
 impl Build<'_, '_> {
     #[inline]
     fn other(&self, slot: usize, key: u32) -> usize {
-        let (first, second) = ends(self.tabulation, self.r, key);
-        if slot < self.r as usize {
+        let (first, second) = self.hashing.ends(key);
+        if slot < self.hashing.r as usize {
             second
         } else {
             first
@@ -70,12 +69,12 @@ impl Build<'_, '_> {
 
     /// Links the keys, ascending: Kruskal's forest in `held`, its components in `sets`.
     fn link(&mut self, n: usize) {
-        let m = 2 * self.r;
+        let m = 2 * self.hashing.r;
         self.parts.held.fill(0);
         self.parts.sets.fill(m + 1);
         for i in 0..n {
             let key = self.parts.keys[i];
-            let (first, second) = ends(self.tabulation, self.r, key);
+            let (first, second) = self.hashing.ends(key);
             let sets = &self.parts.sets;
             let (one, two) = (find(sets, first), find(sets, second));
             if one == two {
@@ -103,7 +102,7 @@ impl Build<'_, '_> {
         let parts = &mut *self.parts;
         let mut count = 0;
         for &key in &parts.keys[..n] {
-            let (first, second) = ends(self.tabulation, self.r, key);
+            let (first, second) = self.hashing.ends(key);
             if parts.held[first] == key || parts.held[second] == key {
                 continue;
             }
@@ -121,7 +120,7 @@ impl Build<'_, '_> {
     fn note_held(&mut self, n: usize) {
         let parts = &mut *self.parts;
         for &key in &parts.keys[..n] {
-            let (first, second) = ends(self.tabulation, self.r, key);
+            let (first, second) = self.hashing.ends(key);
             if parts.held[first] == key || parts.held[second] == key {
                 let note = &mut parts.sets[parts.next[first] as usize];
                 if *note == 0 {
@@ -137,7 +136,7 @@ impl Build<'_, '_> {
             if key == 0 {
                 continue;
             }
-            let (first, second) = ends(self.tabulation, self.r, key);
+            let (first, second) = self.hashing.ends(key);
             if self.parts.held[first] == key || self.parts.held[second] == key {
                 self.reroot(first, key);
                 continue;
@@ -153,20 +152,20 @@ impl Build<'_, '_> {
             }
             let smallest = std::mem::take(&mut self.parts.held[low]);
             self.reroot(second, key);
-            self.reroot(ends(self.tabulation, self.r, smallest).0, smallest);
+            self.reroot(self.hashing.ends(smallest).0, smallest);
         }
     }
 
     fn chain(&mut self, n: usize) {
         let parts = &mut *self.parts;
         for &key in parts.keys[..n].iter().rev() {
-            let (first, second) = ends(self.tabulation, self.r, key);
+            let (first, second) = self.hashing.ends(key);
             if parts.held[first] == key || parts.held[second] == key {
                 parts.sets[parts.next[first] as usize] = key;
             }
         }
         for &key in parts.keys[..n].iter().rev() {
-            let (first, second) = ends(self.tabulation, self.r, key);
+            let (first, second) = self.hashing.ends(key);
             let (in_first, in_second) = (parts.held[first] == key, parts.held[second] == key);
             if !in_first && !in_second {
                 continue;
@@ -192,7 +191,7 @@ impl Build<'_, '_> {
         let of = |key: u32| match key {
             0 => 0,
             _ if key == new => tier,
-            _ => tier_in(self.tabulation, words, self.r, key).unwrap_or(0),
+            _ => tier_in(self.hashing, words, key).unwrap_or(0),
         };
         let parts = &mut *self.parts;
         for (tier, &key) in parts.tiers.iter_mut().zip(parts.held.iter()) {
@@ -249,21 +248,22 @@ impl Parts<'_> {
     }
 }
 
-/// What all three calls start with: the refusals 1 to 4, or the tabulation and how many keys stand at the front of scratch.
+/// What all three calls start with: the refusals 1 to 4, or how keys are hashed and how many stand at the front of
+/// scratch.
 fn load<'a>(
     tabulation: &'a [u16],
     words: &[u32],
     scratch: &mut [u32],
-) -> Result<(&'a Tabulation, usize), u32> {
-    let (tabulation, r, s) = early(tabulation, words, scratch)?;
-    let mut parts = split(scratch, r, s);
-    let n = collect(words, r, parts.keys);
-    let mut build = Build { tabulation, r, parts: &mut parts };
+) -> Result<(Hashing<'a>, usize), u32> {
+    let (hashing, s) = early(tabulation, words, scratch)?;
+    let mut parts = split(scratch, hashing.r, s);
+    let n = collect(words, hashing.r, parts.keys);
+    let mut build = Build { hashing, parts: &mut parts };
     let stashed = build.build(n).ok_or(4u32)?;
     build.place_tiers(words, (0, 0));
     let small = parts.tiers.iter().chain(parts.beside.iter()).all(|tier| *tier <= MAX_TIER);
     if small && matches(words, [n, stashed], parts.slots(), parts.places()) {
-        Ok((tabulation, n))
+        Ok((hashing, n))
     } else {
         Err(4)
     }
@@ -271,15 +271,14 @@ fn load<'a>(
 
 /// The new set's keys stand at the front of scratch; the new member's tier is given, those of the others stand in the words.
 fn renew(
-    tabulation: &Tabulation,
+    hashing: Hashing,
     words: &mut [u32],
     scratch: &mut [u32],
     n: usize,
     new: (u32, u32),
 ) -> Result<(), u32> {
-    let (r, s) = (words[0], words[1]);
-    let mut parts = split(scratch, r, s);
-    let mut build = Build { tabulation, r, parts: &mut parts };
+    let mut parts = split(scratch, hashing.r, words[1]);
+    let mut build = Build { hashing, parts: &mut parts };
     let stashed = build.build(n).ok_or(8u32)?;
     build.place_tiers(words, new);
     write(words, [n, stashed], parts.slots(), parts.places());
@@ -292,13 +291,13 @@ fn insert_words(
     scratch: &mut [u32],
     new: (u32, u32),
 ) -> Result<(), u32> {
-    let (tabulation, n) = load(tabulation, words, scratch)?;
+    let (hashing, n) = load(tabulation, words, scratch)?;
     let most = (2 * words[0] + words[1]) as usize;
-    let tier_at = |_| tier_in(tabulation, words, words[0], new.0);
+    let tier_at = |_| tier_in(hashing, words, new.0);
     let at = place_to_insert(&scratch[..n], most, new, tier_at)?;
     scratch.copy_within(at..n, at + 1);
     scratch[at] = new.0;
-    renew(tabulation, words, scratch, n + 1, new)
+    renew(hashing, words, scratch, n + 1, new)
 }
 
 fn remove_words(
@@ -307,10 +306,10 @@ fn remove_words(
     scratch: &mut [u32],
     key: u32,
 ) -> Result<(), u32> {
-    let (tabulation, n) = load(tabulation, words, scratch)?;
+    let (hashing, n) = load(tabulation, words, scratch)?;
     let at = place_to_remove(&scratch[..n], key)?;
     scratch.copy_within(at + 1..n, at);
-    renew(tabulation, words, scratch, n - 1, (0, 0))
+    renew(hashing, words, scratch, n - 1, (0, 0))
 }
 
 fn check_words(tabulation: &[u16], words: &[u32], scratch: &mut [u32]) -> Result<(), u32> {
