@@ -1,5 +1,6 @@
 -- What the out-parameters of the exported calls hold afterwards. The documents decide the values of an accepted call; what a refusal leaves, and the tier of a
--- key that is not listed, are ours to say: lookup and trail leave what stood there, the view gives an empty stretch.
+-- key that is not listed, are ours to say: lookup and trail leave what stood there, the view gives an empty stretch. (What a refused opening leaves of its record is
+-- `sale-left`, of outcome.)
 use Prim.Native.Nat.{ℕ, _*_}
 use mathlib.Core.Path.{_≡_, refl, sym, _∙_, ap}
 use mathlib.Core.Bool.{Bool, cond, true, false}
