@@ -4,9 +4,11 @@
 use reference::answer::{number, Found};
 use reference::counters::Counters as Meter;
 use reference::fast::Fast;
+use reference::hash::{MAX_R, MAX_STATION};
+use reference::layout::MAX_S;
 
 use crate::guarded::Guarded;
-use crate::{Change, Counters, Sale};
+use crate::{words_length, Change, Counters, Sale, HEADER_LENGTH};
 
 /// The calls that answer with a number. The closing of a sale gives a price, and is never refused.
 #[derive(Clone, Copy, Debug, PartialEq, Eq)]
@@ -40,6 +42,9 @@ pub const ANSWERS: &[(Kind, &[u32])] = &[
 /// The largest number that is an answer.
 const LARGEST: usize = 12;
 
+/// The answer that a station above 255 gets, among others.
+const WRONG_SHAPE: u32 = 2;
+
 /// Marks an out-parameter that a refused call must leave.
 const OLD: u32 = 0xDEAD_BEEF;
 const GUARD: u32 = 0xABCD_1234;
@@ -54,6 +59,10 @@ const GUARD_SALE: Sale = Sale { key: GUARD, tier: GUARD, price: GUARD };
 #[derive(Default)]
 pub struct Beside {
     seen: [[u64; LARGEST + 1]; ANSWERS.len()],
+    /// Of the calls that were refused with 2, kind by kind: how many for a station above 255 alone.
+    for_station: [u64; ANSWERS.len()],
+    /// Of the hashes that were not refused: how many with a sum of lowest byte and station up to 255, and how many above, where it wraps.
+    wrapped: [u64; 2],
     /// Of the lookups that were not refused: how many did not find their key, and how many did.
     found: [u64; 2],
     /// Of the trails that were not refused: how many had no key, since theirs is stashed, how many had one key, and how many had more.
@@ -74,6 +83,20 @@ impl Beside {
         answer
     }
 
+    /// Counts a call on words.
+    fn count_on(&mut self, kind: Kind, words: &[u32], answer: u32) -> u32 {
+        if let &[r, s, _, _, station, ..] = words {
+            self.count_station(kind, are_sizes(r, s, words.len()), station, answer);
+        }
+        self.count(kind, answer)
+    }
+
+    /// Counts a refusal with 2 where nothing but the station calls for it.
+    fn count_station(&mut self, kind: Kind, is_rest_right: bool, station: u32, answer: u32) {
+        let alone = is_rest_right && station > MAX_STATION;
+        self.for_station[kind as usize] += u64::from(alone && answer == WRONG_SHAPE);
+    }
+
     /// How many calls there were.
     pub fn calls(&self) -> u64 {
         self.seen.iter().flatten().sum::<u64>() + self.closed
@@ -84,8 +107,14 @@ impl Beside {
         self.seen[kind as usize][answer as usize]
     }
 
-    /// Prints how often each call gave each answer. Fails where one of these calls never gave an answer that it can give; of lookups also where all found
-    /// their key, or none did, of trails where none was empty, or none longer than one key, and of openings where no step was below 0, none 0, or none above.
+    /// How often a call answered 2 for a station above 255 alone.
+    pub fn refused_stations(&self, kind: Kind) -> u64 {
+        self.for_station[kind as usize]
+    }
+
+    /// Prints how often each call gave each answer. Fails where one of these calls never gave an answer that it can give, or never a 2 for the station alone;
+    /// of hashes also where no sum of lowest byte and station wrapped, or each did, of lookups where all found their key, or none did, of trails where none was
+    /// empty, or none longer than one key, and of openings where no step was below 0, none 0, or none above.
     pub fn report(&self, kinds: &[Kind]) {
         for (kind, answers) in ANSWERS.iter().filter(|(kind, _)| kinds.contains(kind)) {
             let seen = &self.seen[*kind as usize];
@@ -97,6 +126,11 @@ impl Beside {
             }
             let given: u64 = answers.iter().map(|a| seen[*a as usize]).sum();
             assert_eq!(given, seen.iter().sum::<u64>(), "{kind:?} gave an answer it cannot give");
+            if answers.contains(&WRONG_SHAPE) {
+                let times = self.refused_stations(*kind);
+                println!("{kind:?}: {times} of the 2s for a station above 255 alone");
+                assert!(times > 0, "{kind:?} never refused a station");
+            }
             self.report_done(*kind);
         }
     }
@@ -120,20 +154,33 @@ impl Beside {
                 println!("{} closings", self.closed);
                 assert!(self.steps.iter().all(|times| *times > 0), "steps of one sign are missing");
             }
+            Kind::Hashes => {
+                let [below, wrapped] = self.wrapped;
+                println!("{kind:?}: {below} with a sum up to 255, {wrapped} with one above");
+                assert!(below > 0 && wrapped > 0, "every sum wrapped, or none");
+            }
             _ => {}
         }
     }
 
-    pub fn init(&mut self, words: &mut [u32], r: u32, s: u32, counters: &mut Counters) -> u32 {
+    pub fn init(
+        &mut self,
+        words: &mut [u32],
+        r: u32,
+        s: u32,
+        station: u32,
+        counters: &mut Counters,
+    ) -> u32 {
         let mut expected = words.to_vec();
         let mut meter = meter_of(counters);
-        let answer = number(reference::calls::init(r, s, &mut expected, &mut meter));
+        let answer = number(reference::calls::init(r, s, station, &mut expected, &mut meter));
         let mut lent = Guarded::new(words, GUARD);
-        let got = crate::init(lent.lent(), r, s, counters);
-        assert_eq!(got, answer, "init {r}, {s} of {} words", words.len());
+        let got = crate::init(lent.lent(), r, s, station, counters);
+        assert_eq!(got, answer, "init {r}, {s}, {station} of {} words", words.len());
         assert_eq!(lent.content(), &expected[..]);
         assert_eq!(meter_of(counters), meter);
         words.copy_from_slice(&expected);
+        self.count_station(Kind::Init, are_sizes(r, s, words.len()), station, got);
         self.count(Kind::Init, got)
     }
 
@@ -169,7 +216,7 @@ impl Beside {
         assert_eq!(book.content(), tabulation, "the tabulation changed");
         assert_eq!(meter_of(counters), meter, "{change:?}");
         words.copy_from_slice(&expected);
-        self.count(kind, got)
+        self.count_on(kind, words, got)
     }
 
     pub fn check(&mut self, tabulation: &[u16], words: &[u32], scratch: &[u32]) -> u32 {
@@ -183,7 +230,7 @@ impl Beside {
         assert_eq!(lent.content(), words, "check changed the words");
         assert!(sheet.content().iter().all(|w| *w == 0), "the scratch is not zero");
         assert_eq!(book.content(), tabulation, "the tabulation changed");
-        self.count(Kind::Check, got)
+        self.count_on(Kind::Check, words, got)
     }
 
     /// A lookup: its answer, and the tier that it found, if it found the key. Where it did not, the tier stays as it was; refused, both out-parameters do.
@@ -202,7 +249,7 @@ impl Beside {
         if got == 0 {
             self.found[listed as usize] += 1;
         }
-        (self.count(Kind::Lookup, got), (listed == 1).then_some(tier))
+        (self.count_on(Kind::Lookup, words, got), (listed == 1).then_some(tier))
     }
 
     /// The stash view: its number. Offset and length name a part of the caller's own words, or nothing.
@@ -215,11 +262,12 @@ impl Beside {
         assert_eq!(got, answer, "view of {words:?}");
         if got == 0 {
             assert_eq!(&words[offset as usize..][..length as usize], expected, "{words:?}");
-            assert_eq!(offset, 4 + 6 * words[0], "the view does not begin with the stash");
+            let stash = HEADER_LENGTH as u32 + 6 * words[0];
+            assert_eq!(offset, stash, "the view does not begin with the stash");
         } else {
             assert_eq!((offset, length), (0, 0), "a refused view is not empty");
         }
-        self.count(Kind::Stash, got)
+        self.count_on(Kind::Stash, words, got)
     }
 
     /// A trail, written over what the trail sheet holds: its answer, and its keys, none if it is refused. Refused, trail sheet and count stay as they were.
@@ -255,7 +303,7 @@ impl Beside {
         } else {
             expected.clear();
         }
-        (self.count(Kind::Trail, got), expected)
+        (self.count_on(Kind::Trail, words, got), expected)
     }
 
     /// An opening, over a record with marks: its answer, and the record, if a sale is opened. Refused, the record stays as it was.
@@ -283,7 +331,7 @@ impl Beside {
         if let Ok(sale) = opened {
             self.steps[(sale.price.cmp(&base) as i8 + 1) as usize] += 1;
         }
-        (self.count(Kind::Open, got), opened.ok())
+        (self.count_on(Kind::Open, words, got), opened.ok())
     }
 
     /// The closing of a sale, or of any other record, which stays as it was: its price.
@@ -296,16 +344,20 @@ impl Beside {
         got
     }
 
-    pub fn hashes(&mut self, tabulation: &[u16], r: u32, key: u32) -> u32 {
-        let (answer, both) = match reference::hash::hashes(tabulation, r, key) {
+    pub fn hashes(&mut self, tabulation: &[u16], r: u32, station: u32, key: u32) -> u32 {
+        let (answer, both) = match reference::hash::hashes(tabulation, r, station, key) {
             Ok(both) => (0, both),
             Err(refusal) => (refusal.number(), [OLD, !OLD]),
         };
         let mut book = Guarded::new(tabulation, 0x5A5A);
-        let got = crate::hashes(book.lent(), r, key, [OLD, !OLD]);
+        let got = crate::hashes(book.lent(), r, station, key, [OLD, !OLD]);
         assert_eq!(book.content(), tabulation, "hashing changed the tabulation");
-        assert_eq!(got, (answer, both), "hashes of {key} with r = {r}");
-        self.count(Kind::Hashes, got.0)
+        assert_eq!(got, (answer, both), "hashes of {key} with r = {r} at station {station}");
+        if answer == 0 {
+            self.wrapped[usize::from(key % 256 + station > 255)] += 1;
+        }
+        self.count_station(Kind::Hashes, (1..=MAX_R).contains(&r), station, answer);
+        self.count(Kind::Hashes, answer)
     }
 
     pub fn house(&mut self, length: usize) -> u32 {
@@ -330,6 +382,11 @@ impl From<Sale> for reference::sale::Sale {
     fn from(sale: Sale) -> reference::sale::Sale {
         reference::sale::Sale { key: sale.key, tier: sale.tier, price: sale.price }
     }
+}
+
+/// Whether r and s are in their ranges, and this is how many words go with them.
+fn are_sizes(r: u32, s: u32, length: usize) -> bool {
+    (1..=MAX_R).contains(&r) && s <= MAX_S && length == words_length(r, s)
 }
 
 fn meter_of(counters: &Counters) -> Meter {

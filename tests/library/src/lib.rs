@@ -23,7 +23,9 @@ pub struct Sale {
 
 #[rustfmt::skip]
 extern "C" {
-    fn pinorange_init(words: *mut u32, words_length: usize, r: u32, s: u32, counters: *mut Counters) -> u32;
+    fn pinorange_init(
+        words: *mut u32, words_length: usize, r: u32, s: u32, station: u32, counters: *mut Counters,
+    ) -> u32;
 
     fn pinorange_insert(
         tabulation: *const u16, tabulation_length: usize, words: *mut u32, words_length: usize,
@@ -60,7 +62,7 @@ extern "C" {
     fn pinorange_stash(words: *const u32, words_length: usize, offset: *mut u32, length: *mut u32) -> u32;
 
     fn pinorange_hashes(
-        tabulation: *const u16, length: usize, r: u32, key: u32, table0: *mut u32, table1: *mut u32,
+        tabulation: *const u16, length: usize, r: u32, station: u32, key: u32, table0: *mut u32, table1: *mut u32,
     ) -> u32;
 
     fn pinorange_house(tabulation: *mut u16, tabulation_length: usize) -> u32;
@@ -69,9 +71,9 @@ extern "C" {
 // Every call below is safe: the slices are valid for their lengths and apart from each other, and the calls are proved to touch nothing else but what
 // they are given by reference.
 
-/// Lays fresh words.
-pub fn init(words: &mut [u32], r: u32, s: u32, counters: &mut Counters) -> u32 {
-    unsafe { pinorange_init(words.as_mut_ptr(), words.len(), r, s, counters) }
+/// Lays fresh words, at a station.
+pub fn init(words: &mut [u32], r: u32, s: u32, station: u32, counters: &mut Counters) -> u32 {
+    unsafe { pinorange_init(words.as_mut_ptr(), words.len(), r, s, station, counters) }
 }
 
 /// Puts a key in, with its tier.
@@ -172,10 +174,11 @@ pub fn stash(words: &[u32]) -> (u32, u32, u32) {
 }
 
 /// What the hashing answers, and what its two out-parameters hold after it when they held `old` before.
-pub fn hashes(tabulation: &[u16], r: u32, key: u32, old: [u32; 2]) -> (u32, [u32; 2]) {
+#[rustfmt::skip]
+pub fn hashes(tabulation: &[u16], r: u32, station: u32, key: u32, old: [u32; 2]) -> (u32, [u32; 2]) {
     let [mut table0, mut table1] = old;
     let answer = unsafe {
-        pinorange_hashes(tabulation.as_ptr(), tabulation.len(), r, key, &mut table0, &mut table1)
+        pinorange_hashes(tabulation.as_ptr(), tabulation.len(), r, station, key, &mut table0, &mut table1)
     };
     (answer, [table0, table1])
 }
@@ -185,9 +188,12 @@ pub fn house(tabulation: &mut [u16]) -> u32 {
     unsafe { pinorange_house(tabulation.as_mut_ptr(), tabulation.len()) }
 }
 
+/// How many words come before the slots: r, s, the two counts and the station.
+pub const HEADER_LENGTH: usize = 5;
+
 /// How many words a dictionary has.
 pub fn words_length(r: u32, s: u32) -> usize {
-    4 + 6 * r as usize + 2 * s as usize
+    HEADER_LENGTH + 6 * r as usize + 2 * s as usize
 }
 
 /// How many words of scratch a change, a check or a trail borrows.
@@ -195,11 +201,11 @@ pub fn scratch_length(r: u32, s: u32) -> usize {
     12 * r as usize + 8 * s as usize
 }
 
-/// Freshly laid words.
-pub fn fresh(r: u32, s: u32) -> Vec<u32> {
+/// Freshly laid words, at a station.
+pub fn fresh(r: u32, s: u32, station: u32) -> Vec<u32> {
     let mut words = vec![7; words_length(r, s)];
     let mut counters = Counters::default();
-    assert_eq!(init(&mut words, r, s, &mut counters), 0);
+    assert_eq!(init(&mut words, r, s, station, &mut counters), 0);
     assert_eq!((counters.done, counters.refused), (1, 0));
     words
 }

@@ -1,5 +1,5 @@
-//! Worked examples through the built library: the edges of the sizes, and the test board of the specification, with tier 0 throughout and with others, and the
-//! trails and the sales of its keys.
+//! Worked examples through the built library: the edges of the sizes and of the station, and the test board of the specification, with tier 0 throughout and with
+//! others, at station 0 and at others, and the trails and the sales of its keys.
 
 use library::beside::{Beside, Kind};
 use library::Change::{Insert, Remove};
@@ -12,32 +12,52 @@ use reference::set::Member;
 fn sizes_at_their_edges() {
     let mut beside = Beside::new();
     let mut counters = Counters::default();
-    for (r, s, length, answer) in [
-        (1_024, 64, 6_276, 0),
-        (1_025, 64, 6_282, 2),
-        (1_024, 65, 6_278, 2),
-        (0, 1, 6, 2),
-        (1, 1, 12, 0),
-        (1, 1, 13, 2),
-        (1, 1, 11, 2),
-        (1, 1, 9, 2),
-        (1, 0, 0, 2),
-        (1 << 31, 5, 14, 2),
-        (1, 1 << 31, 10, 2),
-        (u32::MAX, u32::MAX, 4, 2),
+    for (r, s, station, length, answer) in [
+        (1_024, 64, 0, 6_277, 0),
+        (1_024, 64, 255, 6_277, 0),
+        (1_024, 64, 256, 6_277, 2),
+        (1_024, 64, 0, 6_276, 2),
+        (1_025, 64, 0, 6_283, 2),
+        (1_024, 65, 0, 6_279, 2),
+        (0, 1, 0, 7, 2),
+        (1, 1, 0, 13, 0),
+        (1, 1, 1, 13, 0),
+        (1, 1, 254, 13, 0),
+        (1, 1, 255, 13, 0),
+        (1, 1, 256, 13, 2),
+        (1, 1, 257, 13, 2),
+        (1, 1, 511, 13, 2),
+        (1, 1, 65_536, 13, 2),
+        (1, 1, 1 << 31, 13, 2),
+        (1, 1, u32::MAX, 13, 2),
+        // as long as without a station
+        (1, 1, 0, 12, 2),
+        (1, 1, 0, 14, 2),
+        (1, 1, 0, 11, 2),
+        (1, 1, 0, 9, 2),
+        (1, 0, 0, 0, 2),
+        (1 << 31, 5, 0, 15, 2),
+        (1, 1 << 31, 0, 11, 2),
+        (u32::MAX, u32::MAX, 0, 5, 2),
+        (u32::MAX, u32::MAX, u32::MAX, 5, 2),
     ] {
         let mut words = vec![9; length];
-        assert_eq!(beside.init(&mut words, r, s, &mut counters), answer);
-        assert!(answer == 0 || words.iter().all(|w| *w == 9), "a refused init changed words");
+        assert_eq!(beside.init(&mut words, r, s, station, &mut counters), answer);
+        if answer == 0 {
+            assert_eq!(words[..5], [r, s, 0, 0, station]);
+            assert!(words[5..].iter().all(|w| *w == 0), "fresh words are not empty");
+        } else {
+            assert!(words.iter().all(|w| *w == 9), "a refused init changed words");
+        }
     }
-    assert_eq!((counters.done, counters.refused), (2, 10));
+    assert_eq!((counters.done, counters.refused), (6, 20));
     beside.report(&[Kind::Init]);
 }
 
 #[test]
 fn a_count_at_the_limit_stays() {
     let mut beside = Beside::new();
-    let mut words = fresh(1, 0);
+    let mut words = fresh(1, 0, 0);
     let mut counters = Counters { done: u32::MAX - 1, refused: u32::MAX };
     for (key, tier) in [(1, 0), (2, 7), (3, 0), (0, 0), (1, 8), (1, 1)] {
         let scratch = [u32::MAX; 12];
@@ -47,15 +67,15 @@ fn a_count_at_the_limit_stays() {
     assert_eq!((counters.done, counters.refused), (u32::MAX, u32::MAX));
 }
 
-/// K12: two keys fit, the smaller in table 0; a third is refused with 8.
+/// K12: two keys fit, the smaller in table 0; a third is refused with 8. With one slot in each table every station has the same slots.
 #[test]
 fn the_smallest_dictionary() {
     let tabulation = test_tabulation();
-    for [tier, largest] in [[0, 0], [7, 2]] {
-        let mut words = fresh(1, 0);
+    for [station, tier, largest] in [[0, 0, 0], [0, 7, 2], [255, 7, 2], [56, 1, 1]] {
+        let mut words = fresh(1, 0, station);
         assert_eq!(change(Insert(largest), &tabulation, &mut words, u32::MAX), 0);
         assert_eq!(change(Insert(tier), &tabulation, &mut words, 200), 0);
-        assert_eq!(words, [1, 0, 2, 0, 200, u32::MAX, tier, u32::MAX, 200, largest]);
+        assert_eq!(words, [1, 0, 2, 0, station, 200, u32::MAX, tier, u32::MAX, 200, largest]);
         assert_eq!(change(Insert(0), &tabulation, &mut words, 7), 8);
     }
 }
@@ -85,7 +105,7 @@ fn the_rows_of_the_test_board() {
     ] {
         for tier in tiers {
             let members = with_tiers(keys, tier);
-            let mut words = fresh(4, s);
+            let mut words = fresh(4, s, 0);
             for (key, tier) in members.iter().rev() {
                 let way = Insert(*tier);
                 assert_eq!(change(way, &tabulation, &mut words, *key), 0, "{key} of {members:?}");
@@ -95,12 +115,12 @@ fn the_rows_of_the_test_board() {
             }
             let left: Vec<Member> =
                 members.iter().copied().filter(|(key, _)| Some(*key) != removed).collect();
-            let expected = reference::image::image(&tabulation, 4, s, &left);
+            let expected = reference::image::image(&tabulation, 4, s, 0, &left);
             assert_eq!(Some(words), expected, "{members:?}");
         }
     }
     // K6: the fourth key of one pair of slots has no place with s = 1.
-    let mut words = fresh(4, 1);
+    let mut words = fresh(4, 1, 0);
     for (key, answer) in [(1, 0), (65, 0), (129, 0), (193, 8)] {
         assert_eq!(change(Insert(0), &tabulation, &mut words, key), answer);
     }
@@ -117,21 +137,21 @@ fn the_test_board() {
         (&[17, 65, 129], &[(1, 65), (4, 129), (5, 17)]),
         (&[1, 17], &[(1, 1), (4, 1), (5, 17)]),
     ] {
-        let mut words = fresh(4, 1);
+        let mut words = fresh(4, 1, 0);
         for key in keys.iter().rev() {
             assert_eq!(change(Insert(0), &tabulation, &mut words, *key), 0);
         }
         for (slot, key) in seats {
-            assert_eq!(words[4 + 3 * slot], *key, "slot {slot} of {keys:?}");
-            assert_eq!(words[4 + 3 * slot + 2], 0, "the tier in slot {slot} of {keys:?}");
+            assert_eq!(words[5 + 3 * slot], *key, "slot {slot} of {keys:?}");
+            assert_eq!(words[5 + 3 * slot + 2], 0, "the tier in slot {slot} of {keys:?}");
         }
     }
-    let mut words = fresh(2, 1);
+    let mut words = fresh(2, 1, 0);
     for (key, answer) in [(65, 0), (1, 0), (33, 0), (97, 8)] {
         assert_eq!(change(Insert(0), &tabulation, &mut words, key), answer);
     }
-    assert_eq!(words, [2, 1, 3, 1, 0, 0, 0, 1, 33, 0, 33, 1, 0, 0, 0, 0, 65, 0]);
-    assert_eq!(stash(&words), (0, 16, 2));
+    assert_eq!(words, [2, 1, 3, 1, 0, 0, 0, 0, 1, 33, 0, 33, 1, 0, 0, 0, 0, 65, 0]);
+    assert_eq!(stash(&words), (0, 17, 2));
     let (mut listed, mut tier) = (9, 9);
     let answer = lookup(&tabulation, &words, 65, &mut listed, &mut tier);
     assert_eq!((answer, listed, tier), (0, 1, 0));
@@ -141,11 +161,11 @@ fn the_test_board() {
 #[test]
 fn tiers_on_the_test_board() {
     let tabulation = test_tabulation();
-    let mut words = fresh(4, 1);
+    let mut words = fresh(4, 1, 0);
     let mut call = |way, key, answer, expected: &[[u32; 3]; 8], stash: [u32; 2]| {
         assert_eq!(change(way, &tabulation, &mut words, key), answer, "{way:?} of {key}");
-        assert_eq!(words[4..28], *expected.as_flattened(), "{way:?} of {key}");
-        assert_eq!(words[28..], stash, "{way:?} of {key}");
+        assert_eq!(words[5..29], *expected.as_flattened(), "{way:?} of {key}");
+        assert_eq!(words[29..], stash, "{way:?} of {key}");
     };
     const NONE: [u32; 3] = [0, 0, 0];
     let [one, seventeen] = [[1, 17, 3], [17, 1, 5]];
@@ -170,7 +190,7 @@ fn tiers_on_the_test_board() {
 
 /// The words of K5 with tiers: 1 and 65 on a cycle, at the tiers 3 and 0, and 129 in the stash, at tier 6. That is full.
 fn k5_with_tiers() -> Vec<u32> {
-    let mut words = fresh(4, 1);
+    let mut words = fresh(4, 1, 0);
     for (key, tier) in [(1, 3), (65, 0), (129, 6)] {
         assert_eq!(change(Insert(tier), &test_tabulation(), &mut words, key), 0);
     }
@@ -228,7 +248,7 @@ fn nine_and_ten_in_their_order() {
 
 /// The words of a board on the test tabulation with these keys, each with a tier of its own.
 fn board_of(r: u32, s: u32, keys: &[u32]) -> Vec<u32> {
-    let mut words = fresh(r, s);
+    let mut words = fresh(r, s, 0);
     for key in keys.iter().rev() {
         assert_eq!(change(Insert(key % 8), &test_tabulation(), &mut words, *key), 0, "{keys:?}");
     }
@@ -309,9 +329,13 @@ fn the_refusals_of_a_trail_in_their_order() {
     let sound = board_of(4, 1, &[1, 33, 34, 65, 98]);
     let mut tampered = sound.clone();
     tampered[2] += 1;
+    let mut elsewhere = tampered.clone();
+    elsewhere[4] = 256;
     for (book, words, scratch, key, sheet, answer) in [
         (&tabulation[1..], &tampered[1..], 55, 0, 0, 1),
+        (&tabulation[1..], &elsewhere, 55, 0, 0, 1),
         (&tabulation, &tampered[1..], 55, 0, 0, 2),
+        (&tabulation, &elsewhere, 55, 0, 0, 2),
         (&tabulation, &tampered, 55, 0, 0, 3),
         (&tabulation, &tampered, 56, 0, 0, 4),
         (&tabulation, &tampered, 56, 34, 0, 4),
@@ -378,7 +402,7 @@ fn sales_that_stay_open() {
     let (answer, later) = open(&words, 1);
     assert_eq!((answer, later), (0, Sale { key: 1, tier: 7, price: 1_299 }));
     assert_eq!([close_sale(&of_1), close_sale(&later), close_sale(&of_129)], [1_749, 1_299, 2_299]);
-    let mut others = fresh(4, 1);
+    let mut others = fresh(4, 1, 0);
     for (key, tier) in [(1, 7), (65, 0)] {
         assert_eq!(change(Insert(tier), &tabulation, &mut others, key), 0);
     }
@@ -394,17 +418,22 @@ fn the_refusals_of_a_sale_in_their_order() {
     let sound = k5_with_tiers();
     // Key 0 has the slots 0 and 4, of which 4 is taken, as the one stash place is; the tiers are those of slot 1, slot 4 and the stash place.
     let mut tampered = sound.clone();
-    tampered[4] = 2;
-    for (at, tier) in [(9, 8), (18, 9), (29, u32::MAX)] {
+    tampered[5] = 2;
+    for (at, tier) in [(10, 8), (19, 9), (30, u32::MAX)] {
         tampered[at] = tier;
     }
     let mut blank = tampered.clone();
-    (blank[4], blank[6]) = (0, 8);
+    (blank[5], blank[7]) = (0, 8);
+    let mut elsewhere = blank.clone();
+    elsewhere[4] = 256;
     let mut miscounted = sound.clone();
     miscounted[2] += 1;
     for (book, words, key, base, steps, answer) in [
         (&tabulation[1..], &tampered[1..], 0, 0, &[][..], 1),
+        (&tabulation[1..], &elsewhere, 0, 0, &[], 1),
         (&tabulation, &tampered[1..], 0, 0, &[], 2),
+        (&tabulation, &elsewhere, 0, 0, &[], 2),
+        (&tabulation, &elsewhere, 1, 1_799, &STEPS, 2),
         (&tabulation, &tampered, 0, 0, &[], 5),
         (&tabulation, &blank, 0, 0, &[], 5),
         (&tabulation, &tampered, 193, 0, &[], 7),
@@ -435,9 +464,9 @@ fn the_first_of_several_copies() {
     let tabulation = test_tabulation();
     let tiers = [4, 9, 7, 0, u32::MAX];
     for mask in 0..32u32 {
-        let mut words = fresh(4, 3);
-        words[4..7].copy_from_slice(&[17, 17, 1]);
-        for (bit, at) in [4 + 3, 4 + 3 * 5, 28, 30, 32].into_iter().enumerate() {
+        let mut words = fresh(4, 3, 0);
+        words[5..8].copy_from_slice(&[17, 17, 1]);
+        for (bit, at) in [5 + 3, 5 + 3 * 5, 29, 31, 33].into_iter().enumerate() {
             let here = mask >> bit & 1 == 1;
             words[at] = if here { 17 } else { 3 };
             words[at + if bit < 2 { 2 } else { 1 }] = tiers[bit];
@@ -460,7 +489,7 @@ fn the_first_of_several_copies() {
 #[test]
 fn the_house_tabulation() {
     let mut beside = Beside::new();
-    for length in [0, 1, 2_047, 2_048, 2_049] {
+    for length in [0, 1, 2_048, 2_559, 2_560, 2_561] {
         beside.house(length);
     }
     beside.report(&[Kind::House]);
@@ -473,12 +502,16 @@ fn huge_headings_and_wrong_lengths() {
     let tabulation = test_tabulation();
     let wrapping = [0x2AAA_AAAB, 1 << 31, 0x8000_0001, 0xFFFF_FFFC, u32::MAX];
     let headings = [&[0, 1, 2, 64, 65, 1_024, 1_025][..], &wrapping].concat();
-    for length in (0..20).chain([138, 388, 6_148, words_length(1_024, 64), 6_278]) {
+    let stations = [0, 255, 256, u32::MAX];
+    for length in (0..20).chain([139, 389, 6_149, words_length(1_024, 64), 6_279]) {
         for r in headings.iter().copied() {
-            for s in headings.iter().copied() {
+            for [s, station] in headings.iter().flat_map(|s| stations.map(|station| [*s, station]))
+            {
                 let mut words: Vec<u32> = (0..length as u32).map(|i| i % 40).collect();
-                if length > 1 {
-                    (words[0], words[1]) = (r, s);
+                for (at, value) in [(0, r), (1, s), (4, station)] {
+                    if let Some(word) = words.get_mut(at) {
+                        *word = value;
+                    }
                 }
                 beside.stash(&words);
                 beside.lookup(&tabulation, &words, length as u32 % 3);

@@ -1,33 +1,35 @@
 //! Tests at scale, against the program by another hand: random sequences of calls on small boards, where cycles and full stashes are common, and on the largest;
-//! extreme tabulations; two histories of one set; the same keys with other tiers; trails on sheets of all lengths, and the longest; sales that stay open while
-//! keys come and go, and prices at their limits; damaged and random words. Every call is compared in answer, words, scratch, counters, out-parameters and
-//! guards, and every answer that a call can give must come up.
+//! extreme tabulations; two histories of one set; one set at two stations; the same keys with other tiers; trails on sheets of all lengths, and the longest;
+//! sales that stay open while keys come and go, and prices at their limits; damaged and random words. Dictionaries are laid at random stations. Every call is
+//! compared in answer, words, scratch, counters, out-parameters and guards, and every answer that a call can give must come up.
 
 use std::collections::{BTreeMap, BTreeSet};
 
 use library::beside::{Beside, Kind};
 use library::Change::{Insert, Remove};
-use library::{change, fresh, scratch_length, words_length, Change, Counters, Sale};
+use library::{change, fresh, scratch_length, words_length, Change, Counters, Sale, HEADER_LENGTH};
 use reference::answer::Refusal;
 use reference::fast::{image, Fast};
-use reference::hash::hashes;
+use reference::hash::{hashes, HALF_LEN, MAX_STATION, TABULATION_LEN};
 use reference::house::HOUSE;
 use reference::image::Engine;
 use reference::model::{Call, Model, Reply};
 use reference::rng::Rng;
-use reference::samples::{random_keys, random_tabulation, random_tier, random_tiers, tier_0};
+use reference::samples::{
+    random_keys, random_station, random_tabulation, random_tier, random_tiers, tier_0,
+};
 use reference::set::{members, Member};
 
 /// A tabulation of the extremes of 16 bits alone.
 fn extreme_tabulation(rng: &mut Rng) -> Vec<u16> {
-    (0..2_048).map(|_| if rng.one_in(2) { 0 } else { u16::MAX }).collect()
+    (0..TABULATION_LEN).map(|_| if rng.one_in(2) { 0 } else { u16::MAX }).collect()
 }
 
 /// A tabulation with few hashes: random ones, one value throughout, or extremes.
 fn narrow_tabulation(rng: &mut Rng) -> Vec<u16> {
     match rng.below(8) {
         0 => extreme_tabulation(rng),
-        1 => vec![rng.pick(&[0, 1, 32_768, u16::MAX]); 2_048],
+        1 => vec![rng.pick(&[0, 1, 32_768, u16::MAX]); TABULATION_LEN],
         _ => {
             let values = rng.pick(&[2, 3, 7, 9]);
             random_tabulation(rng, values)
@@ -52,9 +54,30 @@ fn other_tier(rng: &mut Rng, tier: u32) -> u32 {
     (tier + 1 + rng.below(7) as u32) % 8
 }
 
+/// Stations that are none: just above 255, equal to one of 0 to 255 in their low byte or half, and the largest number.
+const WRONG_STATIONS: [u32; 9] =
+    [256, 257, 511, 512, 65_535, 65_536, 1 << 31, u32::MAX - 255, u32::MAX];
+
+/// A station for a call: mostly 0 to 255, now and then above.
+fn any_station(rng: &mut Rng) -> u32 {
+    if rng.one_in(5) {
+        rng.pick(&WRONG_STATIONS)
+    } else {
+        random_station(rng)
+    }
+}
+
+/// What a dictionary is laid with: r, s and the station.
+type Laid = [u32; 3];
+
 /// How many keys the trail of a key has, by the reference; 0 where the set does not have the key.
-fn trail_length(tabulation: &[u16], r: u32, s: u32, members: &[Member], key: u32) -> usize {
-    Fast.trail(tabulation, r, s, members, key).map_or(0, |trail| trail.len())
+fn trail_length(tabulation: &[u16], [r, s, station]: Laid, members: &[Member], key: u32) -> usize {
+    Fast.trail(tabulation, r, s, station, members, key).map_or(0, |trail| trail.len())
+}
+
+/// The image of a set, by the reference.
+fn image_of(tabulation: &[u16], [r, s, station]: Laid, members: &[Member]) -> Option<Vec<u32>> {
+    image(tabulation, r, s, station, members)
 }
 
 /// A sheet for a trail of `count` keys, with any old content: of no word, one word too short, just long enough, longer than any trail, or of 2r words.
@@ -117,6 +140,7 @@ fn random_prices(rng: &mut Rng) -> (u32, Vec<i32>) {
 struct Board {
     r: u32,
     s: u32,
+    station: u32,
     tabulation: Vec<u16>,
     keys: Vec<u32>,
     words: Vec<u32>,
@@ -131,21 +155,23 @@ struct Board {
 impl Board {
     fn random(rng: &mut Rng, beside: &mut Beside) -> Board {
         let (r, s) = (1 + rng.below(6) as u32, rng.below(4) as u32);
+        let station = random_station(rng);
         let tabulation = narrow_tabulation(rng);
         let keys = random_keys(rng, 12);
         let mut words = random_words(rng, words_length(r, s));
         let mut counters = Counters { done: rng.next_u32(), refused: u32::MAX - 3 };
-        assert_eq!(beside.init(&mut words, r, s, &mut counters), 0);
-        let register = Model::new(Fast, &tabulation, r, s).expect("a sound book and sizes");
+        assert_eq!(beside.init(&mut words, r, s, station, &mut counters), 0);
+        let register =
+            Model::new(Fast, &tabulation, r, s, station).expect("a sound book and shape");
         let (sales, closed) = (Vec::new(), [0; 3]);
-        Board { r, s, tabulation, keys, words, counters, register, sales, closed }
+        Board { r, s, station, tabulation, keys, words, counters, register, sales, closed }
     }
 
     /// What a call lends: mostly a sound book and enough scratch, now and then not.
     fn lent(&self, rng: &mut Rng) -> (Vec<u16>, Vec<u32>, u32) {
         let mut book = self.tabulation.clone();
         if rng.one_in(20) {
-            book.resize(rng.pick(&[0, 1, 2_047, 2_049, 4_096]), 5);
+            book.resize(rng.pick(&[0, 1, 2_048, 2_559, 2_561, 5_120]), 5);
         }
         let enough = scratch_length(self.r, self.s);
         let length = match rng.below(12) {
@@ -178,7 +204,8 @@ impl Board {
     /// A sheet for the trail of a key.
     fn trail_sheet(&self, rng: &mut Rng, key: u32) -> Vec<u32> {
         let members = members(self.register.set());
-        let count = trail_length(&self.tabulation, self.r, self.s, &members, key);
+        let laid = [self.r, self.s, self.station];
+        let count = trail_length(&self.tabulation, laid, &members, key);
         trail_sheet(rng, self.r, count)
     }
 
@@ -219,7 +246,11 @@ impl Board {
             }
             _ => {
                 // An init with another shape is refused, and is then a call of another kind.
-                let answer = beside.init(&mut self.words, self.r + 1, self.s, counters);
+                let (r, station) = match rng.one_in(2) {
+                    true => (self.r + 1, random_station(rng)),
+                    false => (self.r, rng.pick(&WRONG_STATIONS)),
+                };
+                let answer = beside.init(&mut self.words, r, self.s, station, counters);
                 (Call::Other { refusal: Refusal::WrongShape }, answer)
             }
         };
@@ -304,6 +335,9 @@ impl Board {
                 _ => rng.below(8) as u32,
             };
         }
+        if rng.one_in(6) {
+            words[4] = any_station(rng);
+        }
         if rng.one_in(12) {
             words.truncate(rng.below(words.len()));
         }
@@ -339,8 +373,8 @@ fn sequences_on_small_boards() {
             }
             let r = rng.pick(&[0, 1, board.r, 1_024, 1_025]);
             let key = if rng.one_in(9) { 0 } else { rng.next_u32() };
-            let end = if rng.one_in(9) { rng.below(2_048) } else { 2_048 };
-            beside.hashes(&board.tabulation[..end], r, key);
+            let end = if rng.one_in(9) { rng.below(TABULATION_LEN) } else { TABULATION_LEN };
+            beside.hashes(&board.tabulation[..end], r, any_station(&mut rng), key);
         }
         board.close_all(&mut beside);
         closed = [0, 1, 2].map(|now| closed[now] + board.closed[now]);
@@ -367,6 +401,29 @@ fn sequences_on_small_boards() {
     assert!(closed.iter().all(|times| *times > 300));
 }
 
+/// The hashes of every lowest byte at every station, with any other bytes, at any r and at the largest, where no entry is lost in the remainder.
+#[test]
+fn hashes_at_every_station() {
+    let mut rng = Rng::new(55);
+    let mut beside = Beside::new();
+    let distinct: Vec<u16> = (0..TABULATION_LEN as u16).map(|entry| entry * 7).collect();
+    for station in 0..=MAX_STATION {
+        let random = random_tabulation(&mut rng, 65_536);
+        for byte in 0..256 {
+            let key = (rng.next_u32() & !255 | byte).max(1);
+            let r = 1 + rng.below(1_024) as u32;
+            assert_eq!(beside.hashes(&random, r, station, key), 0);
+            assert_eq!(beside.hashes(&distinct, 1_024, station, key), 0);
+        }
+        for (r, station, key) in [(4, station + 256, 1), (4, rng.pick(&WRONG_STATIONS), 0)] {
+            assert_eq!(beside.hashes(&random, r, station, key), 2);
+            assert_eq!(beside.hashes(&random[1..], r, station, key), 1);
+        }
+        assert_eq!(beside.hashes(&random, 4, station, 0), 5);
+    }
+    beside.report(&[Kind::Hashes]);
+}
+
 /// Thousands of calls at r = 1,024, from nearly empty to full.
 #[test]
 fn sequences_on_the_largest_board() {
@@ -381,7 +438,8 @@ fn sequences_on_the_largest_board() {
             5 => random_tabulation(&mut rng, 2_048),
             _ => random_tabulation(&mut rng, 65_536),
         };
-        let mut words = fresh(r, s);
+        let station = random_station(&mut rng);
+        let mut words = fresh(r, s, station);
         let mut inside = Vec::new();
         // Filled up without comparing; the calls below compare every word.
         for _ in 0..[20, 250, 1_000, 3_000, 100, 700, 1_500, 2_500][round] {
@@ -429,7 +487,7 @@ fn sequences_on_the_largest_board() {
                 6 => assert_eq!(beside.stash(&words), 0),
                 7 | 8 => {
                     let key = if rng.one_in(8) { strange.0 } else { inside[at].0 };
-                    let count = trail_length(&tabulation, r, s, &inside, key);
+                    let count = trail_length(&tabulation, [r, s, station], &inside, key);
                     let sheet = trail_sheet(&mut rng, r, count);
                     beside.trail(&tabulation, &words, &scratch, key, &sheet);
                 }
@@ -470,10 +528,13 @@ fn extreme_tabulations() {
     let mut counters = Counters::default();
     for r in 1..=1_024 {
         let s = rng.below(5) as u32;
-        let tabulation =
-            if rng.one_in(4) { vec![u16::MAX; 2_048] } else { extreme_tabulation(&mut rng) };
+        let tabulation = if rng.one_in(4) {
+            vec![u16::MAX; TABULATION_LEN]
+        } else {
+            extreme_tabulation(&mut rng)
+        };
         let scratch = vec![u32::MAX; scratch_length(r, s)];
-        let mut words = fresh(r, s);
+        let mut words = fresh(r, s, random_station(&mut rng));
         for key in [u32::MAX, 0x00FF_00FF, rng.next_u32().max(1), 1, rng.next_u32().max(1)] {
             let tier = random_tier(&mut rng);
             beside.change(Insert(tier), &tabulation, &mut words, &scratch, &mut counters, key);
@@ -491,12 +552,11 @@ fn extreme_tabulations() {
 fn way_to(
     rng: &mut Rng,
     tabulation: &[u16],
-    r: u32,
-    s: u32,
+    [r, s, station]: Laid,
     members: &[Member],
     strangers: &[u32],
 ) -> Vec<u32> {
-    let mut words = fresh(r, s);
+    let mut words = fresh(r, s, station);
     let mut order = members.to_vec();
     rng.shuffle(&mut order);
     let mut call = |way: Change, key: u32| change(way, tabulation, &mut words, key);
@@ -519,14 +579,15 @@ fn way_to(
     words
 }
 
-/// The sizes, the tabulation and a set of keys that fit, for two histories: mostly of a small board, now and then of the largest.
-fn fitting_set(rng: &mut Rng, round: usize) -> Option<(u32, u32, Vec<u16>, Vec<u32>)> {
+/// What a board is laid with, its tabulation and a set of keys that fit, for two histories: mostly of a small board, now and then of the largest.
+fn fitting_set(rng: &mut Rng, round: usize) -> Option<(Laid, Vec<u16>, Vec<u32>)> {
     let large = round % 600 == 0;
     let (r, s) = if large { (1_024, 64) } else { (1 + rng.below(8) as u32, rng.below(5) as u32) };
     let tabulation = if large { HOUSE.to_vec() } else { narrow_tabulation(rng) };
     let count = if large { 600 } else { 1 + rng.below(2 * r as usize) };
     let keys = if large { any_keys(rng, count) } else { random_keys(rng, count) };
-    image(&tabulation, r, s, &tier_0(&keys)).map(|_| (r, s, tabulation, keys))
+    let laid = [r, s, random_station(rng)];
+    image_of(&tabulation, laid, &tier_0(&keys)).map(|_| (laid, tabulation, keys))
 }
 
 /// Keys that are not in the set.
@@ -559,12 +620,12 @@ fn two_histories_of_one_set() {
     let mut beside = Beside::new();
     let (mut sets, mut stashed) = (0, 0);
     for round in 0..3_000 {
-        let Some((r, s, tabulation, keys)) = fitting_set(&mut rng, round) else { continue };
+        let Some((laid, tabulation, keys)) = fitting_set(&mut rng, round) else { continue };
         let members = random_tiers(&mut rng, &keys);
-        let canonical = image(&tabulation, r, s, &members).expect("they fit with any tiers");
+        let canonical = image_of(&tabulation, laid, &members).expect("they fit with any tiers");
         let strangers = strangers_to(&mut rng, &keys);
-        let one = way_to(&mut rng, &tabulation, r, s, &members, &strangers);
-        let two = way_to(&mut rng, &tabulation, r, s, &members, &strangers);
+        let one = way_to(&mut rng, &tabulation, laid, &members, &strangers);
+        let two = way_to(&mut rng, &tabulation, laid, &members, &strangers);
         assert_eq!(one, two, "two histories of {members:?}");
         assert_eq!(one, canonical, "not the image of {members:?}");
         let mut trails =
@@ -584,18 +645,63 @@ fn two_histories_of_one_set() {
     assert!(sets > 1_000 && stashed > 500 && trails > 10_000 && sales > 5_000);
 }
 
+/// One set at two stations never leaves the same words: each has the image at its own station, by a history of its own. They agree in r, s and the number of keys,
+/// and differ in word 4; mostly the keys sit elsewhere, too, and some sets fit at one station alone. With the other's station in word 4 the words are an image
+/// exactly where the keys sit alike.
+#[test]
+fn one_set_at_two_stations() {
+    let mut rng = Rng::new(53);
+    let mut beside = Beside::new();
+    let (mut alike, mut elsewhere, mut full) = (0, 0, 0);
+    for round in 0..3_000 {
+        let Some((laid, tabulation, keys)) = fitting_set(&mut rng, round) else { continue };
+        let [r, s, station] = laid;
+        let other = (station + 1 + rng.below(255) as u32) % 256;
+        let members = random_tiers(&mut rng, &keys);
+        let strangers = strangers_to(&mut rng, &keys);
+        let here = way_to(&mut rng, &tabulation, laid, &members, &strangers);
+        let Some(canonical) = image_of(&tabulation, [r, s, other], &members) else {
+            let mut words = fresh(r, s, other);
+            let answers = BTreeSet::from_iter(
+                members
+                    .iter()
+                    .map(|(key, tier)| change(Insert(*tier), &tabulation, &mut words, *key)),
+            );
+            assert!(answers.contains(&8), "{members:?} fit at station {other}");
+            full += 1;
+            continue;
+        };
+        let there = way_to(&mut rng, &tabulation, [r, s, other], &members, &strangers);
+        assert_eq!(there, canonical, "not the image of {members:?} at station {other}");
+        assert_eq!([here[4], there[4]], [station, other]);
+        assert_eq!(here[..3], there[..3], "{members:?} at the stations {station} and {other}");
+        let is_alike = here[HEADER_LENGTH..] == there[HEADER_LENGTH..];
+        let mut moved = here.clone();
+        moved[4] = other;
+        let scratch = random_words(&mut rng, scratch_length(r, s));
+        let answer = beside.check(&tabulation, &moved, &scratch);
+        assert_eq!(answer, if is_alike { 0 } else { 4 }, "{here:?} with station {other}");
+        (alike, elsewhere) = (alike + u32::from(is_alike), elsewhere + u32::from(!is_alike));
+    }
+    println!(
+        "two stations: {alike} sets sit alike, {elsewhere} elsewhere, {full} fit at one alone"
+    );
+    assert!(alike > 300 && elsewhere > 1_000 && full > 30);
+}
+
 /// The trails of all keys of many sets, on sheets of no word, one too few, just enough, 2r, and more: 11 exactly where the trail is longer than the sheet.
 #[test]
 fn trails_on_sheets_of_all_lengths() {
     let mut rng = Rng::new(50);
     let mut beside = Beside::new();
     for round in 1..1_500 {
-        let Some((r, s, tabulation, keys)) = fitting_set(&mut rng, round) else { continue };
+        let Some((laid, tabulation, keys)) = fitting_set(&mut rng, round) else { continue };
         let members = random_tiers(&mut rng, &keys);
-        let words = image(&tabulation, r, s, &members).expect("they fit with any tiers");
+        let words = image_of(&tabulation, laid, &members).expect("they fit with any tiers");
+        let [r, s, _] = laid;
         let scratch = random_words(&mut rng, scratch_length(r, s));
         for key in keys {
-            let (count, most) = (trail_length(&tabulation, r, s, &members, key), 2 * r as usize);
+            let (count, most) = (trail_length(&tabulation, laid, &members, key), 2 * r as usize);
             for length in [0, count.saturating_sub(1), count, most, most + 1 + rng.below(9)] {
                 let sheet = random_words(&mut rng, length);
                 let (answer, trail) = beside.trail(&tabulation, &words, &scratch, key, &sheet);
@@ -609,21 +715,22 @@ fn trails_on_sheets_of_all_lengths() {
     assert!(done > 10_000 && short > 5_000);
 }
 
-/// A tabulation under which the keys 1 to 2r are one cycle through all slots, for every r: key k has the hashes k/2 and (k + 1)/2 rounded down, so that it has
-/// one slot in common with the key before it and the other with the key behind it.
-fn cycle_tabulation() -> Vec<u16> {
-    let mut tabulation = vec![0; 2_048];
+/// A tabulation under which the keys 1 to 2r are one cycle through all slots, for every r, at this station: key k has the hashes k/2 and (k + 1)/2 rounded down,
+/// so that it has one slot in common with the key before it and the other with the key behind it. The lowest byte counts by the station's stretch alone.
+fn cycle_tabulation(station: u32) -> Vec<u16> {
+    let mut tabulation = vec![0; TABULATION_LEN];
     for byte in 0..256u16 {
-        let at = usize::from(byte);
-        (tabulation[at], tabulation[1_024 + at]) = (byte / 2, byte.div_ceil(2));
-        (tabulation[256 + at], tabulation[1_280 + at]) = (128 * byte, 128 * byte);
+        let turned = 1_024 + (usize::from(byte) + station as usize) % 256;
+        (tabulation[turned], tabulation[HALF_LEN + turned]) = (byte / 2, byte.div_ceil(2));
+        let second = 256 + usize::from(byte);
+        (tabulation[second], tabulation[HALF_LEN + second]) = (128 * byte, 128 * byte);
     }
     tabulation
 }
 
 /// The words of a board with all these keys, which come in any order.
-fn filled(rng: &mut Rng, tabulation: &[u16], r: u32, s: u32, keys: &[u32]) -> Vec<u32> {
-    let mut words = fresh(r, s);
+fn filled(rng: &mut Rng, tabulation: &[u16], [r, s, station]: Laid, keys: &[u32]) -> Vec<u32> {
+    let mut words = fresh(r, s, station);
     let mut order = keys.to_vec();
     rng.shuffle(&mut order);
     for key in order {
@@ -661,10 +768,11 @@ fn some_keys(last: u32) -> Vec<u32> {
 fn trails_through_all_slots() {
     let mut rng = Rng::new(51);
     let mut beside = Beside::new();
-    let tabulation = cycle_tabulation();
     for r in (1..=40).chain([128, 1_024]) {
         let (s, all) = (if r == 1_024 { 64 } else { rng.below(65) as u32 }, 2 * r);
-        let mut words = filled(&mut rng, &tabulation, r, s, &Vec::from_iter(1..=all));
+        let station = random_station(&mut rng);
+        let tabulation = cycle_tabulation(station);
+        let mut words = filled(&mut rng, &tabulation, [r, s, station], &Vec::from_iter(1..=all));
         let asked = some_keys(all);
         let found = trails_of(&mut rng, &mut beside, &tabulation, &words, &asked);
         let cycle: Vec<Vec<u32>> = asked.iter().map(|key| up_the_cycle(*key, all)).collect();
@@ -691,7 +799,7 @@ fn the_same_keys_with_other_tiers() {
     let mut rng = Rng::new(48);
     let (mut sets, mut both, mut single, mut stashed) = (0, 0, 0, 0);
     for round in 1..1_500 {
-        let Some((r, s, tabulation, keys)) = fitting_set(&mut rng, round) else { continue };
+        let Some((laid, tabulation, keys)) = fitting_set(&mut rng, round) else { continue };
         let members = random_tiers(&mut rng, &keys);
         let mut others = members.clone();
         let mut moved = BTreeSet::new();
@@ -701,8 +809,8 @@ fn the_same_keys_with_other_tiers() {
             moved.insert(others[at].0);
         }
         let strangers = strangers_to(&mut rng, &keys);
-        let one = way_to(&mut rng, &tabulation, r, s, &members, &strangers);
-        let two = way_to(&mut rng, &tabulation, r, s, &others, &strangers);
+        let one = way_to(&mut rng, &tabulation, laid, &members, &strangers);
+        let two = way_to(&mut rng, &tabulation, laid, &others, &strangers);
         assert_ne!(one, two, "{members:?} and {others:?}");
         for at in 0..one.len() {
             let (word, key) = word_at(&one, at);
@@ -771,7 +879,7 @@ const LIMITS: [(u32, i32, Result<u32, u32>); 29] = [
 fn prices_at_their_limits() {
     let mut beside = Beside::new();
     let members: Vec<Member> = (0..8).map(|tier| (1_000 + tier, tier)).collect();
-    let words = image(&HOUSE, 8, 8, &members).expect("they fit");
+    let words = image(&HOUSE, 8, 8, 77, &members).expect("they fit");
     for (key, tier) in members {
         let mut price = |base, steps: &[i32]| {
             let (answer, sale) = beside.open(&HOUSE, &words, key, base, steps);
@@ -802,11 +910,12 @@ fn prices_at_their_limits() {
 /// them, the words and the counters.
 fn run(
     tabulation: &[u16],
-    [r, s]: [u32; 2],
+    [r, s, station]: Laid,
     changes: &[(Change, u32)],
     mut meanwhile: impl FnMut(&[u32]),
 ) -> (Vec<u32>, Vec<u32>, Counters) {
-    let (mut words, mut counters, mut told) = (fresh(r, s), Counters::default(), Vec::new());
+    let mut words = fresh(r, s, station);
+    let (mut counters, mut told) = (Counters::default(), Vec::new());
     let mut scratch = vec![9; scratch_length(r, s)];
     for (way, key) in changes {
         meanwhile(&words);
@@ -861,7 +970,7 @@ fn sales_leave_no_trace() {
     let mut till = Till::default();
     let mut done = 0;
     for _ in 0..2_000 {
-        let sizes = [1 + rng.below(6) as u32, rng.below(4) as u32];
+        let laid = [1 + rng.below(6) as u32, rng.below(4) as u32, random_station(&mut rng)];
         let tabulation = narrow_tabulation(&mut rng);
         let keys = random_keys(&mut rng, 12);
         let mut change = || {
@@ -871,8 +980,8 @@ fn sales_leave_no_trace() {
         let changes: Vec<(Change, u32)> = (0..40).map(|_| change()).collect();
         till.open.clear();
         let serve = |words: &[u32]| till.serve(&mut rng, &tabulation, words, &keys);
-        let with = run(&tabulation, sizes, &changes, serve);
-        let without = run(&tabulation, sizes, &changes, |_| ());
+        let with = run(&tabulation, laid, &changes, serve);
+        let without = run(&tabulation, laid, &changes, |_| ());
         assert_eq!(with, without, "{changes:?}");
         done += with.2.done;
     }
@@ -905,7 +1014,7 @@ fn sets_of_all_sizes_and_loads() {
         } as u32;
         let s = rng.below(65) as u32;
         let tabulation = match rng.below(4) {
-            0 => vec![rng.next_u32() as u16; 2_048],
+            0 => vec![rng.next_u32() as u16; TABULATION_LEN],
             1 => HOUSE.to_vec(),
             2 => random_tabulation(&mut rng, 1 + 4 * r as usize),
             _ => random_tabulation(&mut rng, 65_536),
@@ -918,7 +1027,8 @@ fn sets_of_all_sizes_and_loads() {
         };
         let keys = any_keys(&mut rng, count);
         let scratch = vec![3; scratch_length(r, s)];
-        let Some(mut words) = image(&tabulation, r, s, &random_tiers(&mut rng, &keys)) else {
+        let laid = [r, s, random_station(&mut rng)];
+        let Some(mut words) = image_of(&tabulation, laid, &random_tiers(&mut rng, &keys)) else {
             full += 1;
             continue;
         };
@@ -944,6 +1054,7 @@ fn sets_of_all_sizes_and_loads() {
 #[derive(Clone, Copy, Debug, PartialEq, Eq, PartialOrd, Ord)]
 enum Word {
     Heading,
+    Station,
     Key,
     Next,
     Tier,
@@ -953,11 +1064,11 @@ enum Word {
 
 /// What a word is, and the key that it stands with: 0 where that is none.
 fn word_at(words: &[u32], at: usize) -> (Word, u32) {
-    let stash = 4 + 6 * words[0] as usize;
-    if at < 4 {
-        (Word::Heading, 0)
+    let stash = HEADER_LENGTH + 6 * words[0] as usize;
+    if at < HEADER_LENGTH {
+        (if at == 4 { Word::Station } else { Word::Heading }, 0)
     } else if at < stash {
-        let which = (at - 4) % 3;
+        let which = (at - HEADER_LENGTH) % 3;
         ([Word::Key, Word::Next, Word::Tier][which], words[at - which])
     } else {
         let which = (at - stash) % 2;
@@ -967,7 +1078,7 @@ fn word_at(words: &[u32], at: usize) -> (Word, u32) {
 
 /// Whether a key stands in two slots of sound words: it is the smallest of a tree.
 fn stands_twice(words: &[u32], key: u32) -> bool {
-    let slots = words[4..4 + 6 * words[0] as usize].chunks_exact(3);
+    let slots = words[HEADER_LENGTH..][..6 * words[0] as usize].chunks_exact(3);
     key != 0 && slots.filter(|slot| slot[0] == key).count() == 2
 }
 
@@ -998,28 +1109,32 @@ fn damaged_sale(
     sale_at(key, tier).0
 }
 
-/// Each word of 300 small images changed to eight values: 2 for words 0 and 1, and otherwise as the reference says. Every kind of word, of filled and of empty
-/// slots and places, must be found out, by check and by trail, of a key of the set and of none. A sale finds out the tier of its key alone.
+/// Each word of 300 small images changed to eleven values: 2 for words 0 and 1 and for a station above 255, and otherwise as the reference says. Every kind of
+/// word, of filled and of empty slots and places, must be found out, by check and by trail, of a key of the set and of none. A sale finds out the tier of its
+/// key alone.
 #[test]
 fn damages_of_one_word() {
     let mut rng = Rng::new(46);
     let mut beside = Beside::new();
     let mut tampered: BTreeMap<(Word, bool), u32> = BTreeMap::new();
     let mut sales: BTreeMap<(u32, Word, u32), u32> = BTreeMap::new();
-    let mut another = 0;
+    let (mut another, mut another_station) = (0, 0);
     for _ in 0..300 {
         let (r, s) = (1 + rng.below(4) as u32, rng.below(3) as u32);
         let tabulation = narrow_tabulation(&mut rng);
         let count = rng.below(6);
         let keys = random_keys(&mut rng, count);
-        let Some(sound) = image(&tabulation, r, s, &random_tiers(&mut rng, &keys)) else {
+        let laid = [r, s, random_station(&mut rng)];
+        let Some(sound) = image_of(&tabulation, laid, &random_tiers(&mut rng, &keys)) else {
             continue;
         };
         let scratch = vec![5; scratch_length(r, s)];
         for at in 0..sound.len() {
             let first = keys.first().copied().unwrap_or(9);
             let (word, key) = word_at(&sound, at);
-            for value in [0, 1, 7, 8, first, sound[at] ^ 1, sound[at].wrapping_add(1), u32::MAX] {
+            let small = [0, 1, 7, 8, 255, 256];
+            let near = [first, sound[at] ^ 1, sound[at].wrapping_add(1)];
+            for value in small.into_iter().chain(near).chain([sound[at] ^ 256, u32::MAX]) {
                 let mut words = sound.clone();
                 words[at] = value;
                 let answer = beside.check(&tabulation, &words, &scratch);
@@ -1031,18 +1146,21 @@ fn damages_of_one_word() {
                 let asked = if key == 0 { first } else { key };
                 let opened = damaged_sale(&mut beside, &tabulation, &words, asked, answer);
                 *sales.entry((answer, word, opened)).or_default() += 1;
-                match answer {
-                    4 => *tampered.entry((word, key != 0)).or_default() += 1,
-                    0 if words != sound => another += 1,
-                    answer => assert!(answer == 0 || (answer == 2 && at < 2), "{answer} at {at}"),
+                match (answer, word) {
+                    (4, _) => *tampered.entry((word, key != 0)).or_default() += 1,
+                    (0, Word::Station) if words != sound => another_station += 1,
+                    (0, _) if words != sound => another += 1,
+                    (2, Word::Station) => assert!(value > MAX_STATION, "{value} at {at}"),
+                    _ => assert!(answer == 0 || (answer == 2 && at < 2), "{answer} at {at}"),
                 }
             }
         }
     }
-    println!("damages found: {tampered:?}; {another} that are another image");
-    // Headings stand with no key; every other word stands with one, or is empty.
-    assert_eq!(tampered.len(), 11);
-    assert!(tampered.values().all(|times| *times > 50) && another > 0);
+    println!("damages found: {tampered:?}");
+    println!("{another} that are the image of another set, {another_station} at another station");
+    // Headings and the station stand with no key; every other word stands with one, or is empty.
+    assert_eq!(tampered.len(), 12);
+    assert!(tampered.values().all(|times| *times > 50) && another > 0 && another_station > 50);
     println!("sales, by the answer of check, the word and their own answer: {sales:?}");
     let words_of = |check, answer| {
         let these = sales.keys().filter(|key| (key.0, key.2) == (check, answer));
@@ -1050,7 +1168,7 @@ fn damages_of_one_word() {
     };
     // Words that are no image: a sale is refused with 4 for a tier alone, and can be opened whatever the damaged word is.
     assert_eq!(words_of(4, 4), [Word::Tier, Word::StashTier]);
-    assert_eq!(words_of(4, 0).len(), 6);
+    assert_eq!(words_of(4, 0).len(), 7);
     assert_eq!(words_of(0, 4), []);
 }
 
@@ -1069,7 +1187,8 @@ fn damages_of_a_tier() {
         let tabulation = narrow_tabulation(&mut rng);
         let count = rng.below(7);
         let keys = random_keys(&mut rng, count);
-        let Some(sound) = image(&tabulation, r, s, &random_tiers(&mut rng, &keys)) else {
+        let laid = [r, s, random_station(&mut rng)];
+        let Some(sound) = image_of(&tabulation, laid, &random_tiers(&mut rng, &keys)) else {
             continue;
         };
         let scratch = vec![5; scratch_length(r, s)];
@@ -1121,13 +1240,87 @@ fn damages_of_a_tier() {
     assert!(sales.values().all(|times| *times > 30));
 }
 
+/// The station word of many small images changed, as every call sees it: above 255 each answers 2, before any other cause but the tabulation; else the words are
+/// the image at that station of the same set where its keys sit alike, and of no set (4) where they do not. A lookup looks into the slots of the new station,
+/// and so does a sale; the view asks for no slot.
+#[test]
+fn damages_of_the_station() {
+    let mut rng = Rng::new(54);
+    let mut beside = Beside::new();
+    let mut counters = Counters::default();
+    let mut times: BTreeMap<(u32, u32), u32> = BTreeMap::new();
+    for _ in 0..400 {
+        let (r, s) = (1 + rng.below(4) as u32, rng.below(4) as u32);
+        let tabulation = narrow_tabulation(&mut rng);
+        let count = 1 + rng.below(7);
+        let keys = random_keys(&mut rng, count);
+        let members = random_tiers(&mut rng, &keys);
+        let station = random_station(&mut rng);
+        let Some(sound) = image(&tabulation, r, s, station, &members) else { continue };
+        let scratch = vec![5; scratch_length(r, s)];
+        let near = [station ^ 1, (station + 1) % 256, station ^ 128, station + 256, 0, 255];
+        for value in near.into_iter().chain([random_station(&mut rng)]).chain(WRONG_STATIONS) {
+            let mut words = sound.clone();
+            words[4] = value;
+            let answer = match image(&tabulation, r, s, value, &members) {
+                _ if value > MAX_STATION => 2,
+                Some(image) if image == words => 0,
+                _ => 4,
+            };
+            assert_eq!(beside.check(&tabulation, &words, &scratch), answer, "{value}: {words:?}");
+            assert_eq!(beside.check(&tabulation[1..], &words, &scratch), 1);
+            assert_eq!(beside.stash(&words), if answer == 2 { 2 } else { 0 }, "{value}");
+            for key in keys.iter().copied().chain([0]) {
+                for way in [Insert(0), Insert(8), Remove] {
+                    let mut words = words.clone();
+                    let got =
+                        beside.change(way, &tabulation, &mut words, &scratch, &mut counters, key);
+                    assert_eq!(as_check(got), answer, "{way:?} of {key}, {value}");
+                    assert_eq!(words[4], value, "{way:?} of {key}");
+                }
+                let sheet = random_words(&mut rng, 2 * r as usize);
+                let (traced, _) = beside.trail(&tabulation, &words, &scratch, key, &sheet);
+                assert_eq!(as_check(traced), answer, "trail of {key}, {value}");
+                let found = beside.lookup(&tabulation, &words, key);
+                let opened = beside.open(&tabulation, &words, key, BASE, &STEPS);
+                let tier = match answer {
+                    2 => Err(2),
+                    _ if key == 0 => Err(5),
+                    _ => Ok(copies(&tabulation, &words, key).first().copied()),
+                };
+                assert_eq!(found, tier.map_or_else(|n| (n, None), |tier| (0, tier)), "{key}");
+                assert_eq!(opened, tier.map_or_else(|n| (n, None), |tier| sale_at(key, tier)));
+                *times.entry((answer, opened.0)).or_default() += u32::from(key != 0);
+            }
+        }
+    }
+    println!("changed stations, by the answers of check and of a sale: {times:?}");
+    times.retain(|_, times| *times > 0);
+    assert_eq!(Vec::from_iter(times.keys().copied()), [(0, 0), (2, 2), (4, 0), (4, 7)]);
+    assert!(times.values().all(|times| *times > 300));
+    let on_words = [
+        Kind::Insert,
+        Kind::Remove,
+        Kind::Check,
+        Kind::Lookup,
+        Kind::Stash,
+        Kind::Trail,
+        Kind::Open,
+    ];
+    for kind in on_words {
+        assert!(beside.refused_stations(kind) > 2_000, "{kind:?} was seldom asked");
+    }
+}
+
 /// The tier words of all copies of a key that a lookup can meet, in word order: in its slot of table 0, in its slot of table 1, in the stash places.
 fn copies(tabulation: &[u16], words: &[u32], key: u32) -> Vec<u32> {
     let r = words[0] as usize;
-    let [first, second] = hashes(tabulation, words[0], key).expect("a sound book, r and key");
-    let slots = [first as usize, r + second as usize].map(|slot| &words[4 + 3 * slot..][..3]);
+    let [first, second] =
+        hashes(tabulation, words[0], words[4], key).expect("a sound book, r, station and key");
+    let slot = |slot: usize| &words[HEADER_LENGTH + 3 * slot..][..3];
+    let slots = [first as usize, r + second as usize].map(slot);
     let in_slots = slots.into_iter().filter(|slot| slot[0] == key).map(|slot| slot[2]);
-    let places = words[4 + 6 * r..].chunks_exact(2);
+    let places = words[HEADER_LENGTH + 6 * r..].chunks_exact(2);
     in_slots.chain(places.filter(|place| place[0] == key).map(|place| place[1])).collect()
 }
 
@@ -1145,6 +1338,7 @@ fn random_memory() {
         while words.len() < words_length(r, s) {
             words.push(if rng.one_in(2) { rng.pick(&keys) } else { rng.below(4) as u32 });
         }
+        words[4] = random_station(&mut rng);
         let any_length = round % 4 == 0;
         if any_length {
             let length = rng.below(40);
