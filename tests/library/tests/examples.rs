@@ -188,6 +188,126 @@ fn tiers_on_the_test_board() {
     call(Insert(0), 193, 0, &other, [193, 0]);
 }
 
+/// The test tabulation with two entries more: entry 16 of table 0's station stretch is 1, and entry 0 of table 1's. A key sits where the test board has it; but
+/// where its lowest byte and the station come to 16, one slot on in table 0, and where they come to 0 modulo 256, one slot on in table 1.
+fn two_more_entries() -> Vec<u16> {
+    let mut tabulation = test_tabulation();
+    (tabulation[1_024 + 16], tabulation[2_304]) = (1, 1);
+    tabulation
+}
+
+/// The keys 1, 65 and 129 at the tiers 5, 0 and 7, all words at six stations, written out by hand: all three have the slots 0.1 and 1.0, as in K5, but for the
+/// one that comes to 16 or to 0. Their trails, sales and stash; and the board emptied again, which keeps its station.
+#[test]
+#[rustfmt::skip]
+fn k5_at_six_stations() {
+    let mut beside = Beside::new();
+    let mut counters = Counters::default();
+    let tabulation = two_more_entries();
+    let (scratch, members) = ([3; 56], [(1, 5), (65, 0), (129, 7)]);
+    const NONE: [u32; 3] = [0, 0, 0];
+    const K5: [[u32; 3]; 4] = [[1, 65, 5], NONE, [65, 1, 0], NONE];
+    // What stands in 0.1, 0.2, 1.0 and 1.1, in the stash, and the trails.
+    for (station, [in_01, in_02, in_10, in_11], stash, trails) in [
+        (0, K5, [129, 7], [&[1][..], &[65, 1], &[]]),
+        // 1 has 0.2 and 1.0
+        (15, [[65, 129, 0], [1, 65, 5], [129, 1, 7], NONE], [0, 0], [&[1, 129, 65], &[65], &[129, 65]]),
+        // 129 has 0.1 and 1.1
+        (127, [[1, 65, 5], NONE, [65, 129, 0], [129, 1, 7]], [0, 0], [&[1], &[65, 1], &[129, 1]]),
+        // 65 has 0.2 and 1.0, by a sum of 272
+        (207, [[1, 65, 5], [65, 129, 0], [129, 1, 7], NONE], [0, 0], [&[1], &[65, 129, 1], &[129, 1]]),
+        (254, K5, [129, 7], [&[1], &[65, 1], &[]]),
+        // 1 has 0.1 and 1.1, by a sum of 256
+        (255, [[65, 129, 0], NONE, [129, 1, 7], [1, 65, 5]], [0, 0], [&[1, 65], &[65], &[129, 65]]),
+    ] {
+        let slots = [NONE, in_01, in_02, NONE, in_10, in_11, NONE, NONE];
+        let stashed = u32::from(stash != [0, 0]);
+        let expected = [&[4, 1, 3, stashed, station], slots.as_flattened(), &stash].concat();
+        let mut words = vec![9; 31];
+        assert_eq!(beside.init(&mut words, 4, 1, station, &mut counters), 0);
+        let mut change = |words: &mut [u32], way, key| {
+            assert_eq!(beside.change(way, &tabulation, words, &scratch, &mut counters, key), 0);
+        };
+        for (key, tier) in members {
+            change(&mut words, Insert(tier), key);
+        }
+        assert_eq!(words, expected, "station {station}");
+        let mut left = words.clone();
+        for (key, _) in members {
+            change(&mut left, Remove, key);
+        }
+        assert_eq!(left, fresh(4, 1, station), "the station stays");
+        assert_eq!(beside.check(&tabulation, &words, &scratch), 0);
+        assert_eq!(beside.stash(&words), 0);
+        for ((key, tier), trail) in members.into_iter().zip(trails) {
+            let found = beside.lookup(&tabulation, &words, key);
+            assert_eq!(found, (0, Some(tier)), "{key} at station {station}");
+            let traced = beside.trail(&tabulation, &words, &scratch, key, &[7; 3]);
+            assert_eq!(traced, (0, trail.to_vec()), "{key} at station {station}");
+            let (answer, sale) = beside.open(&tabulation, &words, key, 1_799, &[0; 8]);
+            let price = 1_799;
+            assert_eq!((answer, sale), (0, Some(Sale { key, tier, price })), "station {station}");
+        }
+    }
+}
+
+/// The answer of a trail, how many keys it has, and the sheet that it was written to.
+fn trail_of(tabulation: &[u16], words: &[u32], key: u32) -> (u32, u32, [u32; 8]) {
+    let (mut scratch, mut sheet, mut count) = (vec![9; 72], [7; 8], 77);
+    let answer = trail(tabulation, words, &mut scratch, key, &mut sheet, &mut count);
+    (answer, count, sheet)
+}
+
+/// The rows of the test board at every station. The tabulation has the numbers of the test tabulation in the station's stretches, and zeros elsewhere; a key of a
+/// row is renamed so that its lowest byte and the station come to it, and so that the higher bytes keep the order. Words and trails are those of the row, with
+/// the keys renamed, and the station in word 4.
+#[test]
+fn the_rows_at_every_station() {
+    let board = test_tabulation();
+    let mut tabulation = vec![0; 2_560];
+    for (entry, number) in board.iter().enumerate().filter(|(_, number)| **number != 0) {
+        tabulation[1_024 + entry] = *number;
+    }
+    for station in 0..=255 {
+        for (s, keys) in [
+            (1, &[17][..]),
+            (1, &[1, 17]),
+            (1, &[1, 65, 129]),
+            (2, &[1, 65, 129, 193]),
+            (1, &[17, 65, 129]),
+            (1, &[1, 33, 34, 65, 98]),
+            (1, &[1, 34, 65, 98, 225]),
+            (1, &[1, 33, 34, 98, 193]),
+        ] {
+            let renamed = |key: u32| match keys.iter().position(|of_row| *of_row == key) {
+                Some(place) => 256 * (1 + place as u32) + (key + 256 - station) % 256,
+                None => key,
+            };
+            let row = board_of(4, s, keys);
+            let mut words = fresh(4, s, station);
+            for key in keys {
+                let way = Insert(key % 8);
+                assert_eq!(change(way, &tabulation, &mut words, renamed(*key)), 0, "{keys:?}");
+            }
+            let slot = |slot: &[u32]| [renamed(slot[0]), renamed(slot[1]), slot[2]];
+            let place = |place: &[u32]| [renamed(place[0]), place[1]];
+            let mut expected = vec![4, s, row[2], row[3], station];
+            expected.extend(row[5..29].chunks(3).flat_map(slot));
+            expected.extend(row[29..].chunks(2).flat_map(place));
+            assert_eq!(words, expected, "{keys:?} at station {station}");
+            for key in keys {
+                let (answer, count, sheet) = trail_of(&board, &row, *key);
+                let there = trail_of(&tabulation, &words, renamed(*key));
+                assert_eq!(
+                    there,
+                    (answer, count, sheet.map(renamed)),
+                    "{key} at station {station}"
+                );
+            }
+        }
+    }
+}
+
 /// The words of K5 with tiers: 1 and 65 on a cycle, at the tiers 3 and 0, and 129 in the stash, at tier 6. That is full.
 fn k5_with_tiers() -> Vec<u32> {
     let mut words = fresh(4, 1, 0);
