@@ -8,7 +8,7 @@ use std::process::{Command, Stdio};
 
 use reference::fast::Fast;
 use reference::rng::Rng;
-use reference::samples::{random_tabulation, test_tabulation};
+use reference::samples::{random_station, random_tabulation, test_tabulation};
 
 const PROGRAM: &str = concat!(env!("CARGO_MANIFEST_DIR"), "/../../target/bin/console");
 
@@ -78,11 +78,35 @@ fn the_worked_listing() {
     let got = compare(
         &folder,
         Some(&book_of(&test_tabulation())),
-        b"2,1\nA,65,0\nA,1,0\nA,33,0\nA,97,0\nL,65\n",
+        b"2,1,0\nA,65,0\nA,1,0\nA,33,0\nA,97,0\nL,65\n",
     );
     assert_eq!(
         String::from_utf8_lossy(&got),
         "A,65,0,0\nA,1,0,0\nA,33,0,0\nA,97,0,8\nL,65,0\nP,0,1,1,33,0\nP,1,0,33,1,0\nD,65,0\n"
+    );
+}
+
+/// The keys of the worked listing at station 31. In the stretches for stations the book has a 1 where key 1 comes to in table 0, and one where key 97 does in
+/// table 1: so 1 is moved from 0.1 to 0.0, and 97 from 1.0 to 1.1, and all four find room in pockets. The same lines at station 30 have the pockets of station 0,
+/// where 97 has no place.
+#[test]
+fn a_listing_at_another_station() {
+    let folder = Folder::new("station");
+    let mut tabulation = test_tabulation();
+    (tabulation[1_024 + 32], tabulation[2_304 + 128]) = (1, 1);
+    let book = book_of(&tabulation);
+    let lines = "A,65,7\nA,1,2\nA,33,5\nA,97,3\nL,1\nL,97\n";
+    let got = compare(&folder, Some(&book), format!("2,1,31\n{lines}").as_bytes());
+    assert_eq!(
+        String::from_utf8_lossy(&got),
+        "A,65,7,0\nA,1,2,0\nA,33,5,0\nA,97,3,0\nL,1,2\nL,97,3\n\
+         P,0,0,1,33,2\nP,0,1,33,65,5\nP,1,0,65,97,7\nP,1,1,97,1,3\n"
+    );
+    let got = compare(&folder, Some(&book), format!("2,1,30\n{lines}").as_bytes());
+    assert_eq!(
+        String::from_utf8_lossy(&got),
+        "A,65,7,0\nA,1,2,0\nA,33,5,0\nA,97,3,8\nL,1,2\nL,97,N\n\
+         P,0,1,1,33,2\nP,1,0,33,1,5\nD,65,7\n"
     );
 }
 
@@ -92,7 +116,7 @@ fn the_worked_listing() {
 fn a_session_with_tiers() {
     let folder = Folder::new("tiers");
     let session = [
-        ("4,1", ""),
+        ("4,1,0", ""),
         ("A,129,6", "A,129,6,0"),
         ("A,65,0", "A,65,0,0"),
         ("A,1,3", "A,1,3,0"),
@@ -141,19 +165,19 @@ fn the_test_board() {
     let folder = Folder::new("board");
     let book = book_of(&test_tabulation());
     for session in [
-        "4,1",
-        "4,1 A,17",
-        "4,1 A,17 A,1",
-        "4,1 A,65 A,1",
-        "4,1 A,129 A,65 A,1",
-        "4,1 A,129 A,65 A,1 A,193",
-        "4,2 A,193 A,129 A,65 A,1",
-        "4,1 A,129 A,65 A,1 W,65",
-        "4,1 A,129 A,65 A,17",
-        "4,1 A,98 A,65 A,34 A,33 A,1",
-        "4,1 A,98 A,65 A,34 A,33 A,1 W,33",
-        "4,1 A,225 A,98 A,65 A,34 A,1",
-        "1,0 A,9 A,7 A,8",
+        "4,1,0",
+        "4,1,0 A,17",
+        "4,1,0 A,17 A,1",
+        "4,1,0 A,65 A,1",
+        "4,1,0 A,129 A,65 A,1",
+        "4,1,0 A,129 A,65 A,1 A,193",
+        "4,2,0 A,193 A,129 A,65 A,1",
+        "4,1,0 A,129 A,65 A,1 W,65",
+        "4,1,0 A,129 A,65 A,17",
+        "4,1,0 A,98 A,65 A,34 A,33 A,1",
+        "4,1,0 A,98 A,65 A,34 A,33 A,1 W,33",
+        "4,1,0 A,225 A,98 A,65 A,34 A,1",
+        "1,0,0 A,9 A,7 A,8",
     ] {
         for step in [0, 3] {
             let with_tier = |(at, line): (usize, &str)| match line.starts_with('A') {
@@ -165,6 +189,32 @@ fn the_test_board() {
         }
     }
 }
+
+/// First lines: those that are accepted, those whose numbers are refused, and those of another form. The last two are answered with E,1 alone.
+const ACCEPTED: &[&str] =
+    &["4,1,0", "1,0,0", "1024,64,0", "4,1,1", "4,1,10", "4,1,255", "1024,64,255"];
+
+#[rustfmt::skip]
+const REFUSED: &[&str] = &[
+    "1025,1,0", "4,65,0", "0,1,0", "4294967295,4294967295,0", "4294967295,4294967295,4294967295", "0,65,256",
+    "4,1,256", "4,1,257", "4,1,300", "4,1,511", "4,1,512", "4,1,1000", "4,1,2550", "4,1,65536", "4,1,2147483648",
+    "4,1,4294967295",
+];
+
+#[rustfmt::skip]
+const OTHER_FORMS: &[&str] = &[
+    // without a station, or with one field too many
+    "", "4", "4,", "4,1", "1,0", "1024,64", "4,1,", "4,,0", ",1,0", ",,", "4,1,0,", "4,1,0,0", ",4,1,0", "4,1,,0",
+    // leading zeros
+    "04,1,0", "4,01,0", "4,1,00", "4,1,01", "4,1,007", "4,1,0255", "4,1,0256", "00,1,0",
+    // no numbers
+    "4,1, 0", "4,1,0 ", "4,1,+0", "4,1,-0", "4,1,-1", "4,1,0\r", "4,1,0\0", "4,1,x", "4,1;0", "4,1.0", "4,1,0x0",
+    "4,1,\"0\"",
+    // numbers above 32 bits, most of which are a right one modulo 2^32
+    "4,1,4294967296", "4,1,4294967303", "4,1,18446744073709551616", "4,1,18446744073709551623", "4294967300,1,0",
+    "4,4294967297,0", "4,1,99999999999999999999",
+    "A,1", "A,1,0", "A,4,1,0",
+];
 
 #[test]
 fn the_grammar() {
@@ -227,6 +277,8 @@ fn the_grammar() {
         "W,1,",
         "L,1,",
         "4,1",
+        "4,1,0",
+        "4,1,0,0",
         "\"A\",1,0",
         "A,1,0\0",
         "L,17",
@@ -235,43 +287,48 @@ fn the_grammar() {
         "E,1",
     ];
     let every = lines.join("\n");
-    for first in [
-        "4,1",
-        "1,0",
-        "1024,64",
-        "1025,1",
-        "4,65",
-        "0,1",
-        "04,1",
-        "4",
-        "4,1,0",
-        "4294967295,4294967295",
-        "",
-        "A,1",
-        "A,1,0",
-    ] {
+    for first in ACCEPTED.iter().chain(REFUSED).chain(OTHER_FORMS) {
         for end in ["", "\n", "\n\n"] {
-            compare(&folder, Some(&book), format!("{first}\n{every}{end}").as_bytes());
+            let printed =
+                compare(&folder, Some(&book), format!("{first}\n{every}{end}").as_bytes());
+            assert_eq!(printed != b"E,1\n", ACCEPTED.contains(first), "{first}");
             compare(&folder, Some(&book), format!("{first}{end}").as_bytes());
         }
     }
     compare(&folder, Some(&book), b"");
 }
 
+/// Books that are missing or of another length: among them one of 4,096 bytes, as it was without stations, and one as long as it has numbers.
 #[test]
 fn the_book() {
     let folder = Folder::new("books");
     let book = book_of(&test_tabulation());
-    for bytes in [
-        None,
-        Some(&book[1..]),
-        Some(&[][..]),
-        Some(&[&book[..], &[0]].concat()[..]),
-        Some(&book[..]),
-    ] {
-        compare(&folder, bytes, b"4,1\nA,17,5\n");
-        compare(&folder, bytes, b"");
+    assert_eq!(book.len(), 5_120);
+    let longer = [&book[..], &book[..]].concat();
+    let wrong = [0, 1, 2_048, 2_560, 4_096, 5_118, 5_119, 5_121, 5_122, 10_240];
+    let books = wrong.iter().map(|length| Some(&longer[..*length])).chain([None]);
+    for bytes in books {
+        for input in ["4,1,0\nA,17,5\n", "4,1,255\n", "4,1\n", ""] {
+            assert_eq!(compare(&folder, bytes, input.as_bytes()), b"B\n", "{input}");
+        }
     }
+    assert_eq!(compare(&folder, Some(&book), b""), b"E,1\n");
+    let printed = compare(&folder, Some(&book), b"4,1,0\nA,17,5\n");
+    assert_eq!(String::from_utf8_lossy(&printed), "A,17,5,0\nP,0,1,17,17,5\nP,1,1,17,17,5\n");
+}
+
+/// The last entry of each stretch for stations, written high byte and low byte: key 9 meets them at station 246, and no key below 9 does.
+#[test]
+fn the_last_entries_of_the_book() {
+    let folder = Folder::new("last");
+    let mut book = vec![0; 5_120];
+    (book[2 * 1_279], book[2 * 1_279 + 1]) = (1, 2);
+    (book[2 * 2_559], book[2 * 2_559 + 1]) = (3, 1);
+    let printed = compare(&folder, Some(&book), b"1000,0,246\nA,9,4\nA,8,1\n");
+    assert_eq!(
+        String::from_utf8_lossy(&printed),
+        "A,9,4,0\nA,8,1,0\nP,0,0,8,8,1\nP,0,513,9,9,4\nP,1,0,8,8,1\nP,1,259,9,9,4\n"
+    );
 }
 
 #[test]
@@ -282,7 +339,8 @@ fn random_sessions() {
     let mut lines = 0;
     for _ in 0..60 {
         let book = book_of(&random_tabulation(&mut rng, 9));
-        let mut input = format!("{},{}\n", 1 + rng.below(6), rng.below(4));
+        let station = random_station(&mut rng);
+        let mut input = format!("{},{},{station}\n", 1 + rng.below(6), rng.below(4));
         for _ in 0..60 {
             let letter = rng.pick(&["A", "A", "W", "L", "Z"]);
             let (card, tier) = (rng.below(14), rng.pick(&[0, 0, 0, 1, 2, 7, 8]));
@@ -314,7 +372,7 @@ fn random_sessions() {
 fn the_largest_session() {
     let folder = Folder::new("largest");
     let mut rng = Rng::new(32);
-    let mut input = String::from("1024,64\n");
+    let mut input = String::from("1024,64,203\n");
     for _ in 0..1_500 {
         input += &format!("A,{},{}\n", rng.next_u32(), rng.below(8));
     }
