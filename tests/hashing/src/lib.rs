@@ -5,6 +5,7 @@ extern "C" {
         tabulation: *const u16,
         length: usize,
         r: u32,
+        station: u32,
         key: u32,
         table0: *mut u32,
         table1: *mut u32,
@@ -12,7 +13,7 @@ extern "C" {
 }
 
 /// What `pinorange_hashes` answers, and what the two out-parameters hold after it when they held `old` before.
-pub fn hashes(tabulation: &[u16], r: u32, key: u32, old: [u32; 2]) -> (u32, [u32; 2]) {
+pub fn hashes(tabulation: &[u16], r: u32, station: u32, key: u32, old: [u32; 2]) -> (u32, [u32; 2]) {
     let [mut table0, mut table1] = old;
     // Safe: the slice is valid for its length, and the call is proved to read nothing else and to write only the two numbers.
     let answer = unsafe {
@@ -20,6 +21,7 @@ pub fn hashes(tabulation: &[u16], r: u32, key: u32, old: [u32; 2]) -> (u32, [u32
             tabulation.as_ptr(),
             tabulation.len(),
             r,
+            station,
             key,
             &mut table0,
             &mut table1,

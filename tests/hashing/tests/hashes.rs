@@ -3,6 +3,7 @@
 use hashing::hashes;
 use reference::hash::TABULATION_LEN;
 use reference::rng::Rng;
+use reference::samples::random_station;
 
 /// What stands in the out-parameters before each call, to see that a refusal leaves it.
 const OLD: [u32; 2] = [0xDEAD_BEEF, 0x0BAD_CAFE];
@@ -17,43 +18,71 @@ fn random_tabulation(rng: &mut Rng) -> Vec<u16> {
 }
 
 /// Compares one call with the reference, answer and out-parameters; gives the answer.
-fn compare(tabulation: &[u16], r: u32, key: u32) -> u32 {
-    let (expected, written) = match reference::hash::hashes(tabulation, r, key) {
+fn compare(tabulation: &[u16], r: u32, station: u32, key: u32) -> u32 {
+    let (expected, written) = match reference::hash::hashes(tabulation, r, station, key) {
         Ok(both) => (0, both),
         Err(refusal) => (refusal.number(), OLD),
     };
-    assert_eq!(hashes(tabulation, r, key, OLD), (expected, written), "r {r}, key {key}");
+    let got = hashes(tabulation, r, station, key, OLD);
+    assert_eq!(got, (expected, written), "r {r}, station {station}, key {key}");
     expected
 }
 
 #[test]
-fn every_r_with_random_tabulations_and_keys() {
+fn every_r_with_random_tabulations_stations_and_keys() {
     let mut rng = Rng::new(1);
     let extremes = [vec![0; TABULATION_LEN], vec![u16::MAX; TABULATION_LEN]];
     for r in 1..=1_024 {
         let random = random_tabulation(&mut rng);
         for tabulation in extremes.iter().chain([&random]) {
             for key in EXTREME {
-                assert_eq!(compare(tabulation, r, key), 0);
+                assert_eq!(compare(tabulation, r, random_station(&mut rng), key), 0);
             }
             for _ in 0..50 {
-                compare(tabulation, r, rng.next_u32());
+                compare(tabulation, r, random_station(&mut rng), rng.next_u32());
             }
         }
     }
 }
 
+/// A tabulation with one entry 1 at a time: the hash is 1 exactly where the key has that byte there, or its lowest byte and the station come to that entry of
+/// the fifth stretch. At station 254 the sum is 255, and at 255 it is 256, which is 0.
 #[test]
-fn both_tables_and_every_byte_count() {
-    // A tabulation with one entry 1 at a time: the hash is 1 exactly where the key has that byte there.
+fn both_tables_every_byte_and_the_station_count() {
     let key: u32 = 0x04_03_02_01;
-    for entry in 0..TABULATION_LEN {
-        let mut tabulation = vec![0; TABULATION_LEN];
-        tabulation[entry] = 1;
-        compare(&tabulation, 1_000, key);
-        let (answer, both) = hashes(&tabulation, 1_000, key, OLD);
-        let hit = |table: usize| u32::from((0..4).any(|i| entry == 1_024 * table + 256 * i + i + 1));
-        assert_eq!((answer, both), (0, [hit(0), hit(1)]), "entry {entry}");
+    for (station, turned) in [(0, 1), (7, 8), (254, 255), (255, 0)] {
+        for entry in 0..TABULATION_LEN {
+            let mut tabulation = vec![0; TABULATION_LEN];
+            tabulation[entry] = 1;
+            compare(&tabulation, 1_000, station, key);
+            let (answer, both) = hashes(&tabulation, 1_000, station, key, OLD);
+            let hit = |table: usize| {
+                let start = 1_280 * table;
+                let of_byte = (0..4).any(|i| entry == start + 256 * i + i + 1);
+                u32::from(of_byte || entry == start + 1_024 + turned)
+            };
+            assert_eq!((answer, both), (0, [hit(0), hit(1)]), "entry {entry}, station {station}");
+        }
+    }
+}
+
+/// Every lowest byte at every station, with other bytes of several kinds, under a tabulation that tells which entry of the fifth stretch was taken: it goes up by
+/// one with the byte, from the station on, and from 255 to 0. No other byte moves it.
+#[test]
+fn every_lowest_byte_at_every_station() {
+    let mut tabulation = vec![0; TABULATION_LEN];
+    for (entry, number) in (0..256).zip(0u16..) {
+        (tabulation[1_024 + entry], tabulation[2_304 + entry]) = (number, 1_000 - number);
+    }
+    for station in 0..256 {
+        let mut taken = station;
+        for byte in 0..256 {
+            for others in [0x100, 0x0100_0000, 0x00FF_0000, 0xFFFF_FF00, 0x8180_7F00] {
+                let got = hashes(&tabulation, 1_024, station, others | byte, OLD);
+                assert_eq!(got, (0, [taken, 1_000 - taken]), "byte {byte}, station {station}");
+            }
+            taken = if taken == 255 { 0 } else { taken + 1 };
+        }
     }
 }
 
@@ -61,11 +90,17 @@ fn both_tables_and_every_byte_count() {
 fn every_refusal_in_its_order() {
     let mut rng = Rng::new(2);
     let mut seen = [0u32; 6];
-    for length in (0..10).chain(2_040..2_056).chain([1_024, 4_096]) {
+    for length in (0..10).chain(2_552..2_568).chain([1_024, 1_280, 2_048, 4_096, 5_120]) {
         let tabulation: Vec<u16> = (0..length).map(|_| rng.next_u32() as u16).collect();
         for r in [0, 1, 2, 1_023, 1_024, 1_025, 65_536, u32::MAX] {
-            for key in [0, 1, 17, u32::MAX] {
-                seen[compare(&tabulation, r, key) as usize] += 1;
+            for station in [0, 1, 255, 256, 257, 511, 65_536, 1 << 31, u32::MAX] {
+                for key in [0, 1, 17, u32::MAX] {
+                    let answer = compare(&tabulation, r, station, key);
+                    if length == TABULATION_LEN && (1..=1_024).contains(&r) {
+                        assert_eq!(answer == 2, station > 255, "r {r}, station {station}, key {key}");
+                    }
+                    seen[answer as usize] += 1;
+                }
             }
         }
     }
@@ -83,7 +118,9 @@ fn the_tabulation_may_stand_anywhere() {
         let around: Vec<u16> = (0..TABULATION_LEN + 80).map(|_| rng.next_u32() as u16).collect();
         let tabulation = &around[offset..offset + TABULATION_LEN];
         for key in EXTREME {
-            compare(tabulation, 1_009, key);
+            for station in [0, 1, 128, 254, 255] {
+                assert_eq!(compare(tabulation, 1_009, station, key), 0);
+            }
         }
     }
 }
