@@ -158,9 +158,10 @@ static void expect_no_sale(const char *what, const struct board *board, uint32_t
 static uint32_t beyond(const struct board *board, uint32_t r, uint32_t key)
 {
     uint32_t table0, table1, in0, in1;
-    expect("hashes", pinorange_hashes(board->book, board->book_length, r, key, &table0, &table1), PINORANGE_DONE);
-    in0 = board->words[4 + 3 * table0];
-    in1 = board->words[4 + 3 * (r + table1)];
+    expect("hashes", pinorange_hashes(board->book, board->book_length, r, board->words[4], key, &table0, &table1),
+           PINORANGE_DONE);
+    in0 = board->words[5 + 3 * table0];
+    in1 = board->words[5 + 3 * (r + table1)];
     expect("a key of a trail is seated", in0 == key || in1 == key, 1);
     return in0 == key ? in1 : in0;
 }
@@ -203,7 +204,7 @@ static struct pinorange_sale *serve(const struct board *board, uint32_t keys)
 }
 
 /* A dictionary filled, key i at tier i % 8, and emptied again; in between refused inserts, lookups, trails, sales and views. */
-static void session(uint32_t r, uint32_t s, uint32_t keys)
+static void session(uint32_t r, uint32_t s, uint32_t station, uint32_t keys)
 {
     size_t length = PINORANGE_WORDS(r, s), room = PINORANGE_SCRATCH(r, s);
     uint16_t *book = lend_book(PINORANGE_TABULATION_LENGTH);
@@ -213,7 +214,7 @@ static void session(uint32_t r, uint32_t s, uint32_t keys)
     struct pinorange_sale *sale;
     uint32_t full = 0, empty = 0, longer = 0;
 
-    expect("init", pinorange_init(words, length, r, s, &counters), PINORANGE_DONE);
+    expect("init", pinorange_init(words, length, r, s, station, &counters), PINORANGE_DONE);
     for (uint32_t i = 1; i <= keys; i++) {
         uint32_t answer = change(book, PINORANGE_TABULATION_LENGTH, words, length, room, i * 2654435761u, i % 8);
         full += answer == PINORANGE_STASH_FULL;
@@ -231,7 +232,8 @@ static void session(uint32_t r, uint32_t s, uint32_t keys)
     for (uint32_t i = 1; i <= 2 * keys; i++) {
         uint32_t listed = 7, tier = 77, table0, table1;
         expect("lookup", pinorange_lookup(book, PINORANGE_TABULATION_LENGTH, words, length, i * 2654435761u, &listed, &tier), PINORANGE_DONE);
-        expect("hashes", pinorange_hashes(book, PINORANGE_TABULATION_LENGTH, r, i * 2654435761u, &table0, &table1), PINORANGE_DONE);
+        expect("hashes", pinorange_hashes(book, PINORANGE_TABULATION_LENGTH, r, station, i * 2654435761u, &table0, &table1),
+               PINORANGE_DONE);
         expect("listed", listed, i <= keys && accepted[i]);
         expect("tier", tier, listed ? i % 8 : 77);
         expect("table 0", table0 < r, 1);
@@ -255,15 +257,15 @@ static void session(uint32_t r, uint32_t s, uint32_t keys)
         expect("the view has two words a key", count, 2 * words[3]);
         expect("the view ends inside", offset + count <= length, 1);
     }
-    /* nothing is left: r, s and zeros */
+    /* nothing is left: r, s, the station and zeros */
     for (size_t i = 0; i < length; i++)
-        expect("word", words[i], i == 0 ? r : i == 1 ? s : 0);
+        expect("word", words[i], i == 0 ? r : i == 1 ? s : i == 4 ? station : 0);
     expect_no_sale("removed", &board, 2654435761u, 500, PINORANGE_STEPS, PINORANGE_KEY_ABSENT);
     expect("the sale of a key that is gone", pinorange_close_sale(sale), 480);
     free(sale);
     expect("most inserts were accepted", full < keys - keys / 3 + 1, 1);
-    printf("r = %u, s = %u: %u inserts, %u of them refused with 8; %u empty trails, %u of more than one key\n", (unsigned)r, (unsigned)s, (unsigned)keys,
-           (unsigned)full, (unsigned)empty, (unsigned)longer);
+    printf("r = %u, s = %u, station %u: %u inserts, %u of them refused with 8; %u empty trails, %u of more than one key\n",
+           (unsigned)r, (unsigned)s, (unsigned)station, (unsigned)keys, (unsigned)full, (unsigned)empty, (unsigned)longer);
     free(words);
     free(book);
 }
@@ -320,10 +322,10 @@ static void test_board(void)
     const struct board board = {book, books, words, length, room};
     struct pinorange_counters counters = {0, 0};
 
-    /* entry v is v, entry 1,024 + v is v / 16, for v from 0 to 255; all others 0 */
+    /* entry v is v, entry 1,280 + v is v / 16, for v from 0 to 255; all others 0 */
     for (uint32_t v = 0; v < books; v++)
-        book[v] = (uint16_t)(v < 256 ? v : v >= 1024 && v < 1280 ? (v - 1024) / 16 : 0);
-    expect("init", pinorange_init(words, length, 4, 1, &counters), PINORANGE_DONE);
+        book[v] = (uint16_t)(v < 256 ? v : v >= 1280 && v < 1536 ? (v - 1280) / 16 : 0);
+    expect("init", pinorange_init(words, length, 4, 1, 0, &counters), PINORANGE_DONE);
     expect("insert", change(book, books, words, length, room, 129, 3), PINORANGE_DONE);
     expect("insert", change(book, books, words, length, room, 17, 0), PINORANGE_DONE);
     expect("insert", change(book, books, words, length, room, 65, 7), PINORANGE_DONE);
@@ -348,17 +350,22 @@ static void test_board(void)
     expect_refusal("3", &(struct board){book, books, words, length, room - 1}, 0, 0, PINORANGE_SHORT_SCRATCH);
     expect_refusal("2", &(struct board){book, books, words, length - 1, room - 1}, 0, 8, PINORANGE_WRONG_SHAPE);
     expect_refusal("1", &(struct board){book, books - 1, words, length - 1, room - 1}, 0, 8, PINORANGE_WRONG_TABULATION);
+    words[4] = PINORANGE_MAX_STATION + 1;
+    expect_refusal("2, station", &(struct board){book, books, words, length, room - 1}, 0, 8, PINORANGE_WRONG_SHAPE);
+    expect_no_sale("2, station", &board, 0, 0, 7, PINORANGE_WRONG_SHAPE);
+    words[4] = 0;
     test_sales(&board);
     for (size_t slot = 0; slot < 8; slot++)
-        words[4 + 3 * slot + 2] = 8 + (uint32_t)slot;
-    words[29] = UINT32_MAX;
+        words[5 + 3 * slot + 2] = 8 + (uint32_t)slot;
+    words[30] = UINT32_MAX;
     test_refused_sales(&board);
     free(words);
     free(book);
 }
 
-/* Every length of words, scratch and tabulation around the right ones. */
-static void lengths(uint32_t r, uint32_t s)
+/* Every length of words, scratch and tabulation around the right ones, with this number as the station: above 255 no length
+ * of words is right. */
+static void lengths(uint32_t r, uint32_t s, uint32_t station)
 {
     size_t right = PINORANGE_WORDS(r, s), room = PINORANGE_SCRATCH(r, s);
     for (size_t length = 0; length <= right + 1; length++)
@@ -366,12 +373,16 @@ static void lengths(uint32_t r, uint32_t s)
             uint32_t *words = lend(length * sizeof *words), *scratch, offset, count, listed = 7, tier = 77;
             uint16_t *book = lend_book(PINORANGE_TABULATION_LENGTH + more);
             size_t books = (size_t)(PINORANGE_TABULATION_LENGTH + more), rooms = room + (size_t)more;
-            uint32_t shape = length == right ? PINORANGE_DONE : PINORANGE_WRONG_SHAPE;
+            int shaped = length == right && station <= PINORANGE_MAX_STATION;
+            uint32_t shape = shaped ? PINORANGE_DONE : PINORANGE_WRONG_SHAPE;
+            struct pinorange_counters counters = {0, 0};
             memset(words, 0, length * sizeof *words);
             if (length > 0)
                 words[0] = r;
             if (length > 1)
                 words[1] = s;
+            if (length > 4)
+                words[4] = station;
             scratch = lend(rooms * sizeof *scratch);
             expect("check", pinorange_check(book, books, words, length, scratch, rooms),
                    more ? PINORANGE_WRONG_TABULATION : shape);
@@ -388,6 +399,11 @@ static void lengths(uint32_t r, uint32_t s)
             expect("tier", tier, 77);
             expect("stash", pinorange_stash(words, length, &offset, &count), shape);
             expect("house", pinorange_house(book, books), more ? PINORANGE_WRONG_TABULATION : PINORANGE_DONE);
+            free(words);
+            words = lend(length * sizeof *words);
+            expect("init", pinorange_init(words, length, r, s, station, &counters), shape);
+            for (size_t i = 0; shaped && i < length; i++)
+                expect("word", words[i], i == 0 ? r : i == 1 ? s : i == 4 ? station : 0);
             free(scratch);
             free(book);
             free(words);
@@ -397,14 +413,19 @@ static void lengths(uint32_t r, uint32_t s)
 int main(void)
 {
     expect("house", pinorange_house(house, PINORANGE_TABULATION_LENGTH), PINORANGE_DONE);
-    session(1, 0, 4);
-    session(1, 2, 8);
-    session(3, 1, 12);
-    session(16, 4, 60);
-    session(128, 8, 200);
+    session(1, 0, 0, 4);
+    session(1, 2, 255, 8);
+    session(3, 1, 128, 12);
+    session(16, 4, 0, 60);
+    session(16, 4, 255, 60);
+    session(128, 8, 77, 200);
     test_board();
-    lengths(1, 0);
-    lengths(2, 3);
+    lengths(1, 0, 0);
+    lengths(1, 0, 255);
+    lengths(1, 0, 256);
+    lengths(2, 3, 0);
+    lengths(2, 3, 200);
+    lengths(2, 3, UINT32_MAX);
     printf("exact.c: %lu calls, %d failures\n", calls, failures);
     return failures != 0;
 }

@@ -1,20 +1,23 @@
-/* Links the hashing alone, as the till maker does, and checks the test board of the specification, every refusal and what a refusal
- * leaves. Exits with 0 when all of it holds. */
+/* Links the hashing alone, as the till maker does, and checks the test board of the specification, every lowest byte at every station, every refusal and
+ * what a refusal leaves. Exits with 0 when all of it holds. */
 #include "pinorange_hashes.h"
 
 #include <stdio.h>
+#include <string.h>
 
 static uint16_t tabulation[PINORANGE_TABULATION_LENGTH + 1];
 static int failures;
 
 /* One call: its answer, and what the out-parameters hold afterwards. 77 and 88 stand there before. */
-static void expect(const char *what, size_t length, uint32_t r, uint32_t key, uint32_t answer, uint32_t h0, uint32_t h1)
+static void expect(const char *what, size_t length, uint32_t r, uint32_t station, uint32_t key, uint32_t answer,
+                   uint32_t h0, uint32_t h1)
 {
     uint32_t table0 = 77, table1 = 88;
-    uint32_t n = pinorange_hashes(tabulation, length, r, key, &table0, &table1);
+    uint32_t n = pinorange_hashes(tabulation, length, r, station, key, &table0, &table1);
     if (n != answer || table0 != h0 || table1 != h1) {
-        printf("%s: answer %u with %u, %u; expected %u with %u, %u\n", what, (unsigned)n, (unsigned)table0, (unsigned)table1,
-               (unsigned)answer, (unsigned)h0, (unsigned)h1);
+        printf("%s, station %u, key %u: answer %u with %u, %u; expected %u with %u, %u\n", what, (unsigned)station,
+               (unsigned)key, (unsigned)n, (unsigned)table0, (unsigned)table1, (unsigned)answer, (unsigned)h0,
+               (unsigned)h1);
         failures++;
     }
 }
@@ -23,24 +26,43 @@ int main(void)
 {
     const size_t length = PINORANGE_TABULATION_LENGTH;
 
-    /* the test board: entry v is v, entry 1,024 + v is v / 16, for v from 0 to 255; all others 0 */
+    /* the test board: entry v is v, entry 1,280 + v is v / 16, for v from 0 to 255; all others 0, so that the station has no part */
     for (uint32_t v = 0; v < 256; v++) {
         tabulation[v] = (uint16_t)v;
-        tabulation[1024 + v] = (uint16_t)(v / 16);
+        tabulation[1280 + v] = (uint16_t)(v / 16);
     }
-    for (uint32_t key = 1; key < 256; key++)
-        expect("test board", length, 4, key, PINORANGE_DONE, key % 4, key / 16 % 4);
+    for (uint32_t key = 1; key < 256; key++) {
+        expect("test board", length, 4, 0, key, PINORANGE_DONE, key % 4, key / 16 % 4);
+        expect("test board", length, 4, 256 - key, key, PINORANGE_DONE, key % 4, key / 16 % 4);
+    }
+    expect("largest key", length, 1024, 0, 4294967295u, PINORANGE_DONE, 255, 15);
+    expect("largest key", length, 1024, PINORANGE_MAX_STATION, 4294967295u, PINORANGE_DONE, 255, 15);
+    expect("one slot", length, 1, 0, 200, PINORANGE_DONE, 0, 0);
 
-    expect("largest key", length, 1024, 4294967295u, PINORANGE_DONE, 255, 15);
-    expect("one slot", length, 1, 200, PINORANGE_DONE, 0, 0);
-    expect("no tabulation", 0, 4, 1, PINORANGE_WRONG_TABULATION, 77, 88);
-    expect("short tabulation", length - 1, 4, 1, PINORANGE_WRONG_TABULATION, 77, 88);
-    expect("long tabulation", length + 1, 4, 1, PINORANGE_WRONG_TABULATION, 77, 88);
-    expect("r = 0", length, 0, 1, PINORANGE_WRONG_SHAPE, 77, 88);
-    expect("r = 1,025", length, 1025, 1, PINORANGE_WRONG_SHAPE, 77, 88);
-    expect("key 0", length, 4, 0, PINORANGE_BLANK_KEY, 77, 88);
-    expect("1 before 2", length - 1, 0, 0, PINORANGE_WRONG_TABULATION, 77, 88);
-    expect("2 before 5", length, 0, 0, PINORANGE_WRONG_SHAPE, 77, 88);
+    /* the same numbers in the stretches for stations, and zeros elsewhere: the sum of lowest byte and station takes the key's part, and wraps at 256 */
+    memset(tabulation, 0, sizeof tabulation);
+    for (uint32_t v = 0; v < 256; v++) {
+        tabulation[1024 + v] = (uint16_t)v;
+        tabulation[1280 + 1024 + v] = (uint16_t)(v / 16);
+    }
+    for (uint32_t station = 0; station <= PINORANGE_MAX_STATION; station++)
+        for (uint32_t byte = 0, sum = station; byte < 256; byte++, sum = sum == 255 ? 0 : sum + 1)
+            expect("lowest byte", length, 1024, station, 0xC0FFEE00u + byte, PINORANGE_DONE, sum, sum / 16);
+
+    /* refusals, each with causes for those that are tried behind it */
+    expect("no tabulation", 0, 4, 0, 1, PINORANGE_WRONG_TABULATION, 77, 88);
+    expect("short tabulation", length - 1, 4, 0, 1, PINORANGE_WRONG_TABULATION, 77, 88);
+    expect("long tabulation", length + 1, 4, 0, 1, PINORANGE_WRONG_TABULATION, 77, 88);
+    expect("tabulation without stations", 2048, 4, 0, 1, PINORANGE_WRONG_TABULATION, 77, 88);
+    expect("r = 0", length, 0, 0, 1, PINORANGE_WRONG_SHAPE, 77, 88);
+    expect("r = 1,025", length, 1025, 0, 1, PINORANGE_WRONG_SHAPE, 77, 88);
+    expect("no station", length, 4, PINORANGE_MAX_STATION + 1, 1, PINORANGE_WRONG_SHAPE, 77, 88);
+    expect("no station", length, 4, 65536, 1, PINORANGE_WRONG_SHAPE, 77, 88);
+    expect("no station", length, 4, 4294967295u, 1, PINORANGE_WRONG_SHAPE, 77, 88);
+    expect("key 0", length, 4, PINORANGE_MAX_STATION, 0, PINORANGE_BLANK_KEY, 77, 88);
+    expect("1 before 2", length - 1, 0, 256, 0, PINORANGE_WRONG_TABULATION, 77, 88);
+    expect("2 before 5, r", length, 0, 0, 0, PINORANGE_WRONG_SHAPE, 77, 88);
+    expect("2 before 5, station", length, 4, 256, 0, PINORANGE_WRONG_SHAPE, 77, 88);
 
     printf("hashes.c: %d failures\n", failures);
     return failures != 0;

@@ -13,6 +13,7 @@
 
 #define R PINORANGE_MAX_SLOTS
 #define S PINORANGE_MAX_PLACES
+#define STATION PINORANGE_MAX_STATION
 #define HEAD_BYTES 131072u
 #define STACK_BYTES (256 * 1024)
 #define TRAIL_STACK_BYTES 4096u
@@ -30,8 +31,9 @@ static uint32_t sales, closed_right;
 
 static unsigned char *base; /* where the calls' own stack begins: a local of the function that calls them */
 
-_Static_assert(sizeof words == 25104, "the words of the largest dictionary");
+_Static_assert(sizeof words == 25108, "the words of the largest dictionary");
 _Static_assert(sizeof scratch == 51200, "the scratch of the largest dictionary");
+_Static_assert(sizeof tabulation == 5120, "a tabulation");
 
 /* Sales of all keys, of those that are in the set and of those that are not; each that is opened is closed. */
 static void open_and_close(void)
@@ -51,7 +53,7 @@ static void *other_calls(void *unused)
     unsigned char local;
     base = &local;
     pinorange_house(tabulation, PINORANGE_TABULATION_LENGTH);
-    pinorange_init(words, PINORANGE_WORDS(R, S), R, S, &counters);
+    pinorange_init(words, PINORANGE_WORDS(R, S), R, S, STATION, &counters);
     for (uint32_t i = 1; i <= 1800; i++)
         accepted += pinorange_insert(tabulation, PINORANGE_TABULATION_LENGTH, words, PINORANGE_WORDS(R, S), scratch, PINORANGE_SCRATCH(R, S),
                                      &counters, i * 2654435761u, i % 8) == PINORANGE_DONE;
@@ -65,22 +67,24 @@ static void *other_calls(void *unused)
     pinorange_check(tabulation, PINORANGE_TABULATION_LENGTH, words, PINORANGE_WORDS(R, S), scratch, PINORANGE_SCRATCH(R, S));
     pinorange_lookup(tabulation, PINORANGE_TABULATION_LENGTH, words, PINORANGE_WORDS(R, S), 5, &listed, &tier);
     pinorange_stash(words, PINORANGE_WORDS(R, S), &offset, &length);
-    pinorange_hashes(tabulation, PINORANGE_TABULATION_LENGTH, R, 5, &table0, &table1);
+    pinorange_hashes(tabulation, PINORANGE_TABULATION_LENGTH, R, STATION, 5, &table0, &table1);
     return unused;
 }
 
 /* Lays words whose keys 1 to 2 R are one cycle through all slots: key k has the slots k / 2 and (k + 1) / 2, modulo R, and so one in common with the key before
- * it and the other with the key behind it. The root is key 1, and the trail of key 2 goes up to the last key and round to the root. */
+ * it and the other with the key behind it. The root is key 1, and the trail of key 2 goes up to the last key and round to the root. The lowest byte counts by
+ * the stretches for stations, the next one by its own. */
 static void lay_cycle(void)
 {
     struct pinorange_counters own = {0, 0};
     memset(tabulation, 0, sizeof tabulation);
     for (uint32_t byte = 0; byte < 256; byte++) {
-        tabulation[byte] = (uint16_t)(byte / 2);
-        tabulation[1024 + byte] = (uint16_t)((byte + 1) / 2);
-        tabulation[256 + byte] = tabulation[1280 + byte] = (uint16_t)(128 * byte);
+        uint32_t turned = (byte + STATION) % 256;
+        tabulation[1024 + turned] = (uint16_t)(byte / 2);
+        tabulation[1280 + 1024 + turned] = (uint16_t)((byte + 1) / 2);
+        tabulation[256 + byte] = tabulation[1280 + 256 + byte] = (uint16_t)(128 * byte);
     }
-    pinorange_init(words, PINORANGE_WORDS(R, S), R, S, &own);
+    pinorange_init(words, PINORANGE_WORDS(R, S), R, S, STATION, &own);
     for (uint32_t key = 1; key <= 2 * R; key++)
         pinorange_insert(tabulation, PINORANGE_TABULATION_LENGTH, words, PINORANGE_WORDS(R, S), scratch, PINORANGE_SCRATCH(R, S), &own, key, key % 8);
 }

@@ -1,6 +1,7 @@
 /* Two pump heads with different pasts: one loads a promotion and cancels it, and mends a card's tier, while customers with such cards are filling up; the other
  * never saw any of it. Their lists are compared word by word, as a station console does. Exits with 0 when they are alike, and when a third head with another
- * set differs, and a fourth with other tiers; and when every sale is closed at the price that it was opened with. */
+ * set differs, a fourth with other tiers, and a fifth at another station, though it has the first one's cards and tiers; and when every sale is closed at the
+ * price that it was opened with. */
 #include "pinorange.h"
 
 #include <stdio.h>
@@ -8,6 +9,7 @@
 
 #define R 64u
 #define S 8u
+#define STATION 77u
 
 struct head {
     uint32_t words[PINORANGE_WORDS(R, S)];
@@ -26,11 +28,11 @@ static void expect(const char *what, uint32_t got, uint32_t wanted)
     }
 }
 
-static void lay(struct head *h)
+static void lay(struct head *h, uint32_t station)
 {
     memset(h, 0x5a, sizeof *h);
     h->counters.done = h->counters.refused = 0;
-    expect("init", pinorange_init(h->words, PINORANGE_WORDS(R, S), R, S, &h->counters), PINORANGE_DONE);
+    expect("init", pinorange_init(h->words, PINORANGE_WORDS(R, S), R, S, station, &h->counters), PINORANGE_DONE);
 }
 
 static uint32_t add(struct head *h, uint32_t key, uint32_t tier)
@@ -43,6 +45,12 @@ static uint32_t withdraw(struct head *h, uint32_t key)
 {
     return pinorange_remove(tabulation, PINORANGE_TABULATION_LENGTH, h->words, PINORANGE_WORDS(R, S), scratch,
                             PINORANGE_SCRATCH(R, S), &h->counters, key);
+}
+
+static uint32_t check(const struct head *h)
+{
+    return pinorange_check(tabulation, PINORANGE_TABULATION_LENGTH, h->words, PINORANGE_WORDS(R, S), scratch,
+                           PINORANGE_SCRATCH(R, S));
 }
 
 /* Looks a card up: its tier must be this one, or it must not be listed (77, which stands there before). */
@@ -98,15 +106,16 @@ static uint32_t tier_of(uint32_t card)
 
 int main(void)
 {
-    static struct head one, two, three, four;
+    static struct head one, two, three, four, five;
     struct pinorange_sale promotion, regular, later;
-    uint32_t offset = 9, length = 9;
+    uint32_t offset = 9, length = 9, moved = 0;
 
     expect("house", pinorange_house(tabulation, PINORANGE_TABULATION_LENGTH), PINORANGE_DONE);
-    lay(&one);
-    lay(&two);
-    lay(&three);
-    lay(&four);
+    lay(&one, STATION);
+    lay(&two, STATION);
+    lay(&three, STATION);
+    lay(&four, STATION);
+    lay(&five, STATION + 1);
 
     /* head one: the regular cards, ascending */
     for (uint32_t card = 1; card <= 60; card++)
@@ -138,11 +147,13 @@ int main(void)
     expect("added again", add(&two, number(5), tier_of(5)), PINORANGE_DONE);
     later = expect_sale("nozzle lift at the right tier", &two, number(5), 5, 1774);
 
-    /* head three: one card fewer; head four: every card, one of them at another tier */
+    /* head three: one card fewer; head four: every card, one of them at another tier; head five: as head one, at the next
+     * station */
     for (uint32_t card = 1; card <= 60; card++) {
         if (card < 60)
             expect("add", add(&three, number(card), tier_of(card)), PINORANGE_DONE);
         expect("add", add(&four, number(card), card == 60 ? 0 : tier_of(card)), PINORANGE_DONE);
+        expect("add", add(&five, number(card), tier_of(card)), PINORANGE_DONE);
     }
 
     /* two sales of card 5 are open at head two, and none at head one */
@@ -158,24 +169,48 @@ int main(void)
         printf("two heads with the same cards at different tiers are alike\n");
         failures++;
     }
+    /* head five: its own station, the same number of cards, and cards in other slots */
+    expect("station", one.words[4], STATION);
+    expect("another station", five.words[4], STATION + 1);
+    expect("cards", five.words[2], one.words[2]);
+    for (size_t i = 5; i < PINORANGE_WORDS(R, S); i++)
+        moved += one.words[i] != five.words[i];
+    if (moved == 0) {
+        printf("the cards sit alike at two stations\n");
+        failures++;
+    }
+    for (uint32_t card = 1; card <= 60; card++)
+        expect_tier("at another station", &five, number(card), tier_of(card));
+    /* with the other's station in word 4 the words are the image of no set, and with none at all they are no list */
+    five.words[4] = STATION;
+    expect("the other's station", check(&five), PINORANGE_NOT_CANONICAL);
+    five.words[4] = PINORANGE_MAX_STATION + 1;
+    expect("no station", check(&five), PINORANGE_WRONG_SHAPE);
+    expect("no station", add(&five, 1, 0), PINORANGE_WRONG_SHAPE);
+    five.words[4] = STATION + 1;
+    expect("its own station", check(&five), PINORANGE_DONE);
+    expect("init at no station", pinorange_init(five.words, PINORANGE_WORDS(R, S), R, S, PINORANGE_MAX_STATION + 1,
+                                                &five.counters), PINORANGE_WRONG_SHAPE);
+    expect("the words stay", check(&five), PINORANGE_DONE);
+
     expect("hang-up", pinorange_close_sale(&regular), 1789);
     expect("hang-up at the right tier", pinorange_close_sale(&later), 1774);
-    expect("check", pinorange_check(tabulation, PINORANGE_TABULATION_LENGTH, two.words, PINORANGE_WORDS(R, S), scratch,
-                                    PINORANGE_SCRATCH(R, S)), PINORANGE_DONE);
+    expect("check", check(&two), PINORANGE_DONE);
     for (uint32_t card = 1; card <= 60; card++)
         expect_tier("lookup", &two, number(card), tier_of(card));
     expect_tier("cancelled", &two, 900001u, 77);
     expect_tier("another tier", &four, number(60), 0);
     expect("stash", pinorange_stash(two.words, PINORANGE_WORDS(R, S), &offset, &length), PINORANGE_DONE);
-    expect("stash offset", offset, 4 + 6 * R);
+    expect("stash offset", offset, 5 + 6 * R);
     expect("stash length", length, 2 * two.words[3]);
     expect("done", two.counters.done, 103);
     expect("refused", two.counters.refused, 5);
     for (size_t i = 0; i < PINORANGE_SCRATCH(R, S); i++)
         expect("scratch", scratch[i], 0);
 
-    printf("two_heads.c: %d failures; both heads hold %u cards, %u of them in the stash; sales closed at %u with a cancelled card, at %u and %u with one whose "
-           "tier was mended\n", failures, (unsigned)two.words[2], (unsigned)two.words[3], (unsigned)promotion.price, (unsigned)regular.price,
-           (unsigned)later.price);
+    printf("two_heads.c: %d failures; both heads hold %u cards, %u of them in the stash; at another station %u words "
+           "differ; sales closed at %u with a cancelled card, at %u and %u with one whose tier was mended\n", failures,
+           (unsigned)two.words[2], (unsigned)two.words[3], (unsigned)moved, (unsigned)promotion.price,
+           (unsigned)regular.price, (unsigned)later.price);
     return failures != 0;
 }
