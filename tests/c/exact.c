@@ -232,8 +232,8 @@ static void session(uint32_t r, uint32_t s, uint32_t station, uint32_t keys)
     for (uint32_t i = 1; i <= 2 * keys; i++) {
         uint32_t listed = 7, tier = 77, table0, table1;
         expect("lookup", pinorange_lookup(book, PINORANGE_TABULATION_LENGTH, words, length, i * 2654435761u, &listed, &tier), PINORANGE_DONE);
-        expect("hashes", pinorange_hashes(book, PINORANGE_TABULATION_LENGTH, r, station, i * 2654435761u, &table0, &table1),
-               PINORANGE_DONE);
+        expect("hashes", pinorange_hashes(book, PINORANGE_TABULATION_LENGTH, r, station, i * 2654435761u, &table0,
+                                          &table1), PINORANGE_DONE);
         expect("listed", listed, i <= keys && accepted[i]);
         expect("tier", tier, listed ? i % 8 : 77);
         expect("table 0", table0 < r, 1);
@@ -264,8 +264,9 @@ static void session(uint32_t r, uint32_t s, uint32_t station, uint32_t keys)
     expect("the sale of a key that is gone", pinorange_close_sale(sale), 480);
     free(sale);
     expect("most inserts were accepted", full < keys - keys / 3 + 1, 1);
-    printf("r = %u, s = %u, station %u: %u inserts, %u of them refused with 8; %u empty trails, %u of more than one key\n",
-           (unsigned)r, (unsigned)s, (unsigned)station, (unsigned)keys, (unsigned)full, (unsigned)empty, (unsigned)longer);
+    printf("r = %u, s = %u, station %u: %u inserts, %u of them refused with 8; %u empty trails, %u of more than one "
+           "key\n", (unsigned)r, (unsigned)s, (unsigned)station, (unsigned)keys, (unsigned)full, (unsigned)empty,
+           (unsigned)longer);
     free(words);
     free(book);
 }
