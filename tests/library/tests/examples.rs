@@ -317,6 +317,28 @@ fn k5_with_tiers() -> Vec<u32> {
     words
 }
 
+/// The words of K5 as they were without stations, one word shorter: 2 in every call. So it is for all sizes, since such words are even in number, and words with a
+/// station are odd.
+#[test]
+fn words_without_a_station() {
+    let mut beside = Beside::new();
+    let mut counters = Counters::default();
+    let tabulation = test_tabulation();
+    let mut words = k5_with_tiers();
+    words.remove(4);
+    let old = words.clone();
+    let scratch = vec![3; scratch_length(4, 1)];
+    for way in [Insert(0), Remove] {
+        assert_eq!(beside.change(way, &tabulation, &mut words, &scratch, &mut counters, 1), 2);
+    }
+    assert_eq!((words, counters), (old.clone(), Counters { done: 0, refused: 2 }));
+    assert_eq!(beside.check(&tabulation, &old, &scratch), 2);
+    assert_eq!(beside.lookup(&tabulation, &old, 1), (2, None));
+    assert_eq!(beside.stash(&old), 2);
+    assert_eq!(beside.trail(&tabulation, &old, &scratch, 1, &[7; 8]), (2, vec![]));
+    assert_eq!(beside.open(&tabulation, &old, 1, 1_799, &STEPS), (2, None));
+}
+
 /// Of all refusals that one insert deserves, the first in the order 4, 5, 9, 10, 6, 8 is given. A key that is listed keeps its tier.
 #[test]
 fn nine_and_ten_in_their_order() {
