@@ -30,7 +30,7 @@ module _ (P : Params) where
   empty-slots v zero = refl
   empty-slots v (suc n) = let e : slot-width * suc n ≡ suc (suc (suc (slot-width * n))) = omega arith in rw (e, empty-slots (suc v) n)
 
-  -- "r, s, 0, 0, station, zeros"
+  -- r, s, no keys, the station number and zeros
   pub empty-image : image P [] ≡ P .slots ∷ P .places ∷ 0 ∷ 0 ∷ P .station ∷ replicate (words-length (P .slots) (P .places) - 5) 0
   unfolding image image-by stash
   empty-image =
@@ -54,18 +54,18 @@ module _ (P : Params) (ws : List ℕ) (accepted : fresh-refusal (length ws) (P .
   unfolding fresh-words
   fresh-image = rw (accepted, fresh-sizes .1) (sym (empty-image P))
 
+-- zeros behind a heading
+zeros-headed : (n : ℕ) → header-length ≤ n → drop {A = ℕ} header-length (replicate n 0) ≡ replicate (n - header-length) 0
+zeros-headed n l =
+    let e : n ≡ suc (suc (suc (suc (suc (n - header-length))))) = omega arith in
+    ap (λ (k : ℕ). drop {A = ℕ} header-length (replicate k 0)) e
+
 -- the same by the test that decides, for the code of `fresh`
 module _ (ws : List ℕ) (r s station : ℕ) where
   pub fresh-refused : (params-in-range r s station && eqb (length ws) (words-length r s)) ≡ false
       → (2 ≡ fresh-refusal (length ws) r s station) × (ws ≡ fresh-words ws r s station)
   unfolding fresh-refusal fresh-words
   fresh-refused e = (rw e, rw e)
-
-  -- the heading before zeros
-  zeros-headed : (n : ℕ) → header-length ≤ n → drop {A = ℕ} header-length (replicate n 0) ≡ replicate (n - header-length) 0
-  zeros-headed n l =
-      let e : n ≡ suc (suc (suc (suc (suc (n - header-length))))) = omega arith in
-      ap (λ (k : ℕ). drop {A = ℕ} header-length (replicate k 0)) e
 
   pub fresh-accepted : (params-in-range r s station && eqb (length ws) (words-length r s)) ≡ true → header-length ≤ length ws
       → (0 ≡ fresh-refusal (length ws) r s station)

@@ -107,7 +107,7 @@ scratch-length r s = 12 * r + 8 * s
 abbrev pub params-of : List ℕ → List ℕ → Params
 params-of tabulation ws = record { tabulation = tabulation; slots = slots-of ws; places = places-of ws; station = station-of ws }
 
--- and the family that hashes their keys: that of "the list's own" station
+-- and the family that hashes their keys, at their own station
 abbrev pub family-of : List ℕ → List ℕ → Family
 family-of tabulation ws = family (params-of tabulation ws)
 
