@@ -387,8 +387,10 @@ static void lengths(uint32_t r, uint32_t s, uint32_t station)
             scratch = lend(rooms * sizeof *scratch);
             expect("check", pinorange_check(book, books, words, length, scratch, rooms),
                    more ? PINORANGE_WRONG_TABULATION : shape);
-            expect("short or long scratch", change(house, PINORANGE_TABULATION_LENGTH, words, length, rooms, 0, 8),
-                   shape ? shape : more < 0 ? PINORANGE_SHORT_SCRATCH : PINORANGE_BLANK_KEY);
+            for (int out = 0; out < 2; out++)
+                expect("short or long scratch",
+                       change(house, PINORANGE_TABULATION_LENGTH, words, length, rooms, 0, out ? OUT : 8),
+                       shape ? shape : more < 0 ? PINORANGE_SHORT_SCRATCH : PINORANGE_BLANK_KEY);
             expect_refusal("trail", &(struct board){book, books, words, length, rooms}, 5, length % 3,
                            more ? PINORANGE_WRONG_TABULATION : shape ? shape : PINORANGE_KEY_ABSENT);
             expect_refusal("trail", &(struct board){house, PINORANGE_TABULATION_LENGTH, words, length, rooms}, 5, length % 3,
