@@ -415,9 +415,13 @@ fn hashes_at_every_station() {
             assert_eq!(beside.hashes(&random, r, station, key), 0);
             assert_eq!(beside.hashes(&distinct, 1_024, station, key), 0);
         }
-        for (r, station, key) in [(4, station + 256, 1), (4, rng.pick(&WRONG_STATIONS), 0)] {
-            assert_eq!(beside.hashes(&random, r, station, key), 2);
-            assert_eq!(beside.hashes(&random[1..], r, station, key), 1);
+        for (wrong, key) in [(station + 256, 1), (rng.pick(&WRONG_STATIONS), 0)] {
+            assert_eq!(beside.hashes(&random, 4, wrong, key), 2);
+            for length in [2_048, 2_559, 2_561, 5_120] {
+                let lent: Vec<u16> = random.iter().copied().cycle().take(length).collect();
+                assert_eq!(beside.hashes(&lent, 4, wrong, key), 1, "{length} entries");
+                assert_eq!(beside.hashes(&lent, 4, station, key), 1, "{length} entries");
+            }
         }
         assert_eq!(beside.hashes(&random, 4, station, 0), 5);
     }
