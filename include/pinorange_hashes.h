@@ -31,7 +31,7 @@ extern "C" {
  *
  * Reads: the `length` entries of `tabulation` (any length, any content).
  * Done (0): `*table0` and `*table1` are the key's hashes, both below r: in table k the sum, over the bytes b0 (lowest) to b3 of the
- *   key, of entry 1280 k + 256 i + bi, and of entry 1280 k + 1024 + (b0 + station) modulo 256; all of it modulo r.
+ *   key, of entry 1280 k + 256 i + bi, and of entry 1280 k + 1024 + ((b0 + station) modulo 256); all of it modulo r.
  * Refused (1, 2 or 5, tried in that order): `*table0` and `*table1` stay as they were.
  * The tabulation is never written. No pointer may be null (a length of 0 needs one, too), all are aligned, and `table0` and `table1` lie apart from
  * each other and from the tabulation. */
