@@ -57,7 +57,7 @@ abbrev pub new-set : Change → ℕ → List Entry → List Entry
 new-set (Insert tier) key L = put-in (record { key = key; tier = tier }) L
 new-set Remove key L = take-out key L
 
--- It knows the sequence's tabulation, r and s: P.
+-- It knows the sequence's tabulation, r, s and station: P.
 module _ (P : Params) where
   abbrev pub wrong-length : Lent → Bool
   wrong-length l = not (eqb (length (lent-of (P .tabulation) l)) tabulation-length)

@@ -45,7 +45,7 @@ module _ {P : Params} {L : List Entry} {ws : List ℕ} (h : ImageOf P L ws) wher
   pub image-of-set : 0 < P .slots → set-in (P .tabulation) ws ≡ L
   image-of-set some = rw (h .is) (set-in-image P L (h .fit) (h .valid .keys) some)
 
--- Differing sets have differing images, also with other r and s: "Two lists are now equal only when cards and tiers agree".
+-- Differing sets have differing images, also with other r, s and station: "Two lists are now equal only when cards and tiers agree".
 pub image-one : {P P′ : Params} {L L′ : List Entry} {ws : List ℕ} → ImageOf P L ws → ImageOf P′ L′ ws → P .tabulation ≡ P′ .tabulation → 0 < P .slots
     → (P ≡ P′) × (L ≡ L′)
 image-one {P} {P′} {L} {L′} {ws} h h′ t some =
@@ -107,7 +107,7 @@ module _ (tabulation ws : List ℕ) where
       rw (fit, small) (true-same ws (image P (set-in tabulation ws)) (h .is))
 
   module _ (formed : shaped ws ≡ true) where
-    -- If the words are the image of some set, with whatever r and s, then r and s are those in the header, and the set is that of the keys that stand.
+    -- If the words are the image of some set, with whatever r, s and station, then these are those in the header, and the set is that of the keys that stand.
     pub image-of-canonical : {Q : Params} {L : List Entry} → Q .tabulation ≡ tabulation → ImageOf Q L ws
         → (Q ≡ P) × (L ≡ set-in tabulation ws) × (canonical tabulation ws ≡ true)
     image-of-canonical {Q} {L} t h =
@@ -121,7 +121,7 @@ module _ (tabulation ws : List ℕ) where
     pub canonical-iff : (canonical tabulation ws ≡ true) ↔ ((L : List Entry) × ImageOf P L ws)
     canonical-iff = (λ e. (set-in tabulation ws, canonical-true e), λ h. image-of-canonical refl (h .1) .2)
 
-    -- they are refused, "the list is the canonical image of no set", exactly if they are the image of none, with whatever r and s.
+    -- they are refused, "the list is the canonical image of no set", exactly if they are the image of none, with whatever r, s and station.
     pub not-canonical-iff : (canonical tabulation ws ≡ false) ↔ ((Q : Params) (L : List Entry) → Q .tabulation ≡ tabulation → ImageOf Q L ws → ⊥)
     not-canonical-iff = (
       λ e Q L t h. true≢false (sym (image-of-canonical t h .2) ∙ e),

@@ -1,4 +1,4 @@
--- Fresh words: the image of the empty set, which fits with every r and s; and what the test of sizes and length decides, for the code. Assumes nothing.
+-- Fresh words: the image of the empty set, which fits with every r, s and station; and what the test of sizes and length decides, for the code. Assumes nothing.
 use Prim.Native.Nat.{ℕ, zero, suc, _+_, _*_, _-_, _≤_}
 use mathlib.Core.Path.{_≡_, refl, sym, ap}
 use mathlib.Core.Bool.{true, false, _&&_}

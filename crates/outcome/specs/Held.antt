@@ -31,7 +31,7 @@ use Rattle.outcome.specs.declared.Change.the-variants.{Insert, Remove}
 use Rattle.outcome.specs.Outcome.{keys-changed, tier-changed, changed, set-refusals, first-refusals, change-refusal, change-outcome, check-outcome}
 use Rattle.outcome.specs.Laws.{Ready, change-done, change-refused, change-set, change-passed}
 
--- The words are a dictionary that holds S: r and s are in their ranges, and the words are the image of S, a set that fits.
+-- The words are a dictionary that holds S: r, s and the station are in their ranges, and the words are the image of S, a set that fits.
 pub record Holds (P : Params) (L : List Entry) (ws : List ℕ) : Type 0 where
   pub range : params-in-range (P .slots) (P .places) (P .station) ≡ true
   pub is : ImageOf P L ws
@@ -40,7 +40,7 @@ module _ {P : Params} {L : List Entry} {ws : List ℕ} (h : Holds P L ws) where
   pub held-some : 0 < P .slots
   held-some = ranged (P .slots) (P .places) (P .station) (h .range) .0 .has-slots
 
-  -- such words say r and s, and their set
+  -- such words say r, s and the station, and their set
   pub held-params : params-of (P .tabulation) ws ≡ P
   held-params = image-of-params (h .is)
 

@@ -12,11 +12,11 @@ use Rattle.basics.specs.Sets.{member, member-in, in-member}
 abbrev pub done : ℕ
 done = 0
 
--- 1, "wrong book": the tabulation is not 2,048 long
+-- 1, "wrong book": the tabulation does not have its length
 abbrev pub wrong-tabulation : ℕ
 wrong-tabulation = 1
 
--- 2, "wrong shape": the words are not laid out as a dictionary; of the hashes of a key alone, r outside its range
+-- 2, "wrong shape": the words are not laid out as a dictionary; of the hashes of a key alone, r or the station outside its range
 abbrev pub wrong-shape : ℕ
 wrong-shape = 2
 
