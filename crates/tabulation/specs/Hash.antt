@@ -47,9 +47,12 @@ abbrev pub byte : ℕ → ℕ → ℕ
 byte zero key = key % 256
 byte (suc i) key = byte i (key / 256)
 
--- entry b of stretch i of a table's half: each rack has 1,280 numbers "in five stretches of 256"
+-- entry b of stretch i of a table's half, and where it stands: each rack has 1,280 numbers "in five stretches of 256"
+abbrev pub entry-at : ℕ → ℕ → ℕ → ℕ
+entry-at table i b = 1280 * table + 256 * i + b
+
 abbrev pub entry : List ℕ → ℕ → ℕ → ℕ → ℕ
-entry tabulation table i b = getD tabulation (1280 * table + 256 * i + b) 0
+entry tabulation table i b = getD tabulation (entry-at table i b) 0
 
 -- where the fifth stretch is read: "at (b0 + station number) modulo 256"
 abbrev pub turned : ℕ → ℕ → ℕ

@@ -7,7 +7,7 @@ use native.Mathlib.Nat.{add-zero, zero-add}
 use native.Mathlib.Omega.{arith}
 use lib.ListN.{length, getD, take, drop, replicate, length-append, length-take, length-drop, length-replicate, getD-replicate, List·getD-append}
 use lib.Seq.{getD-drop, getD-take, drop-at, length-take-le}
-use Rattle.tabulation.specs.Hash.{max-station, tabulation-length, Family, tables, byte, entry, turned, hash}
+use Rattle.tabulation.specs.Hash.{max-station, tabulation-length, Family, tables, byte, entry-at, entry, turned, hash}
 
 -- "Its place in rack k is the sum over i = 0 to 3 of book entry 1,024k + 256i + bi, taken modulo r": the hash of document 01
 abbrev pub hash-01 : List ℕ → ℕ → ℕ → ℕ → ℕ
@@ -21,11 +21,11 @@ pub record Moved (old new : List ℕ) : Type 0 where
   pub zeros : (table b : ℕ) → table < 2 → b < 256 → entry new table 4 b ≡ 0
 
 -- The laws. The five stretches of both halves lie in the tabulation, and no two of their entries are one.
-pub entry-inside : (table i b : ℕ) → table < 2 → i < 5 → b < 256 → 1280 * table + 256 * i + b < tabulation-length
+pub entry-inside : (table i b : ℕ) → table < 2 → i < 5 → b < 256 → entry-at table i b < tabulation-length
 entry-inside table i b t l m = omega arith
 
 pub entry-apart : (table i b table′ i′ b′ : ℕ) → i < 5 → b < 256 → i′ < 5 → b′ < 256
-    → 1280 * table + 256 * i + b ≡ 1280 * table′ + 256 * i′ + b′ → (table ≡ table′) × ((i ≡ i′) × (b ≡ b′))
+    → entry-at table i b ≡ entry-at table′ i′ b′ → (table ≡ table′) × ((i ≡ i′) × (b ≡ b′))
 entry-apart table i b table′ i′ b′ l m l′ m′ e = (omega arith, (omega arith, omega arith))
 
 -- The fifth is read inside its stretch, at another entry for each station.
