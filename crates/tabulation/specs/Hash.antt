@@ -1,5 +1,6 @@
--- The hash of a key in a table, by simple tabulation (document 01, "Where a card may sit"; document 01's 'place' of a card in a rack).
--- What callers use of `hash` is its law `hash-lt`; its text may change behind its name. The worked rows K1 to K12 alone compute with it.
+-- The hash of a key in a table, by simple tabulation (document 01, "Where a card may sit"; document 02, "Five"; their 'place' of a card in a rack).
+-- What callers use of `hash` are its laws, `hash-lt` and those of Stations; its text may change behind its name. The worked rows K1 to K12 alone compute
+-- with it.
 use Prim.Native.Nat.{ℕ, zero, suc, _+_, _*_, _/_, _%_, _<_, _≤_}
 use mathlib.Core.Path.{_≡_}
 use mathlib.Core.Bool.{Bool, true, _&&_}
