@@ -8,7 +8,7 @@
  * words. It has no part in where a key sits: two sets of the same keys with other tiers differ in the tier words alone.
  *
  * The station number, 0 to PINORANGE_MAX_STATION, is given when a dictionary is laid and stands in its words (word 4). It has a part in where every key sits, so
- * that a fleet which crowds the slots at one station does not at the next. Every other call takes it from the words. Two dictionaries of one set, with one
+ * that a fleet which crowds the slots at one station is spread otherwise at the next. Every other call takes it from the words. Two dictionaries of one set, with one
  * tabulation, r, s and station, have the same words; those of two stations never do.
  *
  * What the caller sees to: no pointer is null (a length of 0 needs one, too), pointers are aligned, and no two lent pieces of memory overlap. One

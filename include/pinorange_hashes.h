@@ -27,7 +27,7 @@ extern "C" {
 #define PINORANGE_MAX_STATION 255u        /* the largest station number */
 
 /* The two slots in which a key may sit, one in each table of r slots, at a station: 0 to PINORANGE_MAX_STATION, the number that the dictionary was laid with
- * (its word 4). At another station the same keys crowd other slots.
+ * (its word 4). At another station the same keys are spread otherwise.
  *
  * Reads: the `length` entries of `tabulation` (any length, any content).
  * Done (0): `*table0` and `*table1` are the key's hashes, both below r: in table k the sum, over the bytes b0 (lowest) to b3 of the
