@@ -1,9 +1,9 @@
--- What a station does to the hash, and what it leaves: where the fifth stretch is read, that two stations read it apart, and that with zeros in it the
--- hash is document 01's own, of 2,048 numbers (document 02, "Five"). Assumes nothing.
+-- What a station does to the hash, and what it leaves: where the fifth stretch is read, that two stations read it apart, that keys with one lowest byte stay
+-- together, and that with zeros in it the hash is document 01's own, of 2,048 numbers (document 02, "Five"). Assumes nothing.
 use Prim.Native.Nat.{ℕ, zero, suc, _+_, _*_, _/_, _%_, _≤_, _<_}
 use mathlib.Core.Path.{_≡_, refl, sym, _∙_, ap}
 use mathlib.Core.List.{List, _++_}
-use native.Mathlib.Nat.{add-zero, zero-add}
+use native.Mathlib.Nat.{add-zero, zero-add, suc-mul, mod-add-mod, add-mul-mod-self-left}
 use native.Mathlib.Omega.{arith}
 use lib.ListN.{length, getD, take, drop, replicate, length-append, length-take, length-drop, length-replicate, getD-replicate, List·getD-append}
 use lib.Seq.{getD-drop, getD-take, drop-at, length-take-le}
@@ -67,6 +67,32 @@ moved-hash {old} {new} m r station table key t =
       m .zeros table (turned station (byte 0 key)) t (turned-lt station (byte 0 key)),
       add-zero,
     )
+
+-- What a station does not part: keys with one lowest byte that share a slot at one station share it at every station.
+same-left : (q a b f : ℕ) → (a + f) % suc q ≡ (b + f) % suc q → a % suc q ≡ b % suc q
+same-left q a b f e = sym (cancel a) ∙ ap (λ (n : ℕ). (n + q * f) % suc q) e ∙ cancel b
+  where
+    cancel : (a : ℕ) → ((a + f) % suc q + q * f) % suc q ≡ a % suc q
+    cancel a =
+        let k : a + f + q * f ≡ a + suc q * f = omega (arith, suc-mul q f) in
+        mod-add-mod (a + f) (suc q) (q * f) ∙ ap (λ (n : ℕ). n % suc q) k ∙ add-mul-mod-self-left a (suc q) f
+
+same-shifted : (r a b f g : ℕ) → 0 < r → (a + f) % r ≡ (b + f) % r → (a + g) % r ≡ (b + g) % r
+same-shifted zero a b f g l e = absurd (omega arith)
+same-shifted (suc q) a b f g l e =
+    sym (mod-add-mod a (suc q) g) ∙ ap (λ (n : ℕ). (n + g) % suc q) (same-left q a b f e) ∙ mod-add-mod b (suc q) g
+
+pub low-byte-together : (tabulation : List ℕ) (r station station′ table c d : ℕ) → 0 < r → byte 0 c ≡ byte 0 d
+    → hash (tables tabulation r station) table c ≡ hash (tables tabulation r station) table d
+    → hash (tables tabulation r station′) table c ≡ hash (tables tabulation r station′) table d
+unfolding hash
+low-byte-together tabulation r station station′ table c d some low e =
+    let E = entry tabulation table in
+    let four : ℕ → ℕ = λ key. E 0 (byte 0 key) + E 1 (byte 1 key) + E 2 (byte 2 key) + E 3 (byte 3 key) in
+    let fifth : ℕ → ℕ → ℕ = λ at key. E 4 (turned at (byte 0 key)) in
+    let same : (at : ℕ) → fifth at d ≡ fifth at c = λ at. ap (λ (b : ℕ). E 4 (turned at b)) (sym low) in
+    same-shifted r (four c) (four d) (fifth station c) (fifth station′ c) some (e ∙ ap (λ (x : ℕ). (four d + x) % r) (same station))
+    ∙ ap (λ (x : ℕ). (four d + x) % r) (sym (same station′))
 
 -- Every tabulation of document 01 can be moved.
 abbrev pub moved : List ℕ → List ℕ
