@@ -3,16 +3,17 @@
 -- tabulation's, moved: seats, next numbers and stash go by the keys alone. Assumes nothing.
 use Prim.Native.Nat.{ℕ, zero, suc, _+_, _-_}
 use native.Mathlib.Omega.{arith}
-use mathlib.Core.Path.{_≡_, refl, _∙_, ap}
+use mathlib.Core.Path.{_≡_, refl, ap}
 use mathlib.Core.Bool.{true}
 use mathlib.Core.List.{List, [], _∷_, _++_}
 use lib.ListN.{length, getD, take, drop, replicate}
 use Rattle.cuckoo.specs.Graph.{stash, slot-key, slot-next}
 use Rattle.cuckoo.specs.Agree.{stash-agree, slot-key-agree, slot-next-agree}
+use Rattle.tabulation.specs.Hash.{first-part}
 use Rattle.tabulation.specs.Slots.{slot-0, slot-1}
 use Rattle.tabulation.specs.Stations.{hash-01, Moved, moved-hash}
 use Rattle.layout.specs.Entries.{Entry, keys-of, tier-of}
-use Rattle.layout.specs.Layout.{Params, family, header-length, slot-width, slots-of, stash-of, fits, image, slot-words, stash-entries, slot-words-by, body-by, image-by}
+use Rattle.layout.specs.Layout.{Params, family, header-length, slot-width, slots-of, fits, image, slot-words, stash-entries, slot-words-by, body-by, image-by}
 use Rattle.layout.specs.Ends.{Known, image-known}
 use Rattle.layout.specs.Standing.{image-stash-keys}
 
@@ -43,12 +44,12 @@ bare-slots (suc n) ws = getD ws 0 0 ∷ getD ws 1 0 ∷ bare-slots n (drop slot-
 abbrev pub bare : List ℕ → List ℕ
 bare ws = take 4 ws ++ (bare-slots (slots-of ws + slots-of ws) (drop header-length ws) ++ keys-of (stash-entries ws))
 
--- document 01's slots of a key, with its own tabulation
+-- document 01's slots of a key's first part, with its own tabulation
 abbrev pub old-0 : List ℕ → ℕ → ℕ → ℕ
-old-0 old r key = hash-01 old r 0 key
+old-0 old r key = hash-01 old r 0 (first-part key)
 
 abbrev pub old-1 : List ℕ → ℕ → ℕ → ℕ
-old-1 old r key = r + hash-01 old r 1 key
+old-1 old r key = r + hash-01 old r 1 (first-part key)
 
 module _ (P : Params) (L : List Entry) where
   abbrev S : List ℕ

@@ -1,5 +1,5 @@
 -- Document 01's "Cards on a test board": K1 to K12 and the console listing as ONE table, every word of every image written out, proved as a
--- whole to follow from the image rule. The hashes come from the test board's 2,560 numbers through the definition of crate tabulation: one
+-- whole to follow from the image rule; "with every card multiplied by ten" (document 02, "Six"). The hashes come from the test board's 2,560 numbers through the definition of crate tabulation: one
 -- test, which the checker computes, sees that each key's two hashes are its plain ends and that the image over these has the words; the laws
 -- of Ends turn it into statements about `image` and `fits`. Assumes nothing.
 use Prim.Native.Nat.{ℕ, zero, suc, _+_, _*_, _-_, _/_, _%_, _<_, _≤_}
@@ -7,7 +7,7 @@ use mathlib.Core.Path.{_≡_, refl, sym, _∙_, ap}
 use mathlib.Core.Bool.{Bool, true, false, not, cond, _&&_}
 use mathlib.Core.List.{List, [], _∷_, List·Memᴰ as In, List·Memᴰ·head as here, List·Memᴰ·tail as there}
 use native.Mathlib.Omega.{arith}
-use borrow.Author.Tests.{eqb-true, ne-eqb, ltb-true, leb-true, not-true, lt-leb, le-leb, lt-ltb, le-ltb}
+use borrow.Author.Tests.{eqb-true, ltb-true, leb-true, not-true, lt-leb, le-leb, lt-ltb, le-ltb}
 use lib.Dec.{T, eqb, ltb, leb}
 use lib.ListN.{length, getD}
 use Rattle.basics.specs.Tests.{le?, and-true, T-true}
@@ -16,11 +16,12 @@ use Rattle.basics.specs.Sets.{without, Asc, none, some}
 use Rattle.basics.specs.Lists.{same, same-true}
 use Rattle.cuckoo.specs.Graph.{label, joined, component, onCycle, cyclic, spare, settle, seated, stash, root, sits, occupant, next, slot-key, slot-next}
 use Rattle.cuckoo.specs.Agree.{agree-none, agree-some}
-use Rattle.tabulation.specs.Hash.{Family, entry, hash, blank, tabulation-length}
+use Rattle.tabulation.specs.Hash.{Family, first-part, entry, hash, blank, tabulation-length}
 use Rattle.tabulation.specs.Stations.{Moved}
 use Rattle.tabulation.specs.Slots.{slot-0, slot-1}
 use Rattle.layout.specs.Entries.{Entry, max-tier, keys-of, tier-of, tiered}
-use Rattle.layout.specs.Layout.{Params, family, ValidSet, fits, image, fits-by, slot-words-by, image-by}
+use Rattle.layout.specs.Layout.{Params, family, ValidSet, another-issue, one-issue, fits, image, fits-by, slot-words-by, image-by}
+use Rattle.layout.specs.Issues.{one-issue-iff}
 use Rattle.layout.specs.Ends.{Known, fits-known, image-known}
 
 -- the test board's tabulation
@@ -115,12 +116,12 @@ board-moved = record { same = same; zeros = zeros }
 abbrev pub board : ℕ → ℕ → Params
 board r s = record { tabulation = board-tabulation; slots = r; places = s; station = 0 }
 
--- "the places are card modulo 4 and card/16 rounded down, modulo 4", and so for each r
+-- "the places are card modulo 4 and card/16 rounded down, modulo 4", and so for each r, of a card's first part
 abbrev pub plain-0 : ℕ → ℕ → ℕ
-plain-0 r c = c % r
+plain-0 r c = first-part c % r
 
 abbrev pub plain-1 : ℕ → ℕ → ℕ
-plain-1 r c = r + c / 16 % r
+plain-1 r c = r + first-part c / 16 % r
 
 -- rows
 
@@ -166,7 +167,7 @@ small (e ∷ L) = leb (e .tier) max-tier && small L
 
 -- L is a set, and its keys hash to their plain ends
 abbrev ready : ℕ → ℕ → List Entry → Bool
-ready r s L = small L && (rises 0 (keys-of L) && hashed (family (board r s)) (keys-of L))
+ready r s L = small L && (one-issue (keys-of L) && (rises 9 (keys-of L) && hashed (family (board r s)) (keys-of L)))
 
 abbrev follows : Row → Bool
 follows (shows r s L words) =
@@ -184,47 +185,51 @@ abbrev pub rows : List Row
 rows =
     -- K1 {}: all slots empty
     shows 4 1 (plain []) (4 ∷ 1 ∷ 0 ∷ 0 ∷ 0 ∷ 0 ∷ 0 ∷ 0 ∷ 0 ∷ 0 ∷ 0 ∷ 0 ∷ 0 ∷ 0 ∷ 0 ∷ 0 ∷ 0 ∷ 0 ∷ 0 ∷ 0 ∷ 0 ∷ 0 ∷ 0 ∷ 0 ∷ 0 ∷ 0 ∷ 0 ∷ 0 ∷ 0 ∷ 0 ∷ 0 ∷ [])
-    -- K2 {17}: 0.1 and 1.1 hold 17, next 17
-    ∷ shows 4 1 (plain (17 ∷ [])) (4 ∷ 1 ∷ 1 ∷ 0 ∷ 0 ∷ 0 ∷ 0 ∷ 0 ∷ 17 ∷ 17 ∷ 0 ∷ 0 ∷ 0 ∷ 0 ∷ 0 ∷ 0 ∷ 0 ∷ 0 ∷ 0 ∷ 0 ∷ 17 ∷ 17 ∷ 0 ∷ 0 ∷ 0 ∷ 0 ∷ 0 ∷ 0 ∷ 0 ∷ 0 ∷ 0 ∷ [])
-    -- K3 {1, 17}: 0.1 and 1.0 hold 1; 1.1 holds 17
-    ∷ shows 4 1 (plain (1 ∷ 17 ∷ [])) (4 ∷ 1 ∷ 2 ∷ 0 ∷ 0 ∷ 0 ∷ 0 ∷ 0 ∷ 1 ∷ 17 ∷ 0 ∷ 0 ∷ 0 ∷ 0 ∷ 0 ∷ 0 ∷ 0 ∷ 1 ∷ 17 ∷ 0 ∷ 17 ∷ 1 ∷ 0 ∷ 0 ∷ 0 ∷ 0 ∷ 0 ∷ 0 ∷ 0 ∷ 0 ∷ 0 ∷ [])
-    -- K4 {1, 65}: 0.1 holds 1, 1.0 holds 65
-    ∷ shows 4 1 (plain (1 ∷ 65 ∷ [])) (4 ∷ 1 ∷ 2 ∷ 0 ∷ 0 ∷ 0 ∷ 0 ∷ 0 ∷ 1 ∷ 65 ∷ 0 ∷ 0 ∷ 0 ∷ 0 ∷ 0 ∷ 0 ∷ 0 ∷ 65 ∷ 1 ∷ 0 ∷ 0 ∷ 0 ∷ 0 ∷ 0 ∷ 0 ∷ 0 ∷ 0 ∷ 0 ∷ 0 ∷ 0 ∷ 0 ∷ [])
-    -- K5 {1, 65, 129}: as K4, stash 129
-    ∷ shows 4 1 (plain (1 ∷ 65 ∷ 129 ∷ [])) (4 ∷ 1 ∷ 3 ∷ 1 ∷ 0 ∷ 0 ∷ 0 ∷ 0 ∷ 1 ∷ 65 ∷ 0 ∷ 0 ∷ 0 ∷ 0 ∷ 0 ∷ 0 ∷ 0 ∷ 65 ∷ 1 ∷ 0 ∷ 0 ∷ 0 ∷ 0 ∷ 0 ∷ 0 ∷ 0 ∷ 0 ∷ 0 ∷ 0 ∷ 129 ∷ 0 ∷ [])
+    -- K2 {170}: 0.1 and 1.1 hold 170, next 170
+    ∷ shows 4 1 (plain (170 ∷ [])) (4 ∷ 1 ∷ 1 ∷ 0 ∷ 0 ∷ 0 ∷ 0 ∷ 0 ∷ 170 ∷ 170 ∷ 0 ∷ 0 ∷ 0 ∷ 0 ∷ 0 ∷ 0 ∷ 0 ∷ 0 ∷ 0 ∷ 0 ∷ 170 ∷ 170 ∷ 0 ∷ 0 ∷ 0 ∷ 0 ∷ 0 ∷ 0 ∷ 0 ∷ 0 ∷ 0 ∷ [])
+    -- K3 {10, 170}: 0.1 and 1.0 hold 10; 1.1 holds 170
+    ∷ shows 4 1 (plain (10 ∷ 170 ∷ [])) (4 ∷ 1 ∷ 2 ∷ 0 ∷ 0 ∷ 0 ∷ 0 ∷ 0 ∷ 10 ∷ 170 ∷ 0 ∷ 0 ∷ 0 ∷ 0 ∷ 0 ∷ 0 ∷ 0 ∷ 10 ∷ 170 ∷ 0 ∷ 170 ∷ 10 ∷ 0 ∷ 0 ∷ 0 ∷ 0 ∷ 0 ∷ 0 ∷ 0 ∷ 0 ∷ 0 ∷ [])
+    -- K4 {10, 650}: 0.1 holds 10, 1.0 holds 650
+    ∷ shows 4 1 (plain (10 ∷ 650 ∷ [])) (4 ∷ 1 ∷ 2 ∷ 0 ∷ 0 ∷ 0 ∷ 0 ∷ 0 ∷ 10 ∷ 650 ∷ 0 ∷ 0 ∷ 0 ∷ 0 ∷ 0 ∷ 0 ∷ 0 ∷ 650 ∷ 10 ∷ 0 ∷ 0 ∷ 0 ∷ 0 ∷ 0 ∷ 0 ∷ 0 ∷ 0 ∷ 0 ∷ 0 ∷ 0 ∷ 0 ∷ [])
+    -- K5 {10, 650, 1290}: as K4, stash 1290
+    ∷ shows 4 1 (plain (10 ∷ 650 ∷ 1290 ∷ [])) (4 ∷ 1 ∷ 3 ∷ 1 ∷ 0 ∷ 0 ∷ 0 ∷ 0 ∷ 10 ∷ 650 ∷ 0 ∷ 0 ∷ 0 ∷ 0 ∷ 0 ∷ 0 ∷ 0 ∷ 650 ∷ 10 ∷ 0 ∷ 0 ∷ 0 ∷ 0 ∷ 0 ∷ 0 ∷ 0 ∷ 0 ∷ 0 ∷ 0 ∷ 1290 ∷ 0 ∷ [])
     -- K5 with the tiers 3, 0 and 7
-    ∷ shows 4 1 (record { key = 1; tier = 3 } ∷ record { key = 65; tier = 0 } ∷ record { key = 129; tier = 7 } ∷ [])
-    (4 ∷ 1 ∷ 3 ∷ 1 ∷ 0 ∷ 0 ∷ 0 ∷ 0 ∷ 1 ∷ 65 ∷ 3 ∷ 0 ∷ 0 ∷ 0 ∷ 0 ∷ 0 ∷ 0 ∷ 65 ∷ 1 ∷ 0 ∷ 0 ∷ 0 ∷ 0 ∷ 0 ∷ 0 ∷ 0 ∷ 0 ∷ 0 ∷ 0 ∷ 129 ∷ 7 ∷ [])
+    ∷ shows 4 1 (record { key = 10; tier = 3 } ∷ record { key = 650; tier = 0 } ∷ record { key = 1290; tier = 7 } ∷ [])
+    (4 ∷ 1 ∷ 3 ∷ 1 ∷ 0 ∷ 0 ∷ 0 ∷ 0 ∷ 10 ∷ 650 ∷ 3 ∷ 0 ∷ 0 ∷ 0 ∷ 0 ∷ 0 ∷ 0 ∷ 650 ∷ 10 ∷ 0 ∷ 0 ∷ 0 ∷ 0 ∷ 0 ∷ 0 ∷ 0 ∷ 0 ∷ 0 ∷ 0 ∷ 1290 ∷ 7 ∷ [])
     -- K3 with the tiers 2 and 5: the smallest key of a tree has its tier in both slots
-    ∷ shows 4 1 (record { key = 1; tier = 2 } ∷ record { key = 17; tier = 5 } ∷ [])
-    (4 ∷ 1 ∷ 2 ∷ 0 ∷ 0 ∷ 0 ∷ 0 ∷ 0 ∷ 1 ∷ 17 ∷ 2 ∷ 0 ∷ 0 ∷ 0 ∷ 0 ∷ 0 ∷ 0 ∷ 1 ∷ 17 ∷ 2 ∷ 17 ∷ 1 ∷ 5 ∷ 0 ∷ 0 ∷ 0 ∷ 0 ∷ 0 ∷ 0 ∷ 0 ∷ 0 ∷ [])
-    -- K6, K5 plus 193: refused 8
-    ∷ full 4 1 (plain (1 ∷ 65 ∷ 129 ∷ 193 ∷ []))
-    -- K6 with s = 2: accepted, stash 129, 193
-    ∷ shows 4 2 (plain (1 ∷ 65 ∷ 129 ∷ 193 ∷ [])) (4 ∷ 2 ∷ 4 ∷ 2 ∷ 0 ∷ 0 ∷ 0 ∷ 0 ∷ 1 ∷ 65 ∷ 0 ∷ 0 ∷ 0 ∷ 0 ∷ 0 ∷ 0 ∷ 0 ∷ 65 ∷ 1 ∷ 0 ∷ 0 ∷ 0 ∷ 0 ∷ 0 ∷ 0 ∷ 0 ∷ 0 ∷ 0 ∷ 0 ∷ 129 ∷ 0 ∷ 193 ∷ 0 ∷ [])
-    -- K7, K5 less 65: 0.1 holds 1, 1.0 holds 129, stash empty
-    ∷ shows 4 1 (plain (1 ∷ 129 ∷ [])) (4 ∷ 1 ∷ 2 ∷ 0 ∷ 0 ∷ 0 ∷ 0 ∷ 0 ∷ 1 ∷ 129 ∷ 0 ∷ 0 ∷ 0 ∷ 0 ∷ 0 ∷ 0 ∷ 0 ∷ 129 ∷ 1 ∷ 0 ∷ 0 ∷ 0 ∷ 0 ∷ 0 ∷ 0 ∷ 0 ∷ 0 ∷ 0 ∷ 0 ∷ 0 ∷ 0 ∷ [])
-    -- K8 {17, 65, 129}: 0.1 holds 65, 1.0 holds 129, 1.1 holds 17; next 17 to 65 to 129 to 17
-    ∷ shows 4 1 (plain (17 ∷ 65 ∷ 129 ∷ [])) (4 ∷ 1 ∷ 3 ∷ 0 ∷ 0 ∷ 0 ∷ 0 ∷ 0 ∷ 65 ∷ 129 ∷ 0 ∷ 0 ∷ 0 ∷ 0 ∷ 0 ∷ 0 ∷ 0 ∷ 129 ∷ 17 ∷ 0 ∷ 17 ∷ 65 ∷ 0 ∷ 0 ∷ 0 ∷ 0 ∷ 0 ∷ 0 ∷ 0 ∷ 0 ∷ 0 ∷ [])
-    -- K9 {1, 33, 34, 65, 98}: 0.1 holds 1, 1.0 holds 65, 1.2 holds 33, 0.2 holds 34, stash 98
-    ∷ shows 4 1 (plain (1 ∷ 33 ∷ 34 ∷ 65 ∷ 98 ∷ [])) (4 ∷ 1 ∷ 5 ∷ 1 ∷ 0 ∷ 0 ∷ 0 ∷ 0 ∷ 1 ∷ 33 ∷ 0 ∷ 34 ∷ 65 ∷ 0 ∷ 0 ∷ 0 ∷ 0 ∷ 65 ∷ 1 ∷ 0 ∷ 0 ∷ 0 ∷ 0 ∷ 33 ∷ 34 ∷ 0 ∷ 0 ∷ 0 ∷ 0 ∷ 98 ∷ 0 ∷ [])
-    -- K10, K9 less 33: 1.2 holds 98, the stash is empty
-    ∷ shows 4 1 (plain (1 ∷ 34 ∷ 65 ∷ 98 ∷ [])) (4 ∷ 1 ∷ 4 ∷ 0 ∷ 0 ∷ 0 ∷ 0 ∷ 0 ∷ 1 ∷ 65 ∷ 0 ∷ 34 ∷ 98 ∷ 0 ∷ 0 ∷ 0 ∷ 0 ∷ 65 ∷ 1 ∷ 0 ∷ 0 ∷ 0 ∷ 0 ∷ 98 ∷ 34 ∷ 0 ∷ 0 ∷ 0 ∷ 0 ∷ 0 ∷ 0 ∷ [])
-    -- K11 {1, 34, 65, 98, 225}: 225 in 1.2, stash 98
-    ∷ shows 4 1 (plain (1 ∷ 34 ∷ 65 ∷ 98 ∷ 225 ∷ [])) (4 ∷ 1 ∷ 5 ∷ 1 ∷ 0 ∷ 0 ∷ 0 ∷ 0 ∷ 1 ∷ 34 ∷ 0 ∷ 34 ∷ 65 ∷ 0 ∷ 0 ∷ 0 ∷ 0 ∷ 65 ∷ 225 ∷ 0 ∷ 0 ∷ 0 ∷ 0 ∷ 225 ∷ 1 ∷ 0 ∷ 0 ∷ 0 ∷ 0 ∷ 98 ∷ 0 ∷ [])
+    ∷ shows 4 1 (record { key = 10; tier = 2 } ∷ record { key = 170; tier = 5 } ∷ [])
+    (4 ∷ 1 ∷ 2 ∷ 0 ∷ 0 ∷ 0 ∷ 0 ∷ 0 ∷ 10 ∷ 170 ∷ 2 ∷ 0 ∷ 0 ∷ 0 ∷ 0 ∷ 0 ∷ 0 ∷ 10 ∷ 170 ∷ 2 ∷ 170 ∷ 10 ∷ 5 ∷ 0 ∷ 0 ∷ 0 ∷ 0 ∷ 0 ∷ 0 ∷ 0 ∷ 0 ∷ [])
+    -- K6, K5 plus 1930: refused 8
+    ∷ full 4 1 (plain (10 ∷ 650 ∷ 1290 ∷ 1930 ∷ []))
+    -- K6 with s = 2: accepted, stash 1290, 1930
+    ∷ shows 4 2 (plain (10 ∷ 650 ∷ 1290 ∷ 1930 ∷ [])) (4 ∷ 2 ∷ 4 ∷ 2 ∷ 0 ∷ 0 ∷ 0 ∷ 0 ∷ 10 ∷ 650 ∷ 0 ∷ 0 ∷ 0 ∷ 0 ∷ 0 ∷ 0 ∷ 0 ∷ 650 ∷ 10 ∷ 0 ∷ 0 ∷ 0 ∷ 0 ∷ 0 ∷ 0 ∷ 0 ∷ 0 ∷ 0 ∷ 0 ∷ 1290 ∷ 0 ∷ 1930 ∷ 0 ∷ [])
+    -- K7, K5 less 650: 0.1 holds 10, 1.0 holds 1290, stash empty
+    ∷ shows 4 1 (plain (10 ∷ 1290 ∷ [])) (4 ∷ 1 ∷ 2 ∷ 0 ∷ 0 ∷ 0 ∷ 0 ∷ 0 ∷ 10 ∷ 1290 ∷ 0 ∷ 0 ∷ 0 ∷ 0 ∷ 0 ∷ 0 ∷ 0 ∷ 1290 ∷ 10 ∷ 0 ∷ 0 ∷ 0 ∷ 0 ∷ 0 ∷ 0 ∷ 0 ∷ 0 ∷ 0 ∷ 0 ∷ 0 ∷ 0 ∷ [])
+    -- K8 {170, 650, 1290}: 0.1 holds 650, 1.0 holds 1290, 1.1 holds 170; next 170 to 650 to 1290 to 170
+    ∷ shows 4 1 (plain (170 ∷ 650 ∷ 1290 ∷ [])) (4 ∷ 1 ∷ 3 ∷ 0 ∷ 0 ∷ 0 ∷ 0 ∷ 0 ∷ 650 ∷ 1290 ∷ 0 ∷ 0 ∷ 0 ∷ 0 ∷ 0 ∷ 0 ∷ 0 ∷ 1290 ∷ 170 ∷ 0 ∷ 170 ∷ 650 ∷ 0 ∷ 0 ∷ 0 ∷ 0 ∷ 0 ∷ 0 ∷ 0 ∷ 0 ∷ 0 ∷ [])
+    -- K9 {10, 330, 340, 650, 980}: 0.1 holds 10, 1.0 holds 650, 1.2 holds 330, 0.2 holds 340, stash 980
+    ∷ shows 4 1 (plain (10 ∷ 330 ∷ 340 ∷ 650 ∷ 980 ∷ [])) (4 ∷ 1 ∷ 5 ∷ 1 ∷ 0 ∷ 0 ∷ 0 ∷ 0 ∷ 10 ∷ 330 ∷ 0 ∷ 340 ∷ 650 ∷ 0 ∷ 0 ∷ 0 ∷ 0 ∷ 650 ∷ 10 ∷ 0 ∷ 0 ∷ 0 ∷ 0 ∷ 330 ∷ 340 ∷ 0 ∷ 0 ∷ 0 ∷ 0 ∷ 980 ∷ 0 ∷ [])
+    -- K10, K9 less 330: 1.2 holds 980, the stash is empty
+    ∷ shows 4 1 (plain (10 ∷ 340 ∷ 650 ∷ 980 ∷ [])) (4 ∷ 1 ∷ 4 ∷ 0 ∷ 0 ∷ 0 ∷ 0 ∷ 0 ∷ 10 ∷ 650 ∷ 0 ∷ 340 ∷ 980 ∷ 0 ∷ 0 ∷ 0 ∷ 0 ∷ 650 ∷ 10 ∷ 0 ∷ 0 ∷ 0 ∷ 0 ∷ 980 ∷ 340 ∷ 0 ∷ 0 ∷ 0 ∷ 0 ∷ 0 ∷ 0 ∷ [])
+    -- K11 {10, 340, 650, 980, 2250}: 2250 in 1.2, stash 980
+    ∷ shows 4 1 (plain (10 ∷ 340 ∷ 650 ∷ 980 ∷ 2250 ∷ [])) (4 ∷ 1 ∷ 5 ∷ 1 ∷ 0 ∷ 0 ∷ 0 ∷ 0 ∷ 10 ∷ 340 ∷ 0 ∷ 340 ∷ 650 ∷ 0 ∷ 0 ∷ 0 ∷ 0 ∷ 650 ∷ 2250 ∷ 0 ∷ 0 ∷ 0 ∷ 0 ∷ 2250 ∷ 10 ∷ 0 ∷ 0 ∷ 0 ∷ 0 ∷ 980 ∷ 0 ∷ [])
     -- K12, r = 1, s = 0: two keys fit, the smaller in table 0 (for every two keys: Smallest.antt)
-    ∷ shows 1 0 (plain (7 ∷ 200 ∷ [])) (1 ∷ 0 ∷ 2 ∷ 0 ∷ 0 ∷ 7 ∷ 200 ∷ 0 ∷ 200 ∷ 7 ∷ 0 ∷ [])
+    ∷ shows 1 0 (plain (70 ∷ 2000 ∷ [])) (1 ∷ 0 ∷ 2 ∷ 0 ∷ 0 ∷ 70 ∷ 2000 ∷ 0 ∷ 2000 ∷ 70 ∷ 0 ∷ [])
     -- K12: a third is refused 8
-    ∷ full 1 0 (plain (7 ∷ 200 ∷ 201 ∷ []))
-    -- the console listing, r = 2: 0.1 holds 1, next 33; 1.0 holds 33, next 1; stash 65
-    ∷ shows 2 1 (plain (1 ∷ 33 ∷ 65 ∷ [])) (2 ∷ 1 ∷ 3 ∷ 1 ∷ 0 ∷ 0 ∷ 0 ∷ 0 ∷ 1 ∷ 33 ∷ 0 ∷ 33 ∷ 1 ∷ 0 ∷ 0 ∷ 0 ∷ 0 ∷ 65 ∷ 0 ∷ [])
-    -- the console listing: 97 on top is refused 8
-    ∷ full 2 1 (plain (1 ∷ 33 ∷ 65 ∷ 97 ∷ []))
+    ∷ full 1 0 (plain (70 ∷ 2000 ∷ 2010 ∷ []))
+    -- the console listing, r = 2: 0.1 holds 10, next 330; 1.0 holds 330, next 10; stash 650
+    ∷ shows 2 1 (plain (10 ∷ 330 ∷ 650 ∷ [])) (2 ∷ 1 ∷ 3 ∷ 1 ∷ 0 ∷ 0 ∷ 0 ∷ 0 ∷ 10 ∷ 330 ∷ 0 ∷ 330 ∷ 10 ∷ 0 ∷ 0 ∷ 0 ∷ 0 ∷ 650 ∷ 0 ∷ [])
+    -- the console listing: 970 on top is refused 8
+    ∷ full 2 1 (plain (10 ∷ 330 ∷ 650 ∷ 970 ∷ []))
+    -- K5 with other issues, {13, 657, 1299}: the same seats
+    ∷ shows 4 1 (plain (13 ∷ 657 ∷ 1299 ∷ [])) (4 ∷ 1 ∷ 3 ∷ 1 ∷ 0 ∷ 0 ∷ 0 ∷ 0 ∷ 13 ∷ 657 ∷ 0 ∷ 0 ∷ 0 ∷ 0 ∷ 0 ∷ 0 ∷ 0 ∷ 657 ∷ 13 ∷ 0 ∷ 0 ∷ 0 ∷ 0 ∷ 0 ∷ 0 ∷ 0 ∷ 0 ∷ 0 ∷ 0 ∷ 1299 ∷ 0 ∷ [])
+    -- "but for the edge 4,294,967,295": 0.1 and 1.1 hold it, its first part being 429,496,729
+    ∷ shows 4 1 (plain (4294967295 ∷ [])) (4 ∷ 1 ∷ 1 ∷ 0 ∷ 0 ∷ 0 ∷ 0 ∷ 0 ∷ 4294967295 ∷ 4294967295 ∷ 0 ∷ 0 ∷ 0 ∷ 0 ∷ 0 ∷ 0 ∷ 0 ∷ 0 ∷ 0 ∷ 0 ∷ 4294967295 ∷ 4294967295 ∷ 0 ∷ 0 ∷ 0 ∷ 0 ∷ 0 ∷ 0 ∷ 0 ∷ 0 ∷ 0 ∷ [])
     ∷ []
 
 -- the rows follow from the image rule, all at once
 rows-follow : T (all rows)
-unfolding same without label joined component onCycle cyclic spare settle seated stash root sits occupant next slot-key slot-next hash board-tabulation fits-by slot-words-by image-by
+unfolding another-issue one-issue same without label joined component onCycle cyclic spare settle seated stash root sits occupant next slot-key slot-next hash board-tabulation fits-by slot-words-by image-by
 rows-follow = tt
 
 -- what the test means
@@ -257,12 +262,14 @@ ready-is : (r s : ℕ) (L : List Entry) → ready r s L ≡ true → Ready r s L
 unfolding blank
 ready-is r s L e =
     let S = keys-of L in
-    let t = and-true (small L) (rises 0 S && hashed (family (board r s)) S) e in
-    let p = and-true (rises 0 S) (hashed (family (board r s)) S) (t .1) in
-    let v = rises-valid 0 S (p .0) in
+    let t = and-true (small L) (one-issue S && (rises 9 S && hashed (family (board r s)) S)) e in
+    let o = and-true (one-issue S) (rises 9 S && hashed (family (board r s)) S) (t .1) in
+    let p = and-true (rises 9 S) (hashed (family (board r s)) S) (o .1) in
+    let v = rises-valid 9 S (p .0) in
     record {
       valid = record {
-        keys = record { asc = v .0; none-blank = λ c i. ne-eqb c 0 (omega (arith, v .1 c i)) };
+        keys = record { asc = v .0; none-blank = λ c i. le-ltb c 10 (v .1 c i) };
+        issues = one-issue-iff S .0 (o .0);
         tiers = small-tiers L (t .0);
       };
       known = hashed-known r s S (p .1);

@@ -13,16 +13,19 @@ use Rattle.basics.specs.Tests.{test, and-true}
 use Rattle.basics.specs.Sets.{any, any-true, true-any}
 use Rattle.basics.specs.Lists.{same, same-true, true-same}
 use Rattle.layout.specs.Entries.{Entry, max-tier, keys-of, keys-tiered, key-in, tiered-in, in-tiered}
-use Rattle.layout.specs.Layout.{Params, ValidSet, slots-of, params-of, params-in-range, shaped, fits, image, keys-in, tier-in, set-in}
+use Rattle.tabulation.specs.Hash.{first-part, blank}
+use Rattle.tabulation.specs.Issues.{not-blank-iff}
+use Rattle.layout.specs.Layout.{Params, ValidKeys, ValidSet, OneIssue, one-issue, slots-of, params-of, params-in-range, shaped, fits, image, keys-in, tier-in, set-in}
 use Rattle.layout.specs.Shape.{shape}
 use Rattle.layout.specs.Image.{image-shaped, image-params}
-use Rattle.layout.specs.Standing.{keys-in-valid, keys-in-image, set-in-image}
+use Rattle.layout.specs.Issues.{one-issue-iff}
+use Rattle.layout.specs.Standing.{KeyWord, keys-in-valid, keys-in-words, keys-in-image, set-in-image, image-key-in}
 
--- The words are a canonical image: the keys that stand in them fit, the tiers at which they are found are 0 to 7, and the words are the image of the set of
--- these keys with these tiers (`same`, of basics/specs/Lists, is equality of lists).
+-- The words are a canonical image: the keys that stand in them are one issue of each first part, they fit, the tiers at which they are found are 0 to 7, and the
+-- words are the image of the set of these keys with these tiers (`same`, of basics/specs/Lists, is equality of lists).
 unfoldable pub canonical : List ℕ → List ℕ → Bool
 canonical tabulation ws =
-    fits (params-of tabulation ws) (keys-in ws) && not (any (λ c. ltb max-tier (tier-in tabulation ws c)) (keys-in ws))
+    one-issue (keys-in ws) && fits (params-of tabulation ws) (keys-in ws) && not (any (λ c. ltb max-tier (tier-in tabulation ws c)) (keys-in ws))
     && same ws (image (params-of tabulation ws) (set-in tabulation ws))
 
 -- The laws. First the same as a statement: the words are the image of L, a set that fits.
@@ -76,11 +79,13 @@ module _ (tabulation ws : List ℕ) where
   pub canonical-true : canonical tabulation ws ≡ true → ImageOf P (set-in tabulation ws) ws
   unfolding canonical
   canonical-true e =
-      let q = and-true (fits P (keys-in ws) && not (any large (keys-in ws))) (same ws (image P (set-in tabulation ws))) e in
-      let p = and-true (fits P (keys-in ws)) (not (any large (keys-in ws))) (q .0) in
+      let q = and-true (one-issue (keys-in ws) && fits P (keys-in ws) && not (any large (keys-in ws))) (same ws (image P (set-in tabulation ws))) e in
+      let p = and-true (one-issue (keys-in ws) && fits P (keys-in ws)) (not (any large (keys-in ws))) (q .0) in
+      let o = and-true (one-issue (keys-in ws)) (fits P (keys-in ws)) (p .0) in
       record {
         valid = record {
           keys = rw set-keys (keys-in-valid ws);
+          issues = rw set-keys (one-issue-iff (keys-in ws) .0 (o .0));
           tiers = λ x i.
               let t = tiered-in (tier-in tabulation ws) (keys-in ws) i in
               let k : In (x .key) (keys-in ws) = rw set-keys at (key-in (set-in tabulation ws) i) in
@@ -89,7 +94,7 @@ module _ (tabulation ws : List ℕ) where
                 | inr l ↦ rw t (ltb-false max-tier (tier-in tabulation ws (x .key)) l)
               ];
         };
-        fit = rw set-keys (p .0);
+        fit = rw set-keys (o .1);
         is = same-true ws (image P (set-in tabulation ws)) (q .1);
       }
 
@@ -97,6 +102,7 @@ module _ (tabulation ws : List ℕ) where
   unfolding canonical
   true-canonical h =
       let fit = rw set-keys at (h .fit) in
+      let one : OneIssue (keys-in ws) = rw set-keys at (h .valid .issues) in
       let small : any large (keys-in ws) ≡ false = elim (test (any large (keys-in ws))) [
         | inl t ↦
             let r = any-true large (keys-in ws) t in
@@ -104,7 +110,7 @@ module _ (tabulation ws : List ℕ) where
             absurd (omega (arith, h .valid .tiers _ i, ltb-true max-tier (tier-in tabulation ws (r .0)) (r .2)))
         | inr f ↦ f
       ] in
-      rw (fit, small) (true-same ws (image P (set-in tabulation ws)) (h .is))
+      rw (one-issue-iff (keys-in ws) .1 one, fit, small) (true-same ws (image P (set-in tabulation ws)) (h .is))
 
   module _ (formed : shaped ws ≡ true) where
     -- If the words are the image of some set, with whatever r, s and station, then these are those in the header, and the set is that of the keys that stand.
@@ -131,6 +137,36 @@ module _ (tabulation ws : List ℕ) where
 -- "Each card gets a tier, 0 to 7": no canonical words have another.
 pub canonical-tier : (tabulation ws : List ℕ) → canonical tabulation ws ≡ true → (e : Entry) → In e (set-in tabulation ws) → e .tier ≤ 7
 canonical-tier tabulation ws c e i = canonical-true tabulation ws c .valid .tiers e i
+
+-- "a set has at most one issue of each such first part": where two stand in the words, however neatly, these are the image of no set.
+pub two-issues : (tabulation ws : List ℕ) (c d : ℕ) → In c (keys-in ws) → In d (keys-in ws) → first-part c ≡ first-part d → (c ≡ d → ⊥)
+    → canonical tabulation ws ≡ false
+two-issues tabulation ws c d i j q n = elim (test (canonical tabulation ws)) [
+  | inl e ↦
+      let one : OneIssue (keys-in ws) = rw (set-keys tabulation ws) at (canonical-true tabulation ws e .valid .issues) in
+      absurd (n (one c d i j q))
+  | inr e ↦ e
+]
+
+-- So is the image, word for word, that a set with two issues of one first part would have: keys and stash would fit, and the graph finds nothing wrong.
+pub neat-issues : (P : Params) (L : List Entry) → ValidKeys (keys-of L) → fits P (keys-of L) ≡ true → 0 < P .slots → (OneIssue (keys-of L) → ⊥)
+    → canonical (P .tabulation) (image P L) ≡ false
+neat-issues P L valid fit some two = elim (test (canonical (P .tabulation) (image P L))) [
+  | inl e ↦
+      let one = canonical-true (P .tabulation) (image P L) e .valid .issues in
+      absurd (two (rw (set-in-image P L fit valid some) at one))
+  | inr e ↦ e
+]
+
+-- "A blank card is any number below 10": where one of 1 to 9 stands as a key, these are the image of no set.
+pub below-ten : (tabulation ws : List ℕ) (c : ℕ) → KeyWord ws c → 0 < c → c < 10 → canonical tabulation ws ≡ false
+below-ten tabulation ws c k low high = elim (test (canonical tabulation ws)) [
+  | inl e ↦
+      let h = canonical-true tabulation ws e in
+      let i = image-key-in (params-of tabulation ws) (set-in tabulation ws) (h .fit) (h .valid .keys) (rw (h .is) at k) (λ q. omega arith) in
+      absurd (omega (arith, not-blank-iff c .0 (h .valid .keys .none-blank c i)))
+  | inr e ↦ e
+]
 
 -- every image passes
 pub image-canonical : (P : Params) (L : List Entry) → params-in-range (P .slots) (P .places) (P .station) ≡ true → ValidSet L → fits P (keys-of L) ≡ true

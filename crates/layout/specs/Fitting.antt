@@ -1,16 +1,19 @@
 -- Which sets fit: exactly those that can be placed at all, whatever the rule, with s places aside. So a refusal for a full stash is no fault of
 -- the canonical rule; a part of a set that fits, fits; and a set that fits has at most 2r + s keys. Assumes nothing.
 use Prim.Native.Nat.{ℕ, _+_, _≤_, _<_}
-use mathlib.Core.Path.{_≡_, sym, _∙_}
-use mathlib.Core.Bool.{true, false, true≢false}
+use mathlib.Core.Path.{_≡_, refl, sym, _∙_}
+use mathlib.Core.Bool.{true, false, cond, true≢false}
 use mathlib.Core.Logic.{inl, inr, _↔_}
-use mathlib.Core.List.{List}
+use mathlib.Core.List.{List, [], _∷_, List·Memᴰ as In, List·Memᴰ·head as here, List·Memᴰ·tail as there}
 use native.Mathlib.Omega.{arith}
+use borrow.Author.Tests.{eq-eqb, ne-eqb}
+use lib.Dec.{eqb}
 use lib.ListN.{length}
 use Rattle.basics.specs.Tests.{test}
-use Rattle.basics.specs.Sets.{without, Sub, Asc, out-in, asc-out}
-use Rattle.cuckoo.specs.Placement.{Placement, fits-placed, placed-fits, fits-bound, subset-fits}
-use Rattle.tabulation.specs.Slots.{slot-0, slot-1, slot-0-lt, slot-1-lt}
+use Rattle.basics.specs.Sets.{without, Sub, Asc, some, out-in, asc-out}
+use Rattle.cuckoo.specs.Placement.{Place, slot, MaySit, table-0, table-1, Placement, fits-placed, placed-fits, fits-bound, subset-fits}
+use Rattle.tabulation.specs.Hash.{Family}
+use Rattle.tabulation.specs.Slots.{slot-0, slot-1, slot-0-lt, slot-1-lt, slots-apart}
 use Rattle.layout.specs.Layout.{Params, family, ValidKeys, fits}
 use Rattle.layout.specs.Image.{fits-le, le-fits}
 use Rattle.layout.specs.Standing.{zero-outside}
@@ -44,6 +47,38 @@ module _ (P : Params) {S : List ℕ} (valid : ValidKeys S) where
 
 -- A set that fits has no more keys than there are slots and places.
 pub fits-length : (P : Params) {S : List ℕ} → Asc S → 0 < P .slots → fits P S ≡ true → length S ≤ P .slots + P .slots + P .places
-fits-length P {S} asc some e =
+fits-length P {S} asc has-slots e =
     fits-bound (slot-0 (family P)) (slot-1 (family P)) asc (P .slots + P .slots)
-    (λ c i. omega (arith, slot-0-lt (family P) some c)) (λ c i. slot-1-lt (family P) some c) (fits-le P S e)
+    (λ c i. omega (arith, slot-0-lt (family P) has-slots c)) (λ c i. slot-1-lt (family P) has-slots c) (fits-le P S e)
+
+-- Two keys always fit, one in table 0 and the other in table 1: two issues of one first part, too, which have the same two slots.
+pub pair-fits : (P : Params) (c d : ℕ) → 0 < P .slots → ValidKeys (c ∷ d ∷ []) → fits P (c ∷ d ∷ []) ≡ true
+pair-fits P c d has-slots valid = fits-placement P valid .1 (record { at = at; allowed = allowed; apart = apart })
+  where
+    F : Family
+    F = family P
+
+    at : ℕ → Place
+    at x = cond (eqb x c) (slot (slot-0 F c)) (slot (slot-1 F d))
+
+    slot-is : {u v : ℕ} → slot u ≡ slot v → u ≡ v
+    slot-is e = cc
+
+    c-d : eqb d c ≡ false
+    c-d = ne-eqb d c (λ q. elim (valid .asc) [ some h k ↦ omega (arith, h d (here refl)) ])
+
+    at-c : at c ≡ slot (slot-0 F c)
+    at-c = rw (eq-eqb c c refl)
+
+    at-d : at d ≡ slot (slot-1 F d)
+    at-d = rw c-d
+
+    allowed : (x : ℕ) → In x (c ∷ d ∷ []) → MaySit (slot-0 F) (slot-1 F) (P .places) x (at x)
+    allowed x (here q) = rw q (table-0 at-c)
+    allowed x (there (here q)) = rw q (table-1 at-d)
+
+    apart : (x y : ℕ) → In x (c ∷ d ∷ []) → In y (c ∷ d ∷ []) → at x ≡ at y → x ≡ y
+    apart x y (here p) (here q) e = p ∙ sym q
+    apart x y (here p) (there (here q)) e = absurd (slots-apart F has-slots c d (slot-is (sym at-c ∙ (rw (p, q) at e) ∙ at-d)))
+    apart x y (there (here p)) (here q) e = absurd (slots-apart F has-slots c d (slot-is (sym at-c ∙ (rw (p, q) at (sym e)) ∙ at-d)))
+    apart x y (there (here p)) (there (here q)) e = p ∙ sym q

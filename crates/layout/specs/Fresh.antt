@@ -17,7 +17,7 @@ use Rattle.layout.specs.Answers.{fresh-refusal, fresh-words}
 use Rattle.layout.specs.Image.{le-fits}
 
 pub empty-valid : ValidSet []
-empty-valid = record { keys = record { asc = none; none-blank = λ c i. elim i [ ] }; tiers = λ e i. elim i [ ] }
+empty-valid = record { keys = record { asc = none; none-blank = λ c i. elim i [ ] }; issues = λ c d i j q. elim i [ ]; tiers = λ e i. elim i [ ] }
 
 module _ (P : Params) where
   pub empty-fits : fits P [] ≡ true

@@ -6,10 +6,10 @@ use mathlib.Core.Bool.{Bool, false, not, _&&_}
 use mathlib.Core.List.{List, [], _∷_, _++_, List·Memᴰ as In}
 use lib.Dec.{eqb, leb}
 use lib.ListN.{length, getD, drop, replicate}
-use Rattle.basics.specs.Sets.{keep, Asc}
+use Rattle.basics.specs.Sets.{keep, any, Asc}
 use Rattle.cuckoo.specs.Graph.{stash, slot-key, slot-next}
 use Rattle.ordered.specs.Keys.{sorted, distinct}
-use Rattle.tabulation.specs.Hash.{Family, blank, slots-in-range, station-in-range, tables}
+use Rattle.tabulation.specs.Hash.{Family, first-part, blank, slots-in-range, station-in-range, tables}
 use Rattle.tabulation.specs.Slots.{slot-0, slot-1}
 use Rattle.layout.specs.Entries.{Entry, max-tier, keys-of, tier-of, tiered}
 use Rattle.layout.specs.declared.Header.{Header}
@@ -29,9 +29,22 @@ pub record ValidKeys (S : List ℕ) : Type 0 where
   pub asc : Asc S
   pub none-blank : (c : ℕ) → In c S → blank c ≡ false
 
--- A set: keys, each with a tier of 0 to 7.
+-- "another issue is listed": S has the first part of this key, with another digit
+unfoldable pub another-issue : ℕ → List ℕ → Bool
+another-issue key S = any (λ c. eqb (first-part c) (first-part key) && not (eqb c key)) S
+
+-- "a set has at most one issue of each such first part",
+abbrev pub OneIssue : List ℕ → Type 0
+OneIssue S = (c d : ℕ) → In c S → In d S → first-part c ≡ first-part d → c ≡ d
+
+-- and as a test: no key of S has another issue in S
+unfoldable pub one-issue : List ℕ → Bool
+one-issue S = not (any (λ c. another-issue c S) S)
+
+-- A set: keys, one issue of each first part, each with a tier of 0 to 7.
 pub record ValidSet (L : List Entry) : Type 0 where
   pub keys : ValidKeys (keys-of L)
+  pub issues : OneIssue (keys-of L)
   pub tiers : (e : Entry) → In e L → e .tier ≤ max-tier
 
 -- the heading
@@ -190,9 +203,10 @@ stash-entries ws = place-entries (places-of ws) (drop (stash-at (slots-of ws)) w
 abbrev pub key-words : List ℕ → List ℕ
 key-words ws = slot-keys (slots-of ws + slots-of ws) (drop header-length ws) ++ keys-of (stash-entries ws)
 
--- those that are not 0, ascending, each once
+-- Those that are not blank, ascending, each once. A word from 1 to 9 is no key, and no slot with it is empty either: it makes the words the image of no set
+-- (`below-ten` of Canonical).
 unfoldable pub keys-in : List ℕ → List ℕ
-keys-in ws = distinct (sorted (keep (λ w. not (eqb w 0)) (key-words ws)))
+keys-in ws = distinct (sorted (keep (λ w. not (blank w)) (key-words ws)))
 
 -- where a key is looked for, in this order: its slot in table 0, its slot in table 1, the places of the stash
 abbrev pub slot-entry : List ℕ → ℕ → Entry

@@ -6,8 +6,7 @@ use mathlib.Core.Bool.{true, false, not}
 use mathlib.Core.Logic.{inl, inr, _↔_}
 use mathlib.Core.List.{List, [], _∷_, _++_, List·Memᴰ as In, List·Memᴰ·head as here, List·Memᴰ·tail as there, Memᴰ·append-left, Memᴰ·append-right, List·Memᴰ·append-cases}
 use native.Mathlib.Omega.{arith}
-use borrow.Author.Tests.{eqb-false, ne-eqb, not-true}
-use lib.Dec.{eqb}
+use borrow.Author.Tests.{not-true}
 use lib.ListN.{length, getD, drop, replicate}
 use lib.Seq.{getD-drop}
 use Rattle.basics.specs.Sets.{keep, Asc, asc-ext, keep-in, keep-test, in-keep}
@@ -19,23 +18,17 @@ use Rattle.cuckoo.specs.Filled.{seated-or-stash, stash-sub}
 use Rattle.ordered.specs.Sorting.{in-at}
 use Rattle.ordered.specs.Distinct.{distinct-sorted-asc, distinct-sorted-in, in-distinct-sorted}
 use Rattle.tabulation.specs.Hash.{blank}
+use Rattle.tabulation.specs.Issues.{not-blank-iff}
 use Rattle.tabulation.specs.Slots.{slot-0, slot-1, slot-0-lt, slot-1-lt}
 use Rattle.layout.specs.Entries.{Entry, keys-of, tier-of, tiered, keys-tiered, tiered-agree, tier-absent, tier-all, tiered-self, tiered-in, no-entry, keys-none, none-in, keys-append}
 use Rattle.layout.specs.Layout.{Params, family, family-of, ValidKeys, header-length, slot-width, place-width, key-at, stash-at, place-at, slots-of, places-of, place-words, image-by}
 use Rattle.layout.specs.Layout.{stash-of, fits, stash-words, image, slot-keys, place-entries, stash-entries, key-words, keys-in, slot-entry, looked-at, tier-in, set-in}
 use Rattle.layout.specs.Image.{fits-le, image-slots, image-places, image-key, image-tier, image-stash}
 
--- blank keys: all that this crate knows of `blank`
-
-blank-zero : (c : ℕ) → blank c ≡ eqb c 0
-unfolding blank
-blank-zero c = refl
+-- blank keys: all that is needed here of `blank`
 
 pub not-blank : (c : ℕ) → blank c ≡ false → c ≡ 0 → ⊥
-not-blank c e = eqb-false c 0 (sym (blank-zero c) ∙ e)
-
-blank-false : (c : ℕ) → (c ≡ 0 → ⊥) → blank c ≡ false
-blank-false c n = blank-zero c ∙ ne-eqb c 0 n
+not-blank c e q = omega (arith, not-blank-iff c .0 e)
 
 pub zero-outside : {S : List ℕ} → ValidKeys S → In 0 S → ⊥
 zero-outside h i = not-blank 0 (h .none-blank 0 i) refl
@@ -114,27 +107,27 @@ module _ (ws : List ℕ) where
 module _ (ws : List ℕ) where
   keys-in-asc : Asc (keys-in ws)
   unfolding keys-in
-  keys-in-asc = distinct-sorted-asc (keep (λ w. not (eqb w 0)) (key-words ws))
+  keys-in-asc = distinct-sorted-asc (keep (λ w. not (blank w)) (key-words ws))
 
-  keys-in-key : {c : ℕ} → In c (keys-in ws) → In c (key-words ws) × (c ≡ 0 → ⊥)
+  keys-in-key : {c : ℕ} → In c (keys-in ws) → In c (key-words ws) × (blank c ≡ false)
   unfolding keys-in
   keys-in-key {c} i =
-      let k = distinct-sorted-in (keep (λ w. not (eqb w 0)) (key-words ws)) c i in (
-        keep-in (λ w. not (eqb w 0)) (key-words ws) k,
-        eqb-false c 0 (not-true (eqb c 0) (keep-test (λ w. not (eqb w 0)) (key-words ws) k)),
+      let k = distinct-sorted-in (keep (λ w. not (blank w)) (key-words ws)) c i in (
+        keep-in (λ w. not (blank w)) (key-words ws) k,
+        not-true (blank c) (keep-test (λ w. not (blank w)) (key-words ws) k),
       )
 
-  key-keys-in : {c : ℕ} → In c (key-words ws) → (c ≡ 0 → ⊥) → In c (keys-in ws)
+  key-keys-in : {c : ℕ} → In c (key-words ws) → blank c ≡ false → In c (keys-in ws)
   unfolding keys-in
-  key-keys-in {c} i n =
-      in-distinct-sorted (keep (λ w. not (eqb w 0)) (key-words ws)) c (in-keep (λ w. not (eqb w 0)) (key-words ws) (rw (ne-eqb c 0 n)) i)
+  key-keys-in {c} i b =
+      in-distinct-sorted (keep (λ w. not (blank w)) (key-words ws)) c (in-keep (λ w. not (blank w)) (key-words ws) (ap not b) i)
 
   -- whatever the words, it is a set of keys
   pub keys-in-valid : ValidKeys (keys-in ws)
-  keys-in-valid = record { asc = keys-in-asc; none-blank = λ c i. blank-false c (keys-in-key i .1) }
+  keys-in-valid = record { asc = keys-in-asc; none-blank = λ c i. keys-in-key i .1 }
 
-  -- the keys that are the key word of a slot or of a place of the stash, but for 0
-  pub keys-in-words : (c : ℕ) → In c (keys-in ws) ↔ (KeyWord ws c × (c ≡ 0 → ⊥))
+  -- the keys that are the key word of a slot or of a place of the stash, but for blank ones
+  pub keys-in-words : (c : ℕ) → In c (keys-in ws) ↔ (KeyWord ws c × (blank c ≡ false))
   keys-in-words c = (
     λ i. let k = keys-in-key i in (in-key-words ws (k .0), k .1),
     λ k. key-keys-in (key-word-in ws (k .0)) (k .1),
@@ -253,9 +246,8 @@ module _ (P : Params) (L : List Entry) (e : fits P (keys-of L) ≡ true) where
     keys-in-image some =
         let ws = image P L in
         asc-ext (keys-in ws) S (keys-in-asc ws) (valid .asc)
-        (λ c i. let k = keys-in-key ws i in image-key-in (in-key-words ws (k .0)) (k .1))
-        (λ c i. key-keys-in ws (key-word-in ws (looked-key-word (P .tabulation) ws (rw (image-slots P L) some) c (image-in-looked some i)))
-        (λ q. zero-outside valid (rw q at i)))
+        (λ c i. let k = keys-in-key ws i in image-key-in (in-key-words ws (k .0)) (not-blank c (k .1)))
+        (λ c i. key-keys-in ws (key-word-in ws (looked-key-word (P .tabulation) ws (rw (image-slots P L) some) c (image-in-looked some i))) (valid .none-blank c i))
 
     -- the tiers at which they are found,
     pub tier-in-image : 0 < P .slots → {c : ℕ} → In c S → tier-in (P .tabulation) (image P L) c ≡ tier-of L c

@@ -1,5 +1,5 @@
 -- The place of a key in a set of keys: its rank, and the set with it and without it. Assumes nothing.
-use Prim.Native.Nat.{ℕ, zero, suc, _+_, _≤_, _<_, suc-le-suc}
+use Prim.Native.Nat.{ℕ, zero, suc, _+_, _-_, _≤_, _<_, suc-le-suc}
 use mathlib.Core.Path.{_≡_, refl, sym, _∙_, ap}
 use mathlib.Core.Bool.{false}
 use mathlib.Core.Logic.{_⊎_, inl, inr}
@@ -15,6 +15,7 @@ use Rattle.basics.specs.Tests.{eq?, le?}
 use Rattle.basics.specs.Sets.{member, without, Asc, none, some, asc-ext, asc-keep, asc-out, keep-in, keep-test, in-keep, length-keep, below, below-in, below-lt, in-below, out-in, out-ne, in-out, in?, in-member, no-member}
 use Rattle.basics.specs.Lists.{getD-in}
 use Rattle.ordered.specs.Keys.{rank-of, above, with-key}
+use Rattle.ordered.specs.Sorting.{in-at}
 
 -- the larger keys
 above-in : (n : ℕ) (R : List ℕ) {d : ℕ} → In d (above n R) → In d R
@@ -186,6 +187,38 @@ rank-high key none i l k = absurd (not-suc-le-zero l)
 rank-high key (some {c} {R} g r) zero l k =
     omega (arith, rank-none key (c ∷ R) (λ d i. elim i [ here q ↦ omega arith | there j ↦ omega (arith, g d j) ]))
 rank-high key (some {c} {R} g r) (suc i) l k = omega (arith, rank-cons key c R, rank-high key r i (le-of-suc-le-suc l) k)
+
+-- The keys beside a rank: before it stands the largest of the smaller keys, and at it the smallest of the others.
+module _ (key : ℕ) {S : List ℕ} (h : Asc S) where
+  up : (i j : ℕ) → i ≤ j → j < length S → getD S i 0 ≤ getD S j 0
+  up i j l m = elim (le? (getD S i 0) (getD S j 0)) [
+    | inl k ↦ k
+    | inr k ↦ absurd (omega (arith, rank-low (getD S i 0) h j m k, rank-high (getD S i 0) h i (omega arith) (omega arith)))
+  ]
+
+  pub before-rank : 0 < rank-of S key → getD S (rank-of S key - 1) 0 < key
+  before-rank l = elim (le? key (getD S (rank-of S key - 1) 0)) [
+    | inl k ↦ absurd (omega (arith, rank-high key h (rank-of S key - 1) (omega (arith, rank-le key S)) k))
+    | inr k ↦ k
+  ]
+
+  pub smaller-before : {d : ℕ} → In d S → d < key → (0 < rank-of S key) × (d ≤ getD S (rank-of S key - 1) 0)
+  smaller-before {d} i l =
+      let w = in-at i in
+      let m = rank-low key h (w .0) (w .1) (rw (w .2) l) in
+      (omega arith, rw (w .2) at (up (w .0) (rank-of S key - 1) (omega arith) (omega (arith, rank-le key S))))
+
+  pub at-rank : rank-of S key < length S → key ≤ getD S (rank-of S key) 0
+  at-rank l = elim (le? key (getD S (rank-of S key) 0)) [
+    | inl k ↦ k
+    | inr k ↦ absurd (omega (arith, rank-low key h (rank-of S key) l k))
+  ]
+
+  pub larger-at : {d : ℕ} → In d S → key ≤ d → (rank-of S key < length S) × (getD S (rank-of S key) 0 ≤ d)
+  larger-at {d} i l =
+      let w = in-at i in
+      let m = rank-high key h (w .0) (w .1) (rw (w .2) l) in
+      (omega (arith, w .1), rw (w .2) at (up (rank-of S key) (w .0) m (w .1)))
 
 -- a search that ends at the rank says whether the key is there
 module _ (key : ℕ) (S : List ℕ) (h : Asc S) where

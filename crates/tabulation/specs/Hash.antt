@@ -1,13 +1,13 @@
--- The hash of a key in a table, by simple tabulation (document 01, "Where a card may sit"; document 02, "Five"; their 'place' of a card in a rack).
--- What callers use of `hash` are its laws, `hash-lt` and those of Stations; its text may change behind its name. The worked rows K1 to K12 alone compute
--- with it.
+-- The hash of a key in a table, by simple tabulation (document 01, "Where a card may sit"; document 02, "Five" and "Six"; their 'place' of a card in a rack).
+-- What callers use of `hash` are its laws, `hash-lt` and those of Issues and Stations; its text may change behind its name. The worked rows K1 to K12 alone
+-- compute with it.
 use Prim.Native.Nat.{ℕ, zero, suc, _+_, _*_, _/_, _%_, _<_, _≤_}
 use mathlib.Core.Path.{_≡_}
 use mathlib.Core.Bool.{Bool, true, _&&_}
 use mathlib.Core.List.{List}
 use native.Mathlib.Nat.{mod-lt}
 use borrow.Author.Tests.{leb-true, le-leb}
-use lib.Dec.{eqb, leb}
+use lib.Dec.{leb, ltb}
 use lib.ListN.{length, getD}
 use Rattle.basics.specs.Tests.{and-true}
 
@@ -29,9 +29,13 @@ max-station = 255
 unfoldable pub station-in-range : ℕ → Bool
 station-in-range station = leb station max-station
 
--- "Zero means no card": a blank key is the key of no element
+-- "The card makers now use the last decimal digit as issue digit": what stands before it is the key's first part, "the number divided by ten and rounded down"
+abbrev pub first-part : ℕ → ℕ
+first-part key = key / 10
+
+-- "A blank card is any number below 10": a blank key is the key of no element
 unfoldable pub blank : ℕ → Bool
-blank key = eqb key 0
+blank key = ltb key 10
 
 -- what the hash of a key depends on besides the table and the key
 pub record Family : Type 0 where
@@ -43,10 +47,10 @@ pub record Family : Type 0 where
 abbrev pub tables : List ℕ → ℕ → ℕ → Family
 tables tabulation r station = record { tabulation = tabulation; slots = r; station = station }
 
--- byte i of a key, b0 the lowest
+-- byte i of a number, b0 the lowest
 abbrev pub byte : ℕ → ℕ → ℕ
-byte zero key = key % 256
-byte (suc i) key = byte i (key / 256)
+byte zero n = n % 256
+byte (suc i) n = byte i (n / 256)
 
 -- entry b of stretch i of a table's half, and where it stands: each rack has 1,280 numbers "in five stretches of 256"
 abbrev pub entry-at : ℕ → ℕ → ℕ → ℕ
@@ -60,11 +64,12 @@ abbrev pub turned : ℕ → ℕ → ℕ
 turned station b0 = (b0 + station) % 256
 
 -- "Its place in rack k is the sum over i = 0 to 3 of" the entry of byte i in stretch i, "and a place's sum adds the fifth stretch's entry at
--- (b0 + station number) modulo 256"; "taken modulo r".
+-- (b0 + station number) modulo 256"; "taken modulo r". The bytes are those of the first part: "The places come from the number divided by ten".
 unfoldable pub hash : Family → ℕ → ℕ → ℕ
 hash F table key =
     let e = entry (F .tabulation) table in
-    (e 0 (byte 0 key) + e 1 (byte 1 key) + e 2 (byte 2 key) + e 3 (byte 3 key) + e 4 (turned (F .station) (byte 0 key))) % F .slots
+    let b : ℕ → ℕ = λ i. byte i (first-part key) in
+    (e 0 (b 0) + e 1 (b 1) + e 2 (b 2) + e 3 (b 3) + e 4 (turned (F .station) (b 0))) % F .slots
 
 -- The laws that callers use.
 

@@ -1,5 +1,5 @@
--- What a station does to the hash, and what it leaves: where the fifth stretch is read, that two stations read it apart, that keys with one lowest byte stay
--- together, and that with zeros in it the hash is document 01's own, of 2,048 numbers (document 02, "Five"). Assumes nothing.
+-- What a station does to the hash, and what it leaves: where the fifth stretch is read, that two stations read it apart, that first parts with one lowest byte
+-- stay together, and that with zeros in it the hash is document 01's own, of 2,048 numbers (document 02, "Five"). Assumes nothing.
 use Prim.Native.Nat.{ℕ, zero, suc, _+_, _*_, _/_, _%_, _≤_, _<_}
 use mathlib.Core.Path.{_≡_, refl, sym, _∙_, ap}
 use mathlib.Core.List.{List, _++_}
@@ -7,7 +7,7 @@ use native.Mathlib.Nat.{add-zero, zero-add, suc-mul, mod-add-mod, add-mul-mod-se
 use native.Mathlib.Omega.{arith}
 use lib.ListN.{length, getD, take, drop, replicate, length-append, length-take, length-drop, length-replicate, getD-replicate, List·getD-append}
 use lib.Seq.{getD-drop, getD-take, drop-at, length-take-le}
-use Rattle.tabulation.specs.Hash.{max-station, tabulation-length, Family, tables, byte, entry-at, entry, turned, hash}
+use Rattle.tabulation.specs.Hash.{max-station, tabulation-length, first-part, Family, tables, byte, entry-at, entry, turned, hash}
 
 -- "Its place in rack k is the sum over i = 0 to 3 of book entry 1,024k + 256i + bi, taken modulo r": the hash of document 01
 abbrev pub hash-01 : List ℕ → ℕ → ℕ → ℕ → ℕ
@@ -39,36 +39,38 @@ byte-lt : (i key : ℕ) → byte i key < 256
 byte-lt zero key = omega arith
 byte-lt (suc i) key = byte-lt i (key / 256)
 
--- Where the four stretches of the bytes are zeros, the hash is the fifth stretch's entry at (key + station) modulo 256, b0 being the key modulo 256.
+-- Where the four stretches of the bytes are zeros, the hash is the fifth stretch's entry at (part + station) modulo 256, b0 being the first part modulo 256.
 pub hash-fifth : (F : Family) (table key : ℕ) → ((i b : ℕ) → i < 4 → b < 256 → entry (F .tabulation) table i b ≡ 0)
-    → hash F table key ≡ entry (F .tabulation) table 4 ((key + F .station) % 256) % F .slots
+    → hash F table key ≡ entry (F .tabulation) table 4 ((first-part key + F .station) % 256) % F .slots
 unfolding hash
 hash-fifth F table key z =
-    let at : turned (F .station) (byte 0 key) ≡ (key + F .station) % 256 = omega arith in
+    let part = first-part key in
+    let at : turned (F .station) (byte 0 part) ≡ (part + F .station) % 256 = omega arith in
     rw (
-      z 0 (byte 0 key) (omega arith) (byte-lt 0 key),
-      z 1 (byte 1 key) (omega arith) (byte-lt 1 key),
-      z 2 (byte 2 key) (omega arith) (byte-lt 2 key),
-      z 3 (byte 3 key) (omega arith) (byte-lt 3 key),
+      z 0 (byte 0 part) (omega arith) (byte-lt 0 part),
+      z 1 (byte 1 part) (omega arith) (byte-lt 1 part),
+      z 2 (byte 2 part) (omega arith) (byte-lt 2 part),
+      z 3 (byte 3 part) (omega arith) (byte-lt 3 part),
       at,
       zero-add,
     )
 
--- Where the fifth stretches are zeros, it is document 01's, at station 0 and at any other.
+-- Where the fifth stretches are zeros, it is document 01's of the first part, at station 0 and at any other.
 pub moved-hash : {old new : List ℕ} → Moved old new → (r station table key : ℕ) → table < 2
-    → hash (tables new r station) table key ≡ hash-01 old r table key
+    → hash (tables new r station) table key ≡ hash-01 old r table (first-part key)
 unfolding hash
 moved-hash {old} {new} m r station table key t =
+    let part = first-part key in
     rw (
-      m .same table 0 (byte 0 key) t (omega arith) (byte-lt 0 key),
-      m .same table 1 (byte 1 key) t (omega arith) (byte-lt 1 key),
-      m .same table 2 (byte 2 key) t (omega arith) (byte-lt 2 key),
-      m .same table 3 (byte 3 key) t (omega arith) (byte-lt 3 key),
-      m .zeros table (turned station (byte 0 key)) t (turned-lt station (byte 0 key)),
+      m .same table 0 (byte 0 part) t (omega arith) (byte-lt 0 part),
+      m .same table 1 (byte 1 part) t (omega arith) (byte-lt 1 part),
+      m .same table 2 (byte 2 part) t (omega arith) (byte-lt 2 part),
+      m .same table 3 (byte 3 part) t (omega arith) (byte-lt 3 part),
+      m .zeros table (turned station (byte 0 part)) t (turned-lt station (byte 0 part)),
       add-zero,
     )
 
--- What a station does not part: keys with one lowest byte that share a slot at one station share it at every station.
+-- What a station does not part: keys whose first parts have one lowest byte, and that share a slot at one station, share it at every station.
 same-left : (q a b f : ℕ) → (a + f) % suc q ≡ (b + f) % suc q → a % suc q ≡ b % suc q
 same-left q a b f e = sym (cancel a) ∙ ap (λ (n : ℕ). (n + q * f) % suc q) e ∙ cancel b
   where
@@ -82,17 +84,19 @@ same-shifted zero a b f g l e = absurd (omega arith)
 same-shifted (suc q) a b f g l e =
     sym (mod-add-mod a (suc q) g) ∙ ap (λ (n : ℕ). (n + g) % suc q) (same-left q a b f e) ∙ mod-add-mod b (suc q) g
 
-pub low-byte-together : (tabulation : List ℕ) (r station station′ table c d : ℕ) → 0 < r → byte 0 c ≡ byte 0 d
+pub low-byte-together : (tabulation : List ℕ) (r station station′ table c d : ℕ) → 0 < r → byte 0 (first-part c) ≡ byte 0 (first-part d)
     → hash (tables tabulation r station) table c ≡ hash (tables tabulation r station) table d
     → hash (tables tabulation r station′) table c ≡ hash (tables tabulation r station′) table d
 unfolding hash
 low-byte-together tabulation r station station′ table c d some low e =
     let E = entry tabulation table in
-    let four : ℕ → ℕ = λ key. E 0 (byte 0 key) + E 1 (byte 1 key) + E 2 (byte 2 key) + E 3 (byte 3 key) in
-    let fifth : ℕ → ℕ → ℕ = λ at key. E 4 (turned at (byte 0 key)) in
-    let same : (at : ℕ) → fifth at d ≡ fifth at c = λ at. ap (λ (b : ℕ). E 4 (turned at b)) (sym low) in
-    same-shifted r (four c) (four d) (fifth station c) (fifth station′ c) some (e ∙ ap (λ (x : ℕ). (four d + x) % r) (same station))
-    ∙ ap (λ (x : ℕ). (four d + x) % r) (sym (same station′))
+    let p = first-part c in
+    let q = first-part d in
+    let four : ℕ → ℕ = λ part. E 0 (byte 0 part) + E 1 (byte 1 part) + E 2 (byte 2 part) + E 3 (byte 3 part) in
+    let fifth : ℕ → ℕ → ℕ = λ at part. E 4 (turned at (byte 0 part)) in
+    let same : (at : ℕ) → fifth at q ≡ fifth at p = λ at. ap (λ (b : ℕ). E 4 (turned at b)) (sym low) in
+    same-shifted r (four p) (four q) (fifth station p) (fifth station′ p) some (e ∙ ap (λ (x : ℕ). (four q + x) % r) (same station))
+    ∙ ap (λ (x : ℕ). (four q + x) % r) (sym (same station′))
 
 -- Every tabulation of document 01 can be moved.
 abbrev pub moved : List ℕ → List ℕ

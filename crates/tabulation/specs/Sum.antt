@@ -1,11 +1,11 @@
--- The loop of `hash_in` as a function: the entries of a key's bytes summed one after the other. The station's entry is added behind it.
+-- The loop of `hash_in` as a function: the entries of the bytes of a key's first part summed one after the other. The station's entry is added behind it.
 use Prim.Native.Nat.{ℕ, zero, suc, _+_, _-_, _/_, _%_, _<_}
 use mathlib.Core.Path.{_≡_}
 use mathlib.Core.List.{List}
 use native.Mathlib.Nat.{zero-add}
 use native.Mathlib.Numerals.{add-one}
 use native.Mathlib.Omega.{arith}
-use Rattle.tabulation.specs.Hash.{Family, entry, turned, hash}
+use Rattle.tabulation.specs.Hash.{Family, first-part, entry, turned, hash}
 
 -- sum, and the entries of n bytes more, from byte i on, which is the lowest byte of rest
 unfoldable pub total : List ℕ → ℕ → ℕ → ℕ → ℕ → ℕ → ℕ
@@ -23,6 +23,7 @@ module _ (tabulation : List ℕ) (table sum rest : ℕ) where
 
 -- the whole loop and the station's entry give the hash
 pub total-hash : (F : Family) (table key : ℕ)
-    → (total (F .tabulation) table 0 0 4 key + entry (F .tabulation) table 4 (turned (F .station) (key % 256))) % F .slots ≡ hash F table key
+    → (total (F .tabulation) table 0 0 4 (first-part key) + entry (F .tabulation) table 4 (turned (F .station) (first-part key % 256))) % F .slots
+    ≡ hash F table key
 unfolding total hash
 total-hash F table key = simp zero-add

@@ -4,7 +4,7 @@
 ghost use mathlib.Core.Path.{_≡_};
 ghost use Prim.Native.Nat.{_<_};
 ghost use Rattle.tabulation.specs.Slots.{slot-0, slot-1};
-ghost use Rattle.tabulation.specs.Hash.{slots-in-range, station-in-range, tables, Hashing, blank, hash};
+ghost use Rattle.tabulation.specs.Hash.{slots-in-range, station-in-range, tables, Hashing, first-part, blank, hash};
 ghost use Rattle.tabulation.specs.Answer.{number, values, hashes-refusal, hashes-values, written};
 use refusals::BLANK_KEY;
 use refusals::WRONG_SHAPE;
@@ -28,11 +28,21 @@ pub enum Hashed {
     Refused(u32),
 }
 
+// How many issues a first part has: as many as there are decimal digits. Keys below it have no first part.
+const ISSUES: u32 = 10;
+
+// The first part of a key: all but its last decimal digit, which is its issue.
+pub fn first_part(key: u32) -> u32
+    ensures { λ p. ⌜ p ≡ first-part key ⌝ }
+{
+    key / ISSUES
+}
+
 // Whether a key is blank: the key of no element.
 pub fn is_blank(key: u32) -> bool
     ensures { λ b. ⌜ b ≡ blank key ⌝ }
 {
-    key == 0
+    key < ISSUES
 }
 
 // Whether a table may have r slots.
@@ -57,7 +67,7 @@ fn wide(x: u16) -> u32
 }
 
 // The hash of a key in a table of r slots, at a station. The table's half of the tabulation and r are taken before the
-// loop over the key's bytes, and neither anew for a byte. The station's entry comes last.
+// loop over the bytes of the key's first part, and neither anew for a byte. The station's entry comes last.
 fn hash_in(tabulation: &[u16], table: usize, r: u32, station: u32, key: u32) -> u32
     requires { ⌜ Hashing (now tabulation) r station × (table < 2) ⌝ }
     ensures { λ h. ⌜ h ≡ hash (tables (now (tabulation .entry)) r station) table key ⌝ }
@@ -65,15 +75,16 @@ fn hash_in(tabulation: &[u16], table: usize, r: u32, station: u32, key: u32) -> 
     let start = HALF_LENGTH * table;
     let end = start + HALF_LENGTH;
     let half = &tabulation[start..end];
+    let part = first_part(key);
     let mut sum: u32 = 0;
-    let mut rest = key;
+    let mut rest = part;
     let mut i: usize = 0;
     while i < 4 {
         sum = sum + wide(half[256 * i + (rest % 256) as usize]);
         rest = rest / 256;
         i = i + 1;
     }
-    let turned = (key % 256 + station) % 256;
+    let turned = (part % 256 + station) % 256;
     (sum + wide(half[STATION_STRETCH + turned as usize])) % r
 }
 

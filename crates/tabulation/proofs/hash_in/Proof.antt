@@ -8,7 +8,7 @@ use native.Mathlib.Omega.{arith}
 use borrow.Author.Needs.{needs}
 use lib.ListN.{getD, take, drop}
 use lib.Seq.{getD-drop, getD-take}
-use Rattle.tabulation.specs.Hash.{entry, turned}
+use Rattle.tabulation.specs.Hash.{first-part, entry, turned}
 use Rattle.tabulation.specs.Sum.{total, total-step, total-hash}
 use Rattle.tabulation.proofs.hash_in.Statement.{statement}
 use Rattle.tabulation.proofs.hash_in.Tie as tie
@@ -21,11 +21,11 @@ half-entry tabulation table i b low byte =
     rw (getD-take, getD-drop, add-assoc)
 
 abbrev Inv-loop : tie.InvT-loop
-Inv-loop tabulation table r station key start end half sum₀ rest₀ i₀ sum rest i =
-    (i ≤ 4) × (sum ≤ 65535 * i) × (total tabulation table sum i (4 - i) rest ≡ total tabulation table 0 0 4 key)
+Inv-loop tabulation table r station key start end half part sum₀ rest₀ i₀ sum rest i =
+    (i ≤ 4) × (sum ≤ 65535 * i) × (total tabulation table sum i (4 - i) rest ≡ total tabulation table 0 0 4 part)
 
 abbrev μ-loop : tie.MeasureT-loop
-μ-loop tabulation table r station key start end half sum₀ rest₀ i₀ sum rest i = 4 - i
+μ-loop tabulation table r station key start end half part sum₀ rest₀ i₀ sum rest i = 4 - i
 
 mul-start : tie.Need-mul-start Inv-loop μ-loop
 mul-start c = search needs
@@ -44,6 +44,9 @@ part-half-start c = search needs
 
 part-half-end : tie.Need-part-half-end Inv-loop μ-loop
 part-half-end c = search needs
+
+first-part-requires : tie.Need-first-part-requires Inv-loop μ-loop
+first-part-requires c κs = search needs
 
 loop-holds : tie.Need-loop-holds Inv-loop μ-loop
 loop-holds c = search needs
@@ -77,7 +80,7 @@ loop-less c = search needs
 
 loop-again : tie.Need-loop-again Inv-loop μ-loop
 loop-again c =
-    let a = c .before .before .before .before .before .before .args in
+    let a = c .before .before .before .before .before .before .before .args in
     let l = c .before .before .before .loop in
     let low = c .before .before .loop-test .taken in
     let e = c .wide .ensures .0 ∙ half-entry (a .tabulation .now) (a .table) (l .i) (l .rest % 256) (omega arith) (omega arith) in
@@ -111,11 +114,13 @@ returns : tie.Need-returns Inv-loop μ-loop
 unfolding total
 returns c =
     let l = c .before .before .before in
-    let a = l .before .before .before .args in
+    let a = l .before .before .before .before .args in
+    let part = first-part (a .key) in
     let n : 4 - l .loop .i ≡ 0 = omega arith in
-    let b : turned (a .station) (a .key % 256) < 256 = omega arith in
-    let e = c .wide2 .ensures .0 ∙ half-entry (a .tabulation .now) (a .table) 4 (turned (a .station) (a .key % 256)) (omega arith) b in
-    rw (e, rw n at (l .loop .inv .2)) (total-hash _ _ _)
+    let b : turned (a .station) (part % 256) < 256 = omega arith in
+    let p = l .before .first-part .ensures in
+    let e = (rw p at (c .wide2 .ensures .0)) ∙ half-entry (a .tabulation .now) (a .table) 4 (turned (a .station) (part % 256)) (omega arith) b in
+    rw (e, rw (n, p) at (l .loop .inv .2)) (total-hash _ _ _)
 
 pub hash-in-spec : {M : Type 1} → statement M
 hash-in-spec =
@@ -129,6 +134,7 @@ hash-in-spec =
     sub-half
     part-half-start
     part-half-end
+    first-part-requires
     loop-holds
     mul-wide
     cast-wide

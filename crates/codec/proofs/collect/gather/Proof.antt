@@ -7,7 +7,7 @@ use native.Mathlib.Omega.{arith}
 use lib.ListN.{length, take, length-set, length-append}
 use lib.Seq.{length-take-le}
 use Rattle.codec.specs.Columns.{picked, left-next}
-use Rattle.codec.specs.Collect.{nonzero, gathering, gathering-step, gathering-end}
+use Rattle.codec.specs.Collect.{non-blank, gathering, gathering-step, gathering-end}
 use Rattle.codec.proofs.collect.gather.Statement.{statement}
 use Rattle.codec.proofs.collect.gather.Tie as tie
 
@@ -25,7 +25,7 @@ abbrev μ-loop : tie.MeasureT-loop
 abbrev start : tie.At-loop Inv-loop μ-loop → tie.Start Inv-loop μ-loop
 start l = l .before .before .before
 
-abbrev round : tie.After-differs Inv-loop μ-loop → tie.At-loop Inv-loop μ-loop
+abbrev round : tie.After-keeps Inv-loop μ-loop → tie.At-loop Inv-loop μ-loop
 round d = d .before .before .before
 
 loop-holds : tie.Need-loop-holds Inv-loop μ-loop
@@ -46,8 +46,8 @@ mul-scratch c = search needs
 slice-write-scratch : tie.Need-slice-write-scratch Inv-loop μ-loop
 slice-write-scratch c = search needs
 
-differs-requires : tie.Need-differs-requires Inv-loop μ-loop
-differs-requires c κs = search needs
+keeps-requires : tie.Need-keeps-requires Inv-loop μ-loop
+keeps-requires c κs = search needs
 
 add-end : tie.Need-add-end Inv-loop μ-loop
 add-end c = search needs
@@ -72,7 +72,7 @@ loop-again c =
       omega arith,
       omega arith,
       simp length-set (l .inv .2),
-      rw (c .differs .ensures .0) (l .inv .3 ∙ gathering-step (a .words .now) (a .step) (l .at) (l .left) (omega arith) (l .scratch) (l .end) (omega arith)),
+      rw (c .keeps .ensures .0) (l .inv .3 ∙ gathering-step (a .words .now) (a .step) (l .at) (l .left) (omega arith) (l .scratch) (l .end) (omega arith)),
     )
 
 same-length : tie.Need-same-length Inv-loop μ-loop
@@ -84,7 +84,7 @@ returns c =
     let a = start (c .before) .args in
     let l = c .before .loop in
     let e = l .inv .3 ∙ gathering-end (a .words .now) (a .step) (l .scratch) (l .end) (l .at) (l .left) (omega arith) in
-    let xs = nonzero (picked (a .words .now) (a .from) (a .step) (a .count)) in (
+    let xs = non-blank (picked (a .words .now) (a .from) (a .step) (a .count)) in (
       sym e,
       omega (
         arith,
@@ -106,7 +106,7 @@ gather-spec =
     shared-slice-read-word
     mul-scratch
     slice-write-scratch
-    differs-requires
+    keeps-requires
     add-end
     add-at
     sub-left

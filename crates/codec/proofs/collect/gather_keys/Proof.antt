@@ -4,7 +4,7 @@ use Prim.Native.Nat.{_*_}
 use native.Mathlib.Omega.{arith}
 use lib.ListN.{length-set}
 use Rattle.layout.specs.Layout.{header-length, slot-width, stash-at}
-use Rattle.codec.specs.Collect.{nonzero-few, gathered-front}
+use Rattle.codec.specs.Collect.{non-blank-few, gathered-front}
 use borrow.Author.Needs.{needs}
 use Rattle.codec.proofs.collect.gather_keys.Statement.{statement}
 use Rattle.codec.proofs.collect.gather_keys.Tie as tie
@@ -40,7 +40,7 @@ wide-requires-2 c κs = search needs
 gather-requires-2 : tie.Need-gather-requires-2
 gather-requires-2 c κs =
     let g = c .before .before .before .before .before in
-    let l = nonzero-few (start (slots g) .args .words .now) header-length slot-width (2 * slots g .wide .result) in
+    let l = non-blank-few (start (slots g) .args .words .now) header-length slot-width (2 * slots g .wide .result) in
     let e = simp length-set at (g .gather .kept .1 .1 .1 .1 .0) in
     (search needs, omega arith, omega arith)
 
