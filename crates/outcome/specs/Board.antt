@@ -1,7 +1,7 @@
--- Document 01's board as calls: the rows of K1 to K12 that are an add or a withdrawal, with the answer and with every word that is left; and document 02's
--- trails there. They follow from the table of images (layout/specs/Board.antt) and from what a call does to a dictionary that holds a set. Assumes nothing.
+-- Document 01's board as calls, every card multiplied by ten: the rows of K1 to K12 that are an add or a withdrawal, with the answer and with every word that is
+-- left; an add of another issue; and document 02's trails there. They follow from the table of images (layout/specs/Board.antt) and from what a call does to a dictionary that holds a set. Assumes nothing.
 use Prim.Native.Nat.{ℕ, zero, suc, _-_, _≤_, _<_}
-use mathlib.Core.Path.{_≡_, refl, sym, _∙_}
+use mathlib.Core.Path.{_≡_, refl, sym, _∙_, ap}
 use mathlib.Core.Bool.{true, false, cond}
 use mathlib.Core.List.{List, [], _∷_, _++_, List·Memᴰ as In, List·Memᴰ·head as here, List·Memᴰ·tail as there}
 use native.Mathlib.Omega.{arith}
@@ -14,16 +14,16 @@ use Rattle.cuckoo.specs.Trail.{other, trail-from, trail}
 use Rattle.cuckoo.specs.Agree.{trail-agree}
 use Rattle.ordered.specs.Keys.{with-key, above}
 use Rattle.refusals.specs.Refusal.{done, stash-full, short-trail}
-use Rattle.tabulation.specs.Hash.{tabulation-length, max-station, slots-in-range, station-in-range, blank}
+use Rattle.tabulation.specs.Hash.{tabulation-length, max-station, slots-in-range, station-in-range, first-part, blank}
 use Rattle.layout.specs.Entries.{Entry, max-tier, keys-of}
-use Rattle.layout.specs.Layout.{ValidKeys, ValidSet, scratch-length, sizes-in-range, params-in-range}
+use Rattle.layout.specs.Layout.{ValidKeys, another-issue, ValidSet, scratch-length, sizes-in-range, params-in-range}
 use Rattle.layout.specs.Shape.{ranged-true}
 use Rattle.layout.specs.Board.{plain-0, plain-1, Row, rows, plain, Shown, Full, board, board-tabulation, board-length, board-rows}
 use Rattle.layout.specs.Board as Board
 use Rattle.layout.specs.Smallest.{smallest, two, two-image, two-fit}
 use Rattle.outcome.specs.declared.Change.the-variants.{Insert, Remove}
 use Rattle.outcome.specs.Outcome.{changed, change-outcome}
-use Rattle.outcome.specs.Held.{Holds, one-too-many, held-new, held-remove, held-changed}
+use Rattle.outcome.specs.Held.{Holds, one-too-many, held-issue, held-new, held-absent, held-remove, held-changed}
 use Rattle.outcome.specs.Trail.{trail-of, trail-in, trail-refusal, trail-outcome}
 use Rattle.outcome.specs.TrailLaws.{held-asked, held-trail}
 
@@ -34,9 +34,9 @@ shown-holds range h = record { range = range; is = record { valid = h .valid; fi
 module _ {r s : ℕ} {L : List Entry} {ws : List ℕ} (range : params-in-range r s 0 ≡ true) (h : Shown r s L ws) (scratch : List ℕ)
     (room : scratch-length r s ≤ length scratch) (key : ℕ) (b : blank key ≡ false) where
   -- an insert that leads to a set which does not fit
-  insert-full : (tier : ℕ) → tier ≤ max-tier → {R : List Entry} → member key (keys-of L) ≡ false → with-key key (keys-of L) ≡ keys-of R → Full r s R
+  insert-full : (tier : ℕ) → tier ≤ max-tier → {R : List Entry} → another-issue key (keys-of L) ≡ false → member key (keys-of L) ≡ false → with-key key (keys-of L) ≡ keys-of R → Full r s R
       → change-outcome (Insert tier) board-tabulation ws scratch key .answer ≡ stash-full
-  insert-full tier small m e f = held-new (shown-holds range h) board-length scratch room key b tier small m ∙ (rw (e, f .unfit))
+  insert-full tier small new m e f = held-new (shown-holds range h) board-length scratch room key b tier small new m ∙ (rw (e, f .unfit))
 
   -- a removal that leads to the set of another row
   remove-shown : {R : List Entry} {us : List ℕ} → member key (keys-of L) ≡ true → changed Remove key L ≡ R → Shown r s R us
@@ -65,60 +65,82 @@ range = refl
 
 -- r = 4, s = 1, and scratch that is long enough
 module _ (scratch : List ℕ) (room : scratch-length 4 1 ≤ length scratch) where
-  k5 : Shown 4 1 (plain (1 ∷ 65 ∷ 129 ∷ [])) (4 ∷ 1 ∷ 3 ∷ 1 ∷ 0 ∷ 0 ∷ 0 ∷ 0 ∷ 1 ∷ 65 ∷ 0 ∷ 0 ∷ 0 ∷ 0 ∷ 0 ∷ 0 ∷ 0 ∷ 65 ∷ 1 ∷ 0 ∷ 0 ∷ 0 ∷ 0 ∷ 0 ∷ 0 ∷ 0 ∷ 0 ∷ 0 ∷ 0 ∷ 129 ∷ 0 ∷ [])
+  k5 : Shown 4 1 (plain (10 ∷ 650 ∷ 1290 ∷ [])) (4 ∷ 1 ∷ 3 ∷ 1 ∷ 0 ∷ 0 ∷ 0 ∷ 0 ∷ 10 ∷ 650 ∷ 0 ∷ 0 ∷ 0 ∷ 0 ∷ 0 ∷ 0 ∷ 0 ∷ 650 ∷ 10 ∷ 0 ∷ 0 ∷ 0 ∷ 0 ∷ 0 ∷ 0 ∷ 0 ∷ 0 ∷ 0 ∷ 0 ∷ 1290 ∷ 0 ∷ [])
   k5 = row-holds 4 (omega arith)
 
-  k9 : Shown 4 1 (plain (1 ∷ 33 ∷ 34 ∷ 65 ∷ 98 ∷ [])) (4 ∷ 1 ∷ 5 ∷ 1 ∷ 0 ∷ 0 ∷ 0 ∷ 0 ∷ 1 ∷ 33 ∷ 0 ∷ 34 ∷ 65 ∷ 0 ∷ 0 ∷ 0 ∷ 0 ∷ 65 ∷ 1 ∷ 0 ∷ 0 ∷ 0 ∷ 0 ∷ 33 ∷ 34 ∷ 0 ∷ 0 ∷ 0 ∷ 0 ∷ 98 ∷ 0 ∷ [])
+  k9 : Shown 4 1 (plain (10 ∷ 330 ∷ 340 ∷ 650 ∷ 980 ∷ [])) (4 ∷ 1 ∷ 5 ∷ 1 ∷ 0 ∷ 0 ∷ 0 ∷ 0 ∷ 10 ∷ 330 ∷ 0 ∷ 340 ∷ 650 ∷ 0 ∷ 0 ∷ 0 ∷ 0 ∷ 650 ∷ 10 ∷ 0 ∷ 0 ∷ 0 ∷ 0 ∷ 330 ∷ 340 ∷ 0 ∷ 0 ∷ 0 ∷ 0 ∷ 980 ∷ 0 ∷ [])
   k9 = row-holds 11 (omega arith)
 
-  -- "K6 K5 plus 193: refused 8."
+  -- "K6 K5 plus 193: refused 8.", times ten
   pub k6 : change-outcome (Insert 0) board-tabulation
-      (4 ∷ 1 ∷ 3 ∷ 1 ∷ 0 ∷ 0 ∷ 0 ∷ 0 ∷ 1 ∷ 65 ∷ 0 ∷ 0 ∷ 0 ∷ 0 ∷ 0 ∷ 0 ∷ 0 ∷ 65 ∷ 1 ∷ 0 ∷ 0 ∷ 0 ∷ 0 ∷ 0 ∷ 0 ∷ 0 ∷ 0 ∷ 0 ∷ 0 ∷ 129 ∷ 0 ∷ []) scratch 193 .answer ≡ 8
-  unfolding blank with-key below above
-  k6 = insert-full range k5 scratch room 193 refl 0 (omega arith) {R = plain (1 ∷ 65 ∷ 129 ∷ 193 ∷ [])} refl refl (row-holds 7 (omega arith))
+      (4 ∷ 1 ∷ 3 ∷ 1 ∷ 0 ∷ 0 ∷ 0 ∷ 0 ∷ 10 ∷ 650 ∷ 0 ∷ 0 ∷ 0 ∷ 0 ∷ 0 ∷ 0 ∷ 0 ∷ 650 ∷ 10 ∷ 0 ∷ 0 ∷ 0 ∷ 0 ∷ 0 ∷ 0 ∷ 0 ∷ 0 ∷ 0 ∷ 0 ∷ 1290 ∷ 0 ∷ []) scratch 1930 .answer ≡ 8
+  unfolding blank another-issue with-key below above
+  k6 = insert-full range k5 scratch room 1930 refl 0 (omega arith) {R = plain (10 ∷ 650 ∷ 1290 ∷ 1930 ∷ [])} refl refl refl (row-holds 7 (omega arith))
 
-  -- "K7 K5 less 65: 0.1 holds 1, 1.0 holds 129, drawer empty."
+  -- K5 plus 651, with the tier of 650 or another: another issue is listed, and 13 is given before 8.
+  pub k5-issue : (tier : ℕ) → tier ≤ 7 → change-outcome (Insert tier) board-tabulation
+      (4 ∷ 1 ∷ 3 ∷ 1 ∷ 0 ∷ 0 ∷ 0 ∷ 0 ∷ 10 ∷ 650 ∷ 0 ∷ 0 ∷ 0 ∷ 0 ∷ 0 ∷ 0 ∷ 0 ∷ 650 ∷ 10 ∷ 0 ∷ 0 ∷ 0 ∷ 0 ∷ 0 ∷ 0 ∷ 0 ∷ 0 ∷ 0 ∷ 0 ∷ 1290 ∷ 0 ∷ []) scratch 651 .answer ≡ 13
+  unfolding blank another-issue
+  k5-issue tier small = held-issue (shown-holds range k5) board-length scratch room 651 refl tier small refl
+
+  -- A removal wants the exact issue.
+  pub k5-exact : change-outcome Remove board-tabulation
+      (4 ∷ 1 ∷ 3 ∷ 1 ∷ 0 ∷ 0 ∷ 0 ∷ 0 ∷ 10 ∷ 650 ∷ 0 ∷ 0 ∷ 0 ∷ 0 ∷ 0 ∷ 0 ∷ 0 ∷ 650 ∷ 10 ∷ 0 ∷ 0 ∷ 0 ∷ 0 ∷ 0 ∷ 0 ∷ 0 ∷ 0 ∷ 0 ∷ 0 ∷ 1290 ∷ 0 ∷ []) scratch 651 .answer ≡ 7
+  unfolding blank
+  k5-exact = held-absent (shown-holds range k5) board-length scratch room 651 refl refl
+
+  -- "K7 K5 less 65: 0.1 holds 1, 1.0 holds 129, drawer empty.", times ten
   pub k7 : (change-outcome Remove board-tabulation
-      (4 ∷ 1 ∷ 3 ∷ 1 ∷ 0 ∷ 0 ∷ 0 ∷ 0 ∷ 1 ∷ 65 ∷ 0 ∷ 0 ∷ 0 ∷ 0 ∷ 0 ∷ 0 ∷ 0 ∷ 65 ∷ 1 ∷ 0 ∷ 0 ∷ 0 ∷ 0 ∷ 0 ∷ 0 ∷ 0 ∷ 0 ∷ 0 ∷ 0 ∷ 129 ∷ 0 ∷ []) scratch 65 .answer ≡ 0)
+      (4 ∷ 1 ∷ 3 ∷ 1 ∷ 0 ∷ 0 ∷ 0 ∷ 0 ∷ 10 ∷ 650 ∷ 0 ∷ 0 ∷ 0 ∷ 0 ∷ 0 ∷ 0 ∷ 0 ∷ 650 ∷ 10 ∷ 0 ∷ 0 ∷ 0 ∷ 0 ∷ 0 ∷ 0 ∷ 0 ∷ 0 ∷ 0 ∷ 0 ∷ 1290 ∷ 0 ∷ []) scratch 650 .answer ≡ 0)
       × (change-outcome Remove board-tabulation
-      (4 ∷ 1 ∷ 3 ∷ 1 ∷ 0 ∷ 0 ∷ 0 ∷ 0 ∷ 1 ∷ 65 ∷ 0 ∷ 0 ∷ 0 ∷ 0 ∷ 0 ∷ 0 ∷ 0 ∷ 65 ∷ 1 ∷ 0 ∷ 0 ∷ 0 ∷ 0 ∷ 0 ∷ 0 ∷ 0 ∷ 0 ∷ 0 ∷ 0 ∷ 129 ∷ 0 ∷ []) scratch 65 .words
-      ≡ 4 ∷ 1 ∷ 2 ∷ 0 ∷ 0 ∷ 0 ∷ 0 ∷ 0 ∷ 1 ∷ 129 ∷ 0 ∷ 0 ∷ 0 ∷ 0 ∷ 0 ∷ 0 ∷ 0 ∷ 129 ∷ 1 ∷ 0 ∷ 0 ∷ 0 ∷ 0 ∷ 0 ∷ 0 ∷ 0 ∷ 0 ∷ 0 ∷ 0 ∷ 0 ∷ 0 ∷ [])
+      (4 ∷ 1 ∷ 3 ∷ 1 ∷ 0 ∷ 0 ∷ 0 ∷ 0 ∷ 10 ∷ 650 ∷ 0 ∷ 0 ∷ 0 ∷ 0 ∷ 0 ∷ 0 ∷ 0 ∷ 650 ∷ 10 ∷ 0 ∷ 0 ∷ 0 ∷ 0 ∷ 0 ∷ 0 ∷ 0 ∷ 0 ∷ 0 ∷ 0 ∷ 1290 ∷ 0 ∷ []) scratch 650 .words
+      ≡ 4 ∷ 1 ∷ 2 ∷ 0 ∷ 0 ∷ 0 ∷ 0 ∷ 0 ∷ 10 ∷ 1290 ∷ 0 ∷ 0 ∷ 0 ∷ 0 ∷ 0 ∷ 0 ∷ 0 ∷ 1290 ∷ 10 ∷ 0 ∷ 0 ∷ 0 ∷ 0 ∷ 0 ∷ 0 ∷ 0 ∷ 0 ∷ 0 ∷ 0 ∷ 0 ∷ 0 ∷ [])
   unfolding blank without
-  k7 = remove-shown range k5 scratch room 65 refl refl refl (row-holds 9 (omega arith))
+  k7 = remove-shown range k5 scratch room 650 refl refl refl (row-holds 9 (omega arith))
 
-  -- "K10 K9 less 33: 1.2 holds 98, the drawer is empty."
+  -- "K10 K9 less 33: 1.2 holds 98, the drawer is empty.", times ten
   pub k10 : (change-outcome Remove board-tabulation
-      (4 ∷ 1 ∷ 5 ∷ 1 ∷ 0 ∷ 0 ∷ 0 ∷ 0 ∷ 1 ∷ 33 ∷ 0 ∷ 34 ∷ 65 ∷ 0 ∷ 0 ∷ 0 ∷ 0 ∷ 65 ∷ 1 ∷ 0 ∷ 0 ∷ 0 ∷ 0 ∷ 33 ∷ 34 ∷ 0 ∷ 0 ∷ 0 ∷ 0 ∷ 98 ∷ 0 ∷ []) scratch 33 .answer ≡ 0)
+      (4 ∷ 1 ∷ 5 ∷ 1 ∷ 0 ∷ 0 ∷ 0 ∷ 0 ∷ 10 ∷ 330 ∷ 0 ∷ 340 ∷ 650 ∷ 0 ∷ 0 ∷ 0 ∷ 0 ∷ 650 ∷ 10 ∷ 0 ∷ 0 ∷ 0 ∷ 0 ∷ 330 ∷ 340 ∷ 0 ∷ 0 ∷ 0 ∷ 0 ∷ 980 ∷ 0 ∷ []) scratch 330 .answer ≡ 0)
       × (change-outcome Remove board-tabulation
-      (4 ∷ 1 ∷ 5 ∷ 1 ∷ 0 ∷ 0 ∷ 0 ∷ 0 ∷ 1 ∷ 33 ∷ 0 ∷ 34 ∷ 65 ∷ 0 ∷ 0 ∷ 0 ∷ 0 ∷ 65 ∷ 1 ∷ 0 ∷ 0 ∷ 0 ∷ 0 ∷ 33 ∷ 34 ∷ 0 ∷ 0 ∷ 0 ∷ 0 ∷ 98 ∷ 0 ∷ []) scratch 33 .words
-      ≡ 4 ∷ 1 ∷ 4 ∷ 0 ∷ 0 ∷ 0 ∷ 0 ∷ 0 ∷ 1 ∷ 65 ∷ 0 ∷ 34 ∷ 98 ∷ 0 ∷ 0 ∷ 0 ∷ 0 ∷ 65 ∷ 1 ∷ 0 ∷ 0 ∷ 0 ∷ 0 ∷ 98 ∷ 34 ∷ 0 ∷ 0 ∷ 0 ∷ 0 ∷ 0 ∷ 0 ∷ [])
+      (4 ∷ 1 ∷ 5 ∷ 1 ∷ 0 ∷ 0 ∷ 0 ∷ 0 ∷ 10 ∷ 330 ∷ 0 ∷ 340 ∷ 650 ∷ 0 ∷ 0 ∷ 0 ∷ 0 ∷ 650 ∷ 10 ∷ 0 ∷ 0 ∷ 0 ∷ 0 ∷ 330 ∷ 340 ∷ 0 ∷ 0 ∷ 0 ∷ 0 ∷ 980 ∷ 0 ∷ []) scratch 330 .words
+      ≡ 4 ∷ 1 ∷ 4 ∷ 0 ∷ 0 ∷ 0 ∷ 0 ∷ 0 ∷ 10 ∷ 650 ∷ 0 ∷ 340 ∷ 980 ∷ 0 ∷ 0 ∷ 0 ∷ 0 ∷ 650 ∷ 10 ∷ 0 ∷ 0 ∷ 0 ∷ 0 ∷ 980 ∷ 340 ∷ 0 ∷ 0 ∷ 0 ∷ 0 ∷ 0 ∷ 0 ∷ [])
   unfolding blank without
-  k10 = remove-shown range k9 scratch room 33 refl refl refl (row-holds 12 (omega arith))
+  k10 = remove-shown range k9 scratch room 330 refl refl refl (row-holds 12 (omega arith))
 
--- "K12 r = 1, s = 0: two cards fit, the smaller in rack 0; a third is refused 8": for every tabulation, every station, every two keys in it and every third,
--- whatever their tiers.
+-- "K12 r = 1, s = 0: two cards fit, the smaller in rack 0; a third is refused 8": for every tabulation, every station, every two keys in it of two first parts,
+-- and every third of another, whatever their tiers.
 pub k12 : (tabulation scratch : List ℕ) (station : ℕ) → length tabulation ≡ tabulation-length → station ≤ max-station → scratch-length 1 0 ≤ length scratch
-    → (c x d y tier key : ℕ) → 0 < c → c < d → x ≤ max-tier → y ≤ max-tier → tier ≤ max-tier → (key ≡ 0 → ⊥) → (key ≡ c → ⊥) → (key ≡ d → ⊥)
+    → (c x d y tier key : ℕ) → 9 < c → first-part c < first-part d → x ≤ max-tier → y ≤ max-tier → tier ≤ max-tier → 9 < key
+    → (first-part key ≡ first-part c → ⊥) → (first-part key ≡ first-part d → ⊥)
     → change-outcome (Insert tier) tabulation (1 ∷ 0 ∷ 2 ∷ 0 ∷ station ∷ c ∷ d ∷ x ∷ d ∷ c ∷ y ∷ []) scratch key .answer ≡ 8
-unfolding blank
-k12 tabulation scratch station full-length at room c x d y tier key z l small-x small-y small n nc nd =
+unfolding blank another-issue
+k12 tabulation scratch station full-length at room c x d y tier key z parts small-x small-y small n nc nd =
     let P = smallest tabulation station in
     let S : List ℕ = c ∷ d ∷ [] in
+    let l : c < d = omega arith in
     let keys : ValidKeys S = record {
       asc = some {c = c} {R = d ∷ []} (λ x i. elim i [ here q ↦ omega arith | there j ↦ elim j [ ] ]) (some {c = d} {R = []} (λ x i. elim i [ ]) none);
-      none-blank = λ x i. elim i [ here q ↦ ne-eqb x 0 (omega arith) | there j ↦ elim j [ here q ↦ ne-eqb x 0 (omega arith) | there k ↦ elim k [ ] ] ];
+      none-blank = λ x i. elim i [ here q ↦ le-ltb x 10 (omega arith) | there j ↦ elim j [ here q ↦ le-ltb x 10 (omega arith) | there k ↦ elim k [ ] ] ];
     } in
     let valid : ValidSet (two c x d y) = record {
       keys = keys;
+      issues = λ u v i j q. elim i [
+        | here e ↦ elim j [ here f ↦ e ∙ sym f | there k ↦ elim k [ here f ↦ absurd (omega (arith, ap first-part e, ap first-part f)) | there m ↦ elim m [ ] ] ]
+        | there k ↦ elim k [
+          | here e ↦ elim j [ here f ↦ absurd (omega (arith, ap first-part e, ap first-part f)) | there m ↦ elim m [ here f ↦ e ∙ sym f | there o ↦ elim o [ ] ] ]
+          | there m ↦ elim m [ ]
+        ]
+      ];
       tiers = λ e i. elim i [ here q ↦ rw q small-x | there j ↦ elim j [ here q ↦ rw q small-y | there k ↦ elim k [ ] ] ];
     } in
     let h : Holds P (two c x d y) (1 ∷ 0 ∷ 2 ∷ 0 ∷ station ∷ c ∷ d ∷ x ∷ d ∷ c ∷ y ∷ []) = record {
       range = ranged-true 1 0 station (record { has-slots = omega arith; slots-bound = omega arith; places-bound = omega arith }) at;
-      is = record { valid = valid; fit = two-fit tabulation station c d l; is = sym (two-image tabulation station c x d y z l) };
+      is = record { valid = valid; fit = two-fit tabulation station c d l; is = sym (two-image tabulation station c x d y (omega arith) l) };
     } in
-    let b = ne-eqb key 0 n in
-    let m : member key S ≡ false = rw (ne-eqb key c nc, ne-eqb key d nd) in
-    held-new h full-length scratch room key b tier small m ∙ (rw (one-too-many P key (omega arith) keys b m (omega arith)))
+    let b = le-ltb key 10 n in
+    let new : another-issue key S ≡ false = rw (ne-eqb (first-part c) (first-part key) (λ q. nc (sym q)), ne-eqb (first-part d) (first-part key) (λ q. nd (sym q))) in
+    let m : member key S ≡ false = rw (ne-eqb key c (λ q. nc (ap first-part q)), ne-eqb key d (λ q. nd (ap first-part q))) in
+    held-new h full-length scratch room key b tier small new m ∙ (rw (one-too-many P key (omega arith) keys b m (omega arith)))
 
 -- Document 02's trails on the board. The trail of a key of a row is that over the plain ends.
 module _ {r s : ℕ} {L : List Entry} {ws : List ℕ} (range : params-in-range r s 0 ≡ true) (h : Shown r s L ws) (scratch : List ℕ)
@@ -149,7 +171,7 @@ module _ {r s : ℕ} {L : List Entry} {ws : List ℕ} (range : params-in-range r
 
 -- three words are lent for each
 module _ (scratch : List ℕ) (room : scratch-length 4 1 ≤ length scratch) (x y z : ℕ) where
-  k8 : Shown 4 1 (plain (17 ∷ 65 ∷ 129 ∷ [])) (4 ∷ 1 ∷ 3 ∷ 0 ∷ 0 ∷ 0 ∷ 0 ∷ 0 ∷ 65 ∷ 129 ∷ 0 ∷ 0 ∷ 0 ∷ 0 ∷ 0 ∷ 0 ∷ 0 ∷ 129 ∷ 17 ∷ 0 ∷ 17 ∷ 65 ∷ 0 ∷ 0 ∷ 0 ∷ 0 ∷ 0 ∷ 0 ∷ 0 ∷ 0 ∷ 0 ∷ [])
+  k8 : Shown 4 1 (plain (170 ∷ 650 ∷ 1290 ∷ [])) (4 ∷ 1 ∷ 3 ∷ 0 ∷ 0 ∷ 0 ∷ 0 ∷ 0 ∷ 650 ∷ 1290 ∷ 0 ∷ 0 ∷ 0 ∷ 0 ∷ 0 ∷ 0 ∷ 0 ∷ 1290 ∷ 170 ∷ 0 ∷ 170 ∷ 650 ∷ 0 ∷ 0 ∷ 0 ∷ 0 ∷ 0 ∷ 0 ∷ 0 ∷ 0 ∷ 0 ∷ [])
   k8 = row-holds 10 (omega arith)
 
   abbrev shown : ℕ → List ℕ → List ℕ → Type 0
@@ -157,21 +179,21 @@ module _ (scratch : List ℕ) (room : scratch-length 4 1 ≤ length scratch) (x 
       let o = trail-outcome board-tabulation ws scratch key (x ∷ y ∷ z ∷ []) in
       (o .number ≡ done) × ((o .values ≡ length K ∷ []) × (o .trail ≡ K ++ replicate (3 - length K) 0))
 
-  -- 129 sits in 1.0 because 65, the smallest on the cycle, sits in 0.1;
-  pub k8-129 : shown 129 (4 ∷ 1 ∷ 3 ∷ 0 ∷ 0 ∷ 0 ∷ 0 ∷ 0 ∷ 65 ∷ 129 ∷ 0 ∷ 0 ∷ 0 ∷ 0 ∷ 0 ∷ 0 ∷ 0 ∷ 129 ∷ 17 ∷ 0 ∷ 17 ∷ 65 ∷ 0 ∷ 0 ∷ 0 ∷ 0 ∷ 0 ∷ 0 ∷ 0 ∷ 0 ∷ 0 ∷ []) (129 ∷ 65 ∷ [])
+  -- 1290 sits in 1.0 because 650, the smallest on the cycle, sits in 0.1;
+  pub k8-1290 : shown 1290 (4 ∷ 1 ∷ 3 ∷ 0 ∷ 0 ∷ 0 ∷ 0 ∷ 0 ∷ 650 ∷ 1290 ∷ 0 ∷ 0 ∷ 0 ∷ 0 ∷ 0 ∷ 0 ∷ 0 ∷ 1290 ∷ 170 ∷ 0 ∷ 170 ∷ 650 ∷ 0 ∷ 0 ∷ 0 ∷ 0 ∷ 0 ∷ 0 ∷ 0 ∷ 0 ∷ 0 ∷ []) (1290 ∷ 650 ∷ [])
   unfolding blank without label joined component onCycle cyclic spare settle seated root sits occupant other trail-from trail
-  k8-129 = trail-on-board range k8 scratch room 129 refl refl refl (x ∷ y ∷ z ∷ []) (omega arith)
+  k8-1290 = trail-on-board range k8 scratch room 1290 refl refl refl (x ∷ y ∷ z ∷ []) (omega arith)
 
-  -- and so does 17, smaller than both, in 1.1.
-  pub k8-17 : shown 17 (4 ∷ 1 ∷ 3 ∷ 0 ∷ 0 ∷ 0 ∷ 0 ∷ 0 ∷ 65 ∷ 129 ∷ 0 ∷ 0 ∷ 0 ∷ 0 ∷ 0 ∷ 0 ∷ 0 ∷ 129 ∷ 17 ∷ 0 ∷ 17 ∷ 65 ∷ 0 ∷ 0 ∷ 0 ∷ 0 ∷ 0 ∷ 0 ∷ 0 ∷ 0 ∷ 0 ∷ []) (17 ∷ 65 ∷ [])
+  -- and so does 170, smaller than both, in 1.1.
+  pub k8-170 : shown 170 (4 ∷ 1 ∷ 3 ∷ 0 ∷ 0 ∷ 0 ∷ 0 ∷ 0 ∷ 650 ∷ 1290 ∷ 0 ∷ 0 ∷ 0 ∷ 0 ∷ 0 ∷ 0 ∷ 0 ∷ 1290 ∷ 170 ∷ 0 ∷ 170 ∷ 650 ∷ 0 ∷ 0 ∷ 0 ∷ 0 ∷ 0 ∷ 0 ∷ 0 ∷ 0 ∷ 0 ∷ []) (170 ∷ 650 ∷ [])
   unfolding blank without label joined component onCycle cyclic spare settle seated root sits occupant other trail-from trail
-  k8-17 = trail-on-board range k8 scratch room 17 refl refl refl (x ∷ y ∷ z ∷ []) (omega arith)
+  k8-170 = trail-on-board range k8 scratch room 170 refl refl refl (x ∷ y ∷ z ∷ []) (omega arith)
 
-  -- In K9 the trail of 34 goes over 33 to 1, the smallest on the cycle; 98 is stashed, and its trail is empty.
-  pub k9-34 : shown 34 (4 ∷ 1 ∷ 5 ∷ 1 ∷ 0 ∷ 0 ∷ 0 ∷ 0 ∷ 1 ∷ 33 ∷ 0 ∷ 34 ∷ 65 ∷ 0 ∷ 0 ∷ 0 ∷ 0 ∷ 65 ∷ 1 ∷ 0 ∷ 0 ∷ 0 ∷ 0 ∷ 33 ∷ 34 ∷ 0 ∷ 0 ∷ 0 ∷ 0 ∷ 98 ∷ 0 ∷ []) (34 ∷ 33 ∷ 1 ∷ [])
+  -- In K9 the trail of 340 goes over 330 to 10, the smallest on the cycle; 980 is stashed, and its trail is empty.
+  pub k9-340 : shown 340 (4 ∷ 1 ∷ 5 ∷ 1 ∷ 0 ∷ 0 ∷ 0 ∷ 0 ∷ 10 ∷ 330 ∷ 0 ∷ 340 ∷ 650 ∷ 0 ∷ 0 ∷ 0 ∷ 0 ∷ 650 ∷ 10 ∷ 0 ∷ 0 ∷ 0 ∷ 0 ∷ 330 ∷ 340 ∷ 0 ∷ 0 ∷ 0 ∷ 0 ∷ 980 ∷ 0 ∷ []) (340 ∷ 330 ∷ 10 ∷ [])
   unfolding blank without label joined component onCycle cyclic spare settle seated root sits occupant other trail-from trail
-  k9-34 = trail-on-board range (k9 scratch room) scratch room 34 refl refl refl (x ∷ y ∷ z ∷ []) (omega arith)
+  k9-340 = trail-on-board range (k9 scratch room) scratch room 340 refl refl refl (x ∷ y ∷ z ∷ []) (omega arith)
 
-  pub k9-98 : shown 98 (4 ∷ 1 ∷ 5 ∷ 1 ∷ 0 ∷ 0 ∷ 0 ∷ 0 ∷ 1 ∷ 33 ∷ 0 ∷ 34 ∷ 65 ∷ 0 ∷ 0 ∷ 0 ∷ 0 ∷ 65 ∷ 1 ∷ 0 ∷ 0 ∷ 0 ∷ 0 ∷ 33 ∷ 34 ∷ 0 ∷ 0 ∷ 0 ∷ 0 ∷ 98 ∷ 0 ∷ []) []
+  pub k9-980 : shown 980 (4 ∷ 1 ∷ 5 ∷ 1 ∷ 0 ∷ 0 ∷ 0 ∷ 0 ∷ 10 ∷ 330 ∷ 0 ∷ 340 ∷ 650 ∷ 0 ∷ 0 ∷ 0 ∷ 0 ∷ 650 ∷ 10 ∷ 0 ∷ 0 ∷ 0 ∷ 0 ∷ 330 ∷ 340 ∷ 0 ∷ 0 ∷ 0 ∷ 0 ∷ 980 ∷ 0 ∷ []) []
   unfolding blank without label joined component onCycle cyclic spare settle seated root sits occupant other trail-from trail
-  k9-98 = trail-on-board range (k9 scratch room) scratch room 98 refl refl refl (x ∷ y ∷ z ∷ []) (omega arith)
+  k9-980 = trail-on-board range (k9 scratch room) scratch room 980 refl refl refl (x ∷ y ∷ z ∷ []) (omega arith)

@@ -15,13 +15,14 @@ use Rattle.basics.specs.Sets.{Asc, without, member, member-in, in-member, out-i
 use Rattle.cuckoo.specs.Placement.{Placement}
 use Rattle.ordered.specs.Keys.{with-key}
 use Rattle.ordered.specs.Place.{with-cases, with-here, with-there, asc-with, with-same, without-with, length-with}
-use Rattle.refusals.specs.Refusal.{done, short-scratch, blank-key, key-present, key-absent, stash-full, wrong-tier, other-tier, first-refusal, none, and, front-none}
+use Rattle.refusals.specs.Refusal.{done, short-scratch, blank-key, key-present, key-absent, stash-full, wrong-tier, other-tier, other-issue, first-refusal, none, and, front-none}
 use Rattle.tabulation.specs.Hash.{tabulation-length, blank}
 use Rattle.tabulation.specs.Slots.{slot-0, slot-1}
 use Rattle.layout.specs.Entries.{Entry, max-tier, keys-of, tier-of, key-in, tiered, keys-tiered, tiered-agree, tier-tiered, tiered-self, tiered-in}
-use Rattle.layout.specs.Layout.{Params, ValidKeys, ValidSet, family, params-of, slots-of, places-of, scratch-length, params-in-range, station-of, shaped, fits, image, keys-in, tier-in, set-in}
+use Rattle.layout.specs.Layout.{Params, ValidKeys, another-issue, OneIssue, ValidSet, family, params-of, slots-of, places-of, scratch-length, params-in-range, station-of, shaped, fits, image, keys-in, tier-in, set-in}
 use Rattle.layout.specs.Shape.{ranged, ranged-true, shape}
 use Rattle.layout.specs.Image.{image-shaped}
+use Rattle.layout.specs.Issues.{listed-alone, one-issue-part, one-issue-with}
 use Rattle.layout.specs.Canonical.{canonical, ImageOf, canonical-true, image-canonical, image-of-params, image-of-set}
 use Rattle.layout.specs.Answers.{lookup-values, looked-up}
 use Rattle.layout.specs.Look.{looked-entry, image-lookup-values}
@@ -55,6 +56,13 @@ module _ {P : Params} {L : List Entry} {ws : List ℕ} (h : Holds P L ws) where
 
   held-scratch : scratch-length (slots-of ws) (places-of ws) ≡ scratch-length (P .slots) (P .places)
   held-scratch = ap (λ (Q : Params). scratch-length (Q .slots) (Q .places)) held-params
+
+  -- "13 .. never together with 10 or 6": a set that has the exact issue has no other, and one that has another does not have it
+  listed-only : (key : ℕ) → member key (keys-of L) ≡ true → another-issue key (keys-of L) ≡ false
+  listed-only key m = listed-alone (h .is .valid .issues) key (member-in key (keys-of L) m)
+
+  pub issue-absent : (key : ℕ) → another-issue key (keys-of L) ≡ true → member key (keys-of L) ≡ false
+  issue-absent key a = elim (test (member key (keys-of L))) [ inl m ↦ absurd (true≢false (sym a ∙ listed-only key m)) | inr m ↦ m ]
 
 -- Words that pass hold the set of the keys that stand in them.
 passed-holds : (tabulation ws : List ℕ) → shaped ws ≡ true → canonical tabulation ws ≡ true → Holds (params-of tabulation ws) (set-in tabulation ws) ws
@@ -109,9 +117,20 @@ tier-of-bound (e ∷ L) h c = elim (eq? c (e .key)) [
   | inr n ↦ rw (ne-eqb c (e .key) n) (tier-of-bound L (λ f i. h f (there i)) c)
 ]
 
-pub changed-valid : (kind : Change) (key : ℕ) {L : List Entry} → blank key ≡ false → SmallTier kind → ValidSet L → ValidSet (changed kind key L)
-changed-valid kind key {L} b small valid = record {
+-- of a key that comes in, no other issue is there
+abbrev pub NewIssue : Change → ℕ → List ℕ → Type 0
+NewIssue (Insert tier) key S = another-issue key S ≡ false
+NewIssue Remove key S = Unit {0}
+
+issues-changed : (kind : Change) (key : ℕ) {S : List ℕ} → NewIssue kind key S → OneIssue S → OneIssue (keys-changed kind key S)
+issues-changed (Insert tier) key new one = one-issue-with key new one
+issues-changed Remove key {S} new one = one-issue-part (λ d i. out-in key S i) one
+
+pub changed-valid : (kind : Change) (key : ℕ) {L : List Entry} → blank key ≡ false → SmallTier kind → NewIssue kind key (keys-of L) → ValidSet L
+    → ValidSet (changed kind key L)
+changed-valid kind key {L} b small new valid = record {
   keys = rw (changed-keys kind key L) (keys-changed-valid kind key b (valid .keys));
+  issues = rw (changed-keys kind key L) (issues-changed kind key new (valid .issues));
   tiers = λ e i.
       rw (tiered-in (tier-changed kind key (tier-of L)) (keys-changed kind key (keys-of L)) i) (tier-bound kind key L small (tier-of-bound L (valid .tiers)) (e .key));
 }
@@ -144,19 +163,19 @@ one-too-many P key {S} some valid b m l = elim (test (fits P (with-key key S))) 
 -- what is known where no refusal of the set is given, or 8
 module _ (P : Params) (key : ℕ) (L : List Entry) where
   insert-tried : (tier : ℕ) {n : ℕ} → first-refusal ((blank-key, blank key) ∷ set-refusals (Insert tier) P key L) ≡ n → (n ≡ done) ⊎ (n ≡ stash-full)
-      → (blank key ≡ false) × (tier ≤ max-tier) × (member key (keys-of L) ≡ false)
+      → (blank key ≡ false) × (tier ≤ max-tier) × (another-issue key (keys-of L) ≡ false) × (member key (keys-of L) ≡ false)
   insert-tried tier e d =
       elim (front-none
-      ((blank-key, blank key) ∷ (wrong-tier, ltb max-tier tier) ∷ (other-tier, member key (keys-of L) && not (eqb (tier-of L key) tier))
-      ∷ (key-present, member key (keys-of L)) ∷ [])
+      ((blank-key, blank key) ∷ (wrong-tier, ltb max-tier tier) ∷ (other-issue, another-issue key (keys-of L))
+      ∷ (other-tier, member key (keys-of L) && not (eqb (tier-of L key) tier)) ∷ (key-present, member key (keys-of L)) ∷ [])
       ((stash-full, not (fits P (with-key key (keys-of L)))) ∷ []) e
-      (elim d [ inl z ↦ rw z | inr z ↦ rw z ])) [ and b (and t (and o (and m none))) ↦ (b, ltb-false max-tier tier t, m) ]
+      (elim d [ inl z ↦ rw z | inr z ↦ rw z ])) [ and b (and t (and i (and o (and m none)))) ↦ (b, ltb-false max-tier tier t, i, m) ]
 
   insert-accepts : (tier : ℕ) → first-refusal ((blank-key, blank key) ∷ set-refusals (Insert tier) P key L) ≡ done
-      → (blank key ≡ false) × (tier ≤ max-tier) × (fits P (with-key key (keys-of L)) ≡ true)
+      → (blank key ≡ false) × (tier ≤ max-tier) × (another-issue key (keys-of L) ≡ false) × (fits P (with-key key (keys-of L)) ≡ true)
   insert-accepts tier e =
       elim (front-none ((blank-key, blank key) ∷ set-refusals (Insert tier) P key L) [] e refl) [
-        | and b (and t (and o (and m (and f none)))) ↦ (b, ltb-false max-tier tier t, not-false _ f)
+        | and b (and t (and i (and o (and m (and f none))))) ↦ (b, ltb-false max-tier tier t, i, not-false _ f)
       ]
 
   remove-accepts : first-refusal ((blank-key, blank key) ∷ set-refusals Remove P key L) ≡ done
@@ -166,9 +185,9 @@ module _ (P : Params) (key : ℕ) (L : List Entry) where
 -- A change that is not refused leads to a set that fits: an insert since 8 was tried, a removal in any case.
 accepts-fits : (kind : Change) (P : Params) (key : ℕ) (L : List Entry) → ValidKeys (keys-of L) → fits P (keys-of L) ≡ true
     → first-refusal ((blank-key, blank key) ∷ set-refusals kind P key L) ≡ done
-    → (blank key ≡ false) × SmallTier kind × (fits P (keys-changed kind key (keys-of L)) ≡ true)
+    → (blank key ≡ false) × SmallTier kind × NewIssue kind key (keys-of L) × (fits P (keys-changed kind key (keys-of L)) ≡ true)
 accepts-fits (Insert tier) P key L valid e a = insert-accepts P key L tier a
-accepts-fits Remove P key L valid e a = let p = remove-accepts P key L a in (p .0, tt, without-fits P valid key e)
+accepts-fits Remove P key L valid e a = let p = remove-accepts P key L a in (p .0, tt, tt, without-fits P valid key e)
 
 module _ {P : Params} {L : List Entry} {ws : List ℕ} (h : Holds P L ws) (full-length : length (P .tabulation) ≡ tabulation-length) where
   -- what a call on a dictionary that holds L answers: 1, 2 and 4 never, and the rest comes after 3
@@ -211,47 +230,50 @@ module _ {P : Params} {L : List Entry} {ws : List ℕ} (h : Holds P L ws) (full-
 
     module _ (b : blank key ≡ false) where
       module _ (tier : ℕ) (small : tier ≤ 7) where
+        -- row 13, whatever the tiers, and whether the new set would fit or not
+        pub held-issue : another-issue key (keys-of L) ≡ true → change-outcome (Insert tier) (P .tabulation) ws scratch key .answer ≡ other-issue
+        unfolding change-outcome
+        held-issue a = held-set (Insert tier) ∙ (rw (b, le-ltb max-tier tier small, a))
+
         -- rows 10 and 6: an insert of a key of the set is refused, and so never changes its tier
         pub held-other : member key (keys-of L) ≡ true → (tier-of L key ≡ tier → ⊥)
             → change-outcome (Insert tier) (P .tabulation) ws scratch key .answer ≡ other-tier
         unfolding change-outcome
-        held-other m n = held-set (Insert tier) ∙ (rw (b, le-ltb max-tier tier small, m, ne-eqb (tier-of L key) tier n))
+        held-other m n = held-set (Insert tier) ∙ (rw (b, le-ltb max-tier tier small, listed-only h key m, m, ne-eqb (tier-of L key) tier n))
 
         pub held-present : member key (keys-of L) ≡ true → tier-of L key ≡ tier
             → change-outcome (Insert tier) (P .tabulation) ws scratch key .answer ≡ key-present
         unfolding change-outcome
-        held-present m e = held-set (Insert tier) ∙ (rw (b, le-ltb max-tier tier small, m, eq-eqb (tier-of L key) tier e))
+        held-present m e = held-set (Insert tier) ∙ (rw (b, le-ltb max-tier tier small, listed-only h key m, m, eq-eqb (tier-of L key) tier e))
 
-        -- row 8: an insert of a new key is refused exactly when no placement of the new set exists,
-        pub held-new : member key (keys-of L) ≡ false
-            → change-outcome (Insert tier) (P .tabulation) ws scratch key .answer ≡ cond (not (fits P (with-key key (keys-of L)))) stash-full done
-        unfolding change-outcome
-        held-new m = held-set (Insert tier) ∙ (rw (b, le-ltb max-tier tier small, m))
+        -- row 8: an insert of a new key, of which there is no other issue, is refused exactly when no placement of the new set exists,
+        module _ (new : another-issue key (keys-of L) ≡ false) (m : member key (keys-of L) ≡ false) where
+          pub held-new : change-outcome (Insert tier) (P .tabulation) ws scratch key .answer ≡ cond (not (fits P (with-key key (keys-of L)))) stash-full done
+          unfolding change-outcome
+          held-new = held-set (Insert tier) ∙ (rw (b, le-ltb max-tier tier small, new, m))
 
-        pub held-full : member key (keys-of L) ≡ false
-            → (change-outcome (Insert tier) (P .tabulation) ws scratch key .answer ≡ stash-full)
-            ↔ (Placement (slot-0 (family P)) (slot-1 (family P)) (P .places) (with-key key (keys-of L)) → ⊥)
-        held-full m =
-            let F = full-placement P (with-valid key b (h .is .valid .keys)) in (
-              λ e. F .0 (elim (test (fits P (with-key key (keys-of L)))) [
-                | inl f ↦ absurd (let z = rw f at (sym (held-new m) ∙ e) in omega arith)
-                | inr f ↦ f
-              ]),
-              λ n. let f = F .1 n in held-new m ∙ (rw f),
-            )
+          pub held-full : (change-outcome (Insert tier) (P .tabulation) ws scratch key .answer ≡ stash-full)
+              ↔ (Placement (slot-0 (family P)) (slot-1 (family P)) (P .places) (with-key key (keys-of L)) → ⊥)
+          held-full =
+              let F = full-placement P (with-valid key b (h .is .valid .keys)) in (
+                λ e. F .0 (elim (test (fits P (with-key key (keys-of L)))) [
+                  | inl f ↦ absurd (let z = rw f at (sym held-new ∙ e) in omega arith)
+                  | inr f ↦ f
+                ]),
+                λ n. let f = F .1 n in held-new ∙ (rw f),
+              )
 
-        -- and accepted exactly when there is one.
-        pub held-insert : member key (keys-of L) ≡ false
-            → (change-outcome (Insert tier) (P .tabulation) ws scratch key .answer ≡ done)
-            ↔ Placement (slot-0 (family P)) (slot-1 (family P)) (P .places) (with-key key (keys-of L))
-        held-insert m =
-            let F = fits-placement P (with-valid key b (h .is .valid .keys)) in (
-              λ e. F .0 (elim (test (fits P (with-key key (keys-of L)))) [
-                | inl f ↦ f
-                | inr f ↦ absurd (let z = rw f at (sym (held-new m) ∙ e) in omega arith)
-              ]),
-              λ p. let f = F .1 p in held-new m ∙ (rw f),
-            )
+          -- and accepted exactly when there is one.
+          pub held-insert : (change-outcome (Insert tier) (P .tabulation) ws scratch key .answer ≡ done)
+              ↔ Placement (slot-0 (family P)) (slot-1 (family P)) (P .places) (with-key key (keys-of L))
+          held-insert =
+              let F = fits-placement P (with-valid key b (h .is .valid .keys)) in (
+                λ e. F .0 (elim (test (fits P (with-key key (keys-of L)))) [
+                  | inl f ↦ f
+                  | inr f ↦ absurd (let z = rw f at (sym held-new ∙ e) in omega arith)
+                ]),
+                λ p. let f = F .1 p in held-new ∙ (rw f),
+              )
 
       -- row 7
       pub held-absent : member key (keys-of L) ≡ false → change-outcome Remove (P .tabulation) ws scratch key .answer ≡ key-absent
@@ -278,8 +300,8 @@ change-accepted kind tabulation ws scratch key e =
     record {
       range = held .range;
       is = record {
-        valid = changed-valid kind key (a .0) (a .1) (held .is .valid);
-        fit = rw (changed-keys kind key L) (a .2);
+        valid = changed-valid kind key (a .0) (a .1) (a .2) (held .is .valid);
+        fit = rw (changed-keys kind key L) (a .3);
         is = change-done tabulation ws scratch kind key e;
       };
     }
@@ -320,17 +342,17 @@ change-lookup kind tabulation ws scratch key e c t =
 
 -- placement
 
--- An insert that comes to the test of 8 is one of a new key,
+-- An insert that comes to the test of 8 is one of a new key, of which there is no other issue,
 held-tried : {P : Params} {L : List Entry} {ws : List ℕ} → Holds P L ws → (scratch : List ℕ) (tier key : ℕ)
     → (change-outcome (Insert tier) (P .tabulation) ws scratch key .answer ≡ done)
     ⊎ (change-outcome (Insert tier) (P .tabulation) ws scratch key .answer ≡ stash-full)
-    → Ready (P .tabulation) ws scratch × (blank key ≡ false) × (tier ≤ max-tier) × (member key (keys-of L) ≡ false)
+    → Ready (P .tabulation) ws scratch × (blank key ≡ false) × (tier ≤ max-tier) × (another-issue key (keys-of L) ≡ false) × (member key (keys-of L) ≡ false)
 held-tried {P} {L} {ws} h scratch tier key d =
     let t = P .tabulation in
     let p = change-passed t ws scratch (Insert tier) key (elim d [ inl e ↦ inl e | inr e ↦ inr (omega arith) ]) in
     let e = sym (change-set t ws scratch (Insert tier) key (p .0) (p .1)) in
     let q = insert-tried (params-of t ws) key (set-in t ws) tier e d in
-    (p .0, q .0, q .1, rw (held-set-in h) at (q .2))
+    (p .0, q .0, q .1, rw (held-set-in h) at (q .2), rw (held-set-in h) at (q .3))
 
 -- and is refused by it exactly when no placement of the new set exists;
 pub held-eight : {P : Params} {L : List Entry} {ws : List ℕ} → Holds P L ws → (scratch : List ℕ) (tier key : ℕ)
@@ -340,7 +362,7 @@ pub held-eight : {P : Params} {L : List Entry} {ws : List ℕ} → Holds P L ws 
     ↔ (Placement (slot-0 (family P)) (slot-1 (family P)) (P .places) (with-key key (keys-of L)) → ⊥)
 held-eight h scratch tier key d =
     let p = held-tried h scratch tier key d in
-    held-full h (p .0 .full-length) scratch (rw (held-scratch h) at (p .0 .room)) key (p .1) tier (p .2) (p .3)
+    held-full h (p .0 .full-length) scratch (rw (held-scratch h) at (p .0 .room)) key (p .1) tier (p .2) (p .3) (p .4)
 
 -- on whatever words.
 pub insert-eight : (tabulation ws scratch : List ℕ) (tier key : ℕ)
@@ -358,7 +380,7 @@ insert-kept tabulation ws scratch tier key i =
     change-refused tabulation ws scratch (Insert tier) key (λ e.
     let p = change-passed tabulation ws scratch (Insert tier) key (inl e) in
     let f = sym (change-set tabulation ws scratch (Insert tier) key (p .0) (p .1)) in
-    let m = insert-tried (params-of tabulation ws) key (set-in tabulation ws) tier f (inl e) .2 in
+    let m = insert-tried (params-of tabulation ws) key (set-in tabulation ws) tier f (inl e) .3 in
     true≢false (sym (in-member i) ∙ (rw (keys-tiered (tier-in tabulation ws) (keys-in ws)) at m)))
 
 -- A removal straight after the accepted insert of the same key is accepted, and brings back every word.
@@ -372,4 +394,4 @@ held-undone {P} {L} {ws} h full-length scratch scratch′ tier key e room =
     let g = held-changed h (Insert tier) scratch key e in
     let m : member key (keys-of (changed (Insert tier) key L)) ≡ true = rw (changed-keys (Insert tier) key L) (in-member (with-here key (keys-of L))) in
     let d = held-remove g full-length scratch′ room key (n .1) m in
-    (d, held-changed g Remove scratch′ key d .is .is ∙ ap (image P) (changed-back tier key L (h .is .valid .keys .asc) (n .3)) ∙ sym (h .is .is))
+    (d, held-changed g Remove scratch′ key d .is .is ∙ ap (image P) (changed-back tier key L (h .is .valid .keys .asc) (n .4)) ∙ sym (h .is .is))

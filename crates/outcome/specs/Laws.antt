@@ -21,9 +21,9 @@ use Rattle.outcome.specs.Outcome.{Outcome, changed, set-refusals, early-
 
 -- the numbers
 
--- "Add can give 1 to 6 and 8", and 9 after 5, 10 just before 6; "withdraw 1 to 5 and 7; check 1 to 4."
+-- "Add can give 1 to 6 and 8", and 9 after 5, 13 just before 10, 10 just before 6; "withdraw 1 to 5 and 7; check 1 to 4."
 abbrev pub change-answers : Change → List ℕ
-change-answers (Insert tier) = 0 ∷ 1 ∷ 2 ∷ 3 ∷ 4 ∷ 5 ∷ 9 ∷ 10 ∷ 6 ∷ 8 ∷ []
+change-answers (Insert tier) = 0 ∷ 1 ∷ 2 ∷ 3 ∷ 4 ∷ 5 ∷ 9 ∷ 13 ∷ 10 ∷ 6 ∷ 8 ∷ []
 change-answers Remove = 0 ∷ 1 ∷ 2 ∷ 3 ∷ 4 ∷ 5 ∷ 7 ∷ []
 
 abbrev pub check-answers : List ℕ
@@ -160,7 +160,10 @@ rest-late (Insert tier) P key L = late-first ((blank-key, blank key) ∷ set-ref
     | here q ↦ omega arith
     | there k ↦ elim k [
       | here q ↦ omega arith
-      | there l ↦ elim l [ here q ↦ omega arith | there m ↦ elim m [ here q ↦ omega arith | there o ↦ elim o [ ] ] ]
+      | there l ↦ elim l [
+        | here q ↦ omega arith
+        | there m ↦ elim m [ here q ↦ omega arith | there o ↦ elim o [ here q ↦ omega arith | there p ↦ elim p [ ] ] ]
+      ]
     ]
   ]
 ])

@@ -7,10 +7,10 @@ use lib.Dec.{eqb, ltb}
 use lib.ListN.{length, replicate}
 use Rattle.basics.specs.Sets.{member, without}
 use Rattle.ordered.specs.Keys.{with-key}
-use Rattle.refusals.specs.Refusal.{done, wrong-tabulation, wrong-shape, short-scratch, not-canonical, blank-key, key-present, key-absent, stash-full, wrong-tier, other-tier, first-refusal}
+use Rattle.refusals.specs.Refusal.{done, wrong-tabulation, wrong-shape, short-scratch, not-canonical, blank-key, key-present, key-absent, stash-full, wrong-tier, other-tier, other-issue, first-refusal}
 use Rattle.tabulation.specs.Hash.{tabulation-length, blank}
 use Rattle.layout.specs.Entries.{Entry, max-tier, keys-of, tier-of, tiered}
-use Rattle.layout.specs.Layout.{Params, params-of, slots-of, places-of, scratch-length, shaped, fits, image, set-in}
+use Rattle.layout.specs.Layout.{Params, another-issue, params-of, slots-of, places-of, scratch-length, shaped, fits, image, set-in}
 use Rattle.layout.specs.Canonical.{canonical}
 use Rattle.outcome.specs.declared.Change.{Change}
 use Rattle.outcome.specs.declared.Change.the-variants.{Insert, Remove}
@@ -33,10 +33,12 @@ tier-changed Remove key t c = t c
 abbrev pub changed : Change → ℕ → List Entry → List Entry
 changed kind key L = tiered (tier-changed kind key (tier-of L)) (keys-changed kind key (keys-of L))
 
--- the refusals that look at the tier and at the set: "tier above 7", "listed .. with another tier", "listed" and "full drawer"; or "not listed"
+-- the refusals that look at the tier and at the set: "tier above 7", "another issue is listed", "listed .. with another tier", "listed" and "full drawer"; or
+-- "not listed"
 abbrev pub set-refusals : Change → Params → ℕ → List Entry → List (ℕ × Bool)
 set-refusals (Insert tier) P key L =
     (wrong-tier, ltb max-tier tier)
+    ∷ (other-issue, another-issue key (keys-of L))
     ∷ (other-tier, member key (keys-of L) && not (eqb (tier-of L key) tier))
     ∷ (key-present, member key (keys-of L))
     ∷ (stash-full, not (fits P (with-key key (keys-of L))))

@@ -36,3 +36,6 @@ pub const SHORT_TRAIL: u32 = 11;
 
 // A sale's base price or a step is outside its range, or the key's price is below 1.
 pub const WRONG_PRICE: u32 = 12;
+
+// Insert of a key of which another issue is in the set.
+pub const OTHER_ISSUE: u32 = 13;
