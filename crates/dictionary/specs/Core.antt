@@ -8,16 +8,18 @@ use native.Mathlib.Omega.{arith}
 use borrow.Author.Tests.{eq-eqb, ne-eqb, lt-ltb, le-ltb}
 use lib.Dec.{eqb, ltb}
 use lib.ListN.{length, getD}
+use lib.Seq.{getD-take}
 use Rattle.basics.specs.Sets.{member, member-in, in-member, without, out-in, Asc}
 use Rattle.ordered.specs.Place.{rank-le, rank-found, length-with, length-without}
 use Rattle.ordered.specs.Keys.{rank-of, with-key}
-use Rattle.refusals.specs.Refusal.{done, not-canonical, blank-key, key-present, key-absent, stash-full, wrong-tier, other-tier, first-refusal, front-applies}
+use Rattle.refusals.specs.Refusal.{done, not-canonical, blank-key, key-present, key-absent, stash-full, wrong-tier, other-tier, other-issue, first-refusal, front-applies}
 use Rattle.tabulation.specs.Hash.{Hashing, blank, tables}
 use Rattle.layout.specs.Entries.{max-tier, keys-of, tier-of, tiered, keys-tiered, tier-tiered}
-use Rattle.layout.specs.Layout.{Params, ValidKeys, params-of, slots-of, places-of, station-of, fits, image, keys-in, tier-in, set-in}
+use Rattle.layout.specs.Layout.{Params, ValidKeys, another-issue, OneIssue, params-of, slots-of, places-of, station-of, fits, image, keys-in, tier-in, set-in}
 use Rattle.layout.specs.Canonical.{canonical, canonical-true}
 use Rattle.layout.specs.Shape.{Shaped, shape}
 use Rattle.layout.specs.Standing.{keys-in-valid}
+use Rattle.layout.specs.Issues.{listed-alone}
 use Rattle.layout.specs.Fitting.{without-fits}
 use Rattle.codec.specs.Collect.{keys-in-few}
 use Rattle.codec.specs.Ranks.{tier-unit}
@@ -31,7 +33,7 @@ use Rattle.outcome.specs.Held.{one-too-many, changed-keys, keys-changed-valid}
 use Rattle.renewal.specs.declared.Reading.{Reading}
 use Rattle.renewal.specs.declared.Reading.the-variants.{Keys, NotCanonical}
 use Rattle.renewal.specs.Edges.{edge-with, Lined, lined-buildable}
-use Rattle.renewal.specs.Members.{keys-at, put-in, taken-out, lined-agree, lined-keys, lined-tier, lined-put, lined-taken}
+use Rattle.renewal.specs.Members.{keys-at, Placed, put-in, taken-out, lined-agree, lined-keys, lined-tier, lined-put, lined-taken}
 use Rattle.renewal.specs.Reading.{early-refusal, number, values, reading-refusal, reading-values, new-answer, new-words, Listed, Renewed, canonical-small}
 use Rattle.renewal.specs.Reading.{told-tampered, told-keys}
 
@@ -63,6 +65,12 @@ answer-turned false = refl
 words-turned : (f : Bool) (us ws : List ℕ) → cond f us ws ≡ cond (eqb (cond (not f) stash-full done) done) us ws
 words-turned true us ws = refl
 words-turned false us ws = refl
+
+-- word 0 is 0
+front-zero : {P : Params} {t : ℕ → ℕ} {S scratch : List ℕ} → Lined P t S scratch → getD scratch 0 0 ≡ 0
+front-zero {S = S} {scratch} D =
+    let l : 0 < length S + 1 = omega arith in
+    sym (getD-take (length S + 1) scratch 0 0 l) ∙ ap (λ (xs : List ℕ). getD xs 0 0) (D .keys)
 
 -- The set changes.
 module _ {tabulation ws scratch : List ℕ} {n key : ℕ} (Z : Settable tabulation ws scratch n key) where
@@ -97,6 +105,10 @@ module _ {tabulation ws scratch : List ℕ} {n key : ℕ} (Z : Settable tabulati
 
   pub searchable : (n < length scratch) × Asc (keys-at n scratch)
   searchable = (omega (arith, key-count, room), rw keys-stand (valid .asc))
+
+  -- they are one issue of each first part, as those of a set are
+  issues : OneIssue K
+  issues = rw set-keys at (canonical-true tabulation ws (Z .image) .valid .issues)
 
   -- a key that stands there is one of the set
   pub stands-listed : {t : Bool} → t ≡ member key (keys-at n scratch) → t ≡ member key (keys-of (set-in tabulation ws))
@@ -140,6 +152,24 @@ module _ {tabulation ws scratch : List ℕ} {n key : ℕ} (Z : Settable tabulati
     pub at-le : at ≤ n
     at-le = omega (arith, at-rank, rank-le key K, Z .count)
 
+    pub placed : Placed scratch n at key
+    placed = record {
+      long = searchable .0;
+      front = front-zero (Z .lined);
+      asc = searchable .1;
+      issues = rw keys-stand issues;
+      place = place;
+      not-blank = Z .not-blank;
+    }
+
+    -- another issue is there
+    pub insert-issue : {b : Bool} → b ≡ another-issue key (keys-at n scratch) → b ≡ true → {tier : ℕ} → tier ≤ max-tier
+        → Decided (Insert tier) tabulation ws key other-issue ws
+    insert-issue e q {tier} small =
+        let x = le-ltb max-tier tier small in
+        let y : another-issue key K ≡ true = rw keys-stand at (sym e ∙ q) in
+        (rw (x, set-keys, y), rw (x, set-keys, y))
+
     -- it is there
     module _ {b : Bool} (found : b ≡ member key (keys-at n scratch)) (yes : b ≡ true) where
       listed : member key K ≡ true
@@ -147,6 +177,9 @@ module _ {tabulation ws scratch : List ℕ} {n key : ℕ} (Z : Settable tabulati
 
       here : In key K
       here = member-in key K listed
+
+      alone : another-issue key K ≡ false
+      alone = listed-alone issues key here
 
       pub at-lt : at < n
       at-lt = omega (arith, at-rank, rank-found key K (valid .asc) here .1, Z .count)
@@ -160,13 +193,13 @@ module _ {tabulation ws scratch : List ℕ} {n key : ℕ} (Z : Settable tabulati
           insert-other d =
               let x = le-ltb max-tier tier small in
               let y = ne-eqb t tier d in
-              (rw (x, set-keys, listed, tier-is, y), rw (x, set-keys, listed, tier-is, y))
+              (rw (x, set-keys, alone, listed, tier-is, y), rw (x, set-keys, alone, listed, tier-is, y))
 
           pub insert-present : t ≡ tier → Decided (Insert tier) tabulation ws key key-present ws
           insert-present q =
               let x = le-ltb max-tier tier small in
               let y = eq-eqb t tier q in
-              (rw (x, set-keys, listed, tier-is, y), rw (x, set-keys, listed, tier-is, y))
+              (rw (x, set-keys, alone, listed, tier-is, y), rw (x, set-keys, alone, listed, tier-is, y))
 
       -- and is taken out
       module _ {r s : ℕ} (e : r ≡ slots-of ws) (f : s ≡ places-of ws) {mid : List ℕ} (out : mid ≡ taken-out r s n at scratch)
@@ -198,14 +231,18 @@ module _ {tabulation ws scratch : List ℕ} {n key : ℕ} (Z : Settable tabulati
       pub remove-absent : Decided Remove tabulation ws key key-absent ws
       remove-absent = (rw (set-keys, absent), rw (set-keys, absent))
 
-      module _ {tier : ℕ} (small : tier ≤ max-tier) where
+      -- nor is another issue
+      module _ {o : Bool} (other : o ≡ another-issue key (keys-at n scratch)) (none : o ≡ false) {tier : ℕ} (small : tier ≤ max-tier) where
+        new : another-issue key K ≡ false
+        new = rw keys-stand at (sym other ∙ none)
+
         small-test : ltb max-tier tier ≡ false
         small-test = le-ltb max-tier tier small
 
         pub insert-crowded : 2 * slots-of ws + places-of ws ≤ n → Decided (Insert tier) tabulation ws key stash-full ws
         insert-crowded l =
             let f = one-too-many P key (sizes .sizes .has-slots) valid (Z .not-blank) absent (omega (arith, Z .count)) in
-            (rw (small-test, set-keys, absent, f), rw (small-test, set-keys, absent, f))
+            (rw (small-test, set-keys, new, absent, f), rw (small-test, set-keys, new, absent, f))
 
         -- and is put in
         module _ {r s station : ℕ} (e : r ≡ slots-of ws) (f : s ≡ places-of ws) (d : station ≡ station-of ws)
@@ -225,7 +262,7 @@ module _ {tabulation ws scratch : List ℕ} {n key : ℕ} (Z : Settable tabulati
               let L = changed (Insert tier) key (set-in tabulation ws) in
               let g : fits P (keys-of L) ≡ fits P (with-key key K) =
               ap (fits P) (changed-keys (Insert tier) key (set-in tabulation ws) ∙ ap (with-key key) set-keys) in
-              let h : set-answer (Insert tier) tabulation ws key ≡ cond (not (fits P (with-key key K))) stash-full done = rw (small-test, set-keys, absent) in
+              let h : set-answer (Insert tier) tabulation ws key ≡ cond (not (fits P (with-key key K))) stash-full done = rw (small-test, set-keys, new, absent) in
               changed-renewed (Insert tier) R (omega (arith, length-with key K (valid .asc) gone, Z .count)) put (
                 answer-turned (fits P (with-key key K)) ∙ sym h,
                 ap (λ (f : Bool). cond f (image P L) ws) g ∙ words-turned (fits P (with-key key K)) (image P L) ws

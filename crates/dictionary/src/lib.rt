@@ -12,6 +12,7 @@ use refusals::BLANK_KEY;
 use refusals::KEY_ABSENT;
 use refusals::KEY_PRESENT;
 use refusals::NOT_CANONICAL;
+use refusals::OTHER_ISSUE;
 use refusals::OTHER_TIER;
 use refusals::STASH_FULL;
 use refusals::WRONG_TIER;
@@ -20,6 +21,7 @@ use renewal::clear;
 use renewal::early;
 use renewal::members::is_at;
 use renewal::members::look;
+use renewal::members::other_issue;
 use renewal::members::place_of;
 use renewal::members::put_key;
 use renewal::members::take_key;
@@ -47,6 +49,9 @@ fn insert_key(
     let r = header.slots;
     let s = header.places;
     let at = place_of(&*scratch, n, key);
+    if other_issue(&*scratch, n, at, key) {
+        return OTHER_ISSUE;
+    }
     if is_at(&*scratch, n, at, key) {
         if tier_at(&*scratch, r, s, at) != tier {
             return OTHER_TIER;

@@ -1,5 +1,5 @@
--- A set in scratch, its keys and their edges: two columns that move together. Where a key stands in it, its tier, and the set with a key put in or taken out. The
--- definitions come first: contracts cite them. Assumes nothing.
+-- A set in scratch, its keys and their edges: two columns that move together. Where a key stands in it, or another issue of it, its tier, and the set with a key
+-- put in or taken out. The definitions come first: contracts cite them. Assumes nothing.
 use Prim.Native.Nat.{ℕ, _+_, _*_, _-_, _/_, _≤_, _<_}
 use mathlib.Core.Path.{_≡_, refl, sym, _∙_, ap}
 use mathlib.Core.Bool.{Bool, true, false, cond}
@@ -7,16 +7,20 @@ use mathlib.Core.Logic.{inl, inr}
 use mathlib.Core.List.{List, [], _∷_, _++_, map, map-append, List·Memᴰ as In}
 use native.Mathlib.Omega.{arith}
 use native.Mathlib.Numerals.{add-one}
+use borrow.Author.Tests.{eq-eqb, ne-eqb}
 use lib.Dec.{eqb}
 use lib.ListN.{length, getD, take, drop, length-take, length-drop}
 use lib.Seq.{take-take, drop-drop, drop-at, take-add, take-append-le, getD-take, getD-drop, length-take-le}
-use Rattle.basics.specs.Tests.{test, zero-one}
+use Rattle.basics.specs.Tests.{test, eq?, zero-one}
 use Rattle.basics.specs.Sets.{member, member-in, first, Asc, without}
 use Rattle.basics.specs.Lists.{at-map, map-same, map-take, map-drop}
 use Rattle.ordered.specs.Keys.{rank-of, with-key}
 use Rattle.ordered.specs.Place.{rank-le, rank-found, member-at, member-past, with-parts, without-parts, length-with, length-without}
 use Rattle.ordered.specs.Shift.{opened, closed, opened-column, closed-column, opened-length, closed-length, opened-behind, closed-behind}
-use Rattle.layout.specs.Layout.{Params, family}
+use Rattle.tabulation.specs.Hash.{first-part, blank}
+use Rattle.tabulation.specs.Issues.{not-blank-iff}
+use Rattle.layout.specs.Layout.{Params, another-issue, OneIssue, family}
+use Rattle.layout.specs.Issues.{issue-before, issue-at, issue-nowhere}
 use Rattle.layout.specs.Shape.{Sized}
 use Rattle.layout.specs.Answers.{values}
 use Rattle.layout.specs.declared.Found.{Found}
@@ -40,23 +44,84 @@ put-in r s n at key edge scratch = opened (opened scratch (at + 1) (n + 1) key) 
 abbrev pub taken-out : (r s n at : ℕ) → List ℕ → List ℕ
 taken-out r s n at scratch = closed (closed scratch (at + 1) (n + 1)) (edges-at r s + at) (edges-at r s + n)
 
+-- The n keys behind word 0, which is 0, are one issue of each first part, and `at` is the place among them of a key that is not blank.
+pub record Placed (scratch : List ℕ) (n at key : ℕ) : Type 0 where
+  pub long : n < length scratch
+  pub front : getD scratch 0 0 ≡ 0
+  pub asc : Asc (keys-at n scratch)
+  pub issues : OneIssue (keys-at n scratch)
+  pub place : at ≡ rank-of (keys-at n scratch) key
+  pub not-blank : blank key ≡ false
+
 -- The laws. Where a key stands among n keys: they are lent to the search, and what stands at its rank says whether it is there.
+pub key-read : (scratch : List ℕ) (n i : ℕ) → i < n → getD scratch (i + 1) 0 ≡ getD (keys-at n scratch) i 0
+key-read scratch n i l =
+    let e : i + 1 ≡ 1 + i = omega arith in
+    rw (e, ← getD-drop 1 scratch i 0, ← getD-take n (drop 1 scratch) i 0 l)
+
 module _ (scratch : List ℕ) (n : ℕ) (long : n < length scratch) where
   pub keys-lent : {e : ℕ} → e ≡ n + 1 → take (e - 1) (drop 1 scratch) ≡ keys-at n scratch
   keys-lent {e} q = let k : e - 1 ≡ n = omega arith in rw k
 
-  keys-length : length (keys-at n scratch) ≡ n
+  pub keys-length : length (keys-at n scratch) ≡ n
   keys-length = simp (length-take, length-drop) (omega arith)
 
   module _ (key : ℕ) (asc : Asc (keys-at n scratch)) {at : ℕ} (q : at ≡ rank-of (keys-at n scratch) key) where
     pub stands-at : at < n → eqb (getD scratch (at + 1) 0) key ≡ member key (keys-at n scratch)
     stands-at l =
-        let e : at + 1 ≡ 1 + at = omega arith in
-        rw (e, ← getD-drop 1 scratch at 0, ← getD-take n (drop 1 scratch) at 0 l)
-        (rw (← q) at (member-at key (keys-at n scratch) asc (omega (arith, keys-length))))
+        rw (key-read scratch n at l) (rw (← q) at (member-at key (keys-at n scratch) asc (omega (arith, keys-length))))
 
     pub stands-nowhere : n ≤ at → false ≡ member key (keys-at n scratch)
     stands-nowhere l = member-past key (keys-at n scratch) asc (omega (arith, keys-length))
+
+-- another issue of a key: before its place, or at it
+module _ {scratch : List ℕ} {n at key : ℕ} (Q : Placed scratch n at key) where
+  abbrev K : List ℕ
+  K = keys-at n scratch
+
+  pub placed-le : at ≤ n
+  placed-le = omega (arith, Q .place, rank-le key K, keys-length scratch n (Q .long))
+
+  -- the first part of a key is none of word 0
+  some-part : 0 < first-part key
+  some-part = not-blank-iff key .0 (Q .not-blank)
+
+  before : 0 < at → getD scratch at 0 ≡ getD K (rank-of K key - 1) 0
+  before l =
+      let e : at - 1 + 1 ≡ at = omega arith in
+      ap (λ (i : ℕ). getD scratch i 0) (sym e) ∙ key-read scratch n (at - 1) (omega (arith, placed-le)) ∙ ap (λ (i : ℕ). getD K (i - 1) 0) (Q .place)
+
+  here : at < n → getD scratch (at + 1) 0 ≡ getD K (rank-of K key) 0
+  here l = key-read scratch n at l ∙ ap (λ (i : ℕ). getD K i 0) (Q .place)
+
+  pub issue-below : first-part (getD scratch at 0) ≡ first-part key → true ≡ another-issue key K
+  issue-below q = elim (eq? at 0) [
+    | inl z ↦ absurd (omega (arith, some-part, Q .front, rw z at q))
+    | inr n ↦
+        let l : 0 < at = omega (arith, n) in
+        sym (issue-before key (Q .asc) (omega (arith, Q .place)) (ap first-part (sym (before l)) ∙ q))
+  ]
+
+  module _ (low : first-part (getD scratch at 0) ≡ first-part key → ⊥) where
+    not-below : 0 < rank-of K key → first-part (getD K (rank-of K key - 1) 0) ≡ first-part key → ⊥
+    not-below l q = low (ap first-part (before (omega (arith, Q .place))) ∙ q)
+
+    pub issue-past : n ≤ at → false ≡ another-issue key K
+    issue-past l =
+        sym (issue-nowhere key (Q .asc) (Q .issues) not-below (λ m. absurd (omega (arith, Q .place, keys-length scratch n (Q .long)))))
+
+    module _ (l : at < n) where
+      pub issue-exact : getD scratch (at + 1) 0 ≡ key → false ≡ another-issue key K
+      issue-exact e = sym (issue-nowhere key (Q .asc) (Q .issues) not-below (λ m d q. d (sym (here l) ∙ e)))
+
+      pub issue-next : (getD scratch (at + 1) 0 ≡ key → ⊥) → eqb (first-part (getD scratch (at + 1) 0)) (first-part key) ≡ another-issue key K
+      issue-next d = elim (eq? (first-part (getD scratch (at + 1) 0)) (first-part key)) [
+        | inl q ↦
+            eq-eqb _ _ q
+            ∙ sym (issue-at key (Q .asc) (omega (arith, Q .place, keys-length scratch n (Q .long))) (λ e. d (here l ∙ e)) (ap first-part (sym (here l)) ∙ q))
+        | inr x ↦
+            ne-eqb _ _ x ∙ sym (issue-nowhere key (Q .asc) (Q .issues) not-below (λ m e q. x (ap first-part (here l) ∙ q)))
+      ]
 
 -- both columns moved, one after the other: start is where the edges begin, and mid are the words in between
 module _ (r s n at : ℕ) (scratch : List ℕ) {mid out : List ℕ} {start : ℕ} (e : start ≡ edges-at r s) where

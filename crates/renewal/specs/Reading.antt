@@ -1,7 +1,7 @@
 -- What every call on a whole dictionary is made of, as definitions: what is refused before the words are read as a set, what reading them answers, and what a new
 -- set leads to. The laws say that this is what the code does, by way of the keys and edges in scratch and the build. Assumes nothing.
 use Prim.Native.Nat.{ℕ, _+_, _*_, _≤_, _<_}
-use mathlib.Core.Path.{_≡_, refl, sym, _∙_}
+use mathlib.Core.Path.{_≡_, refl, sym, _∙_, ap}
 use mathlib.Core.Bool.{Bool, true, false, not, cond}
 use mathlib.Core.List.{List, [], _∷_, List·Memᴰ as In}
 use native.Mathlib.Omega.{arith}
@@ -10,11 +10,12 @@ use lib.ListN.{length, take}
 use Rattle.basics.specs.Tests.{bool-ext}
 use Rattle.basics.specs.Lists.{same, same-true, true-same}
 use Rattle.refusals.specs.Refusal.{done, not-canonical, stash-full, first-refusal, front-none}
-use Rattle.layout.specs.Layout.{Params, ValidKeys, params-of, family-of, slots-of, places-of, station-of, words-length, shaped, stash-of, fits, image, keys-in, fits-by, tier-in}
+use Rattle.layout.specs.Layout.{Params, ValidKeys, one-issue, params-of, family-of, slots-of, places-of, station-of, words-length, shaped, stash-of, fits, image, keys-in, fits-by, tier-in}
 use Rattle.layout.specs.Entries.{Entry, keys-of, tier-of, tiered, keys-tiered, tiered-agree, tiered-in, in-tiered, tier-absent}
 use Rattle.layout.specs.Canonical.{canonical, canonical-tier, canonical-true, image-of-canonical}
 use Rattle.layout.specs.Shape.{Shaped, Sized, shape}
 use Rattle.layout.specs.Image.{le-fits}
+use Rattle.layout.specs.Issues.{one-issue-iff}
 use Rattle.layout.specs.Standing.{keys-in-valid, zero-outside}
 use Rattle.build.specs.Scratch.{parts, edges-at, used}
 use Rattle.build.specs.Build.{full, made, Built, Buildable}
@@ -25,6 +26,7 @@ use Rattle.codec.specs.Image.{alike-image, written-image}
 use Rattle.outcome.specs.Outcome.{early-refusals}
 use Rattle.outcome.specs.Laws.{Ready, none-ready}
 use Rattle.renewal.specs.Edges.{tier-found, small-le, small-same, edge-of, Lined, lined-buildable, lined-built, EdgesTo, edges-lined}
+use Rattle.renewal.specs.Members.{keys-at, lined-keys}
 use Rattle.renewal.specs.Columns.{SetColumns, alike-in, written-in, Readable, standing-readable, stash-count, set-columns}
 use Rattle.renewal.specs.declared.Reading.{Reading}
 use Rattle.renewal.specs.declared.Reading.the-variants.{Keys, NotCanonical}
@@ -155,7 +157,7 @@ module _ (tabulation ws : List ℕ) (formed : Shaped ws) {t : ℕ → ℕ} {S be
       let i = written-image (M .columns) (rw (keys-tiered t S) (M .fit)) (no-tier t valid) ws (formed .sizes .has-slots) (formed .size) in
       rw (← M .stashed) (rw (keys-tiered t S) at i)
 
--- Reading words as a set. Words whose keys fit are canonical exactly if they are the image of their set, with 0 for every tier above 7: if they are, then that
+-- Reading words as a set. Words whose keys are one issue of each first part and fit are canonical exactly if they are the image of their set, with 0 for every tier above 7: if they are, then that
 -- set is theirs; and if they are canonical, then no tier is above 7.
 module _ (tabulation ws : List ℕ) where
   abbrev P : Params
@@ -167,13 +169,15 @@ module _ (tabulation ws : List ℕ) where
   pub canonical-small : canonical tabulation ws ≡ true → {c : ℕ} → In c (keys-in ws) → t c ≡ tier-in tabulation ws c
   canonical-small e i = small-same _ (canonical-tier tabulation ws e _ (in-tiered (tier-in tabulation ws) (keys-in ws) i))
 
-  canonical-same : shaped ws ≡ true → fits P (keys-in ws) ≡ true → canonical tabulation ws ≡ same ws (image P (tiered t (keys-in ws)))
-  canonical-same formed fit =
+  canonical-same : shaped ws ≡ true → one-issue (keys-in ws) ≡ true → fits P (keys-in ws) ≡ true
+      → canonical tabulation ws ≡ same ws (image P (tiered t (keys-in ws)))
+  canonical-same formed one fit =
       bool-ext (canonical tabulation ws) (same ws (image P (tiered t (keys-in ws))))
       (λ e. true-same ws (image P (tiered t (keys-in ws))) (rw (tiered-agree {t = t} (keys-in ws) (λ c. canonical-small e)) (canonical-true tabulation ws e .is)))
       (λ e. image-of-canonical tabulation ws formed refl (record {
         valid = record {
           keys = rw (keys-tiered t (keys-in ws)) (keys-in-valid ws);
+          issues = rw (keys-tiered t (keys-in ws)) (one-issue-iff (keys-in ws) .0 one);
           tiers = λ x i. rw (tiered-in t (keys-in ws) i) (small-le (tier-in tabulation ws (x .key)));
         };
         fit = rw (keys-tiered t (keys-in ws)) fit;
@@ -200,42 +204,57 @@ module _ {tabulation ws scratch : List ℕ} {r s station n : ℕ} (C : Collected
   collected-listed e T =
       edges-lined (rw (C .count) at (C .front)) (rw (e, C .slots, C .places, C .count) at T) collected-few (rw (C .slots, C .places) at (collected-room .1 .1))
 
--- and can be built then.
+-- and then they can be read.
 module _ {tabulation ws scratch mid : List ℕ} {r s station n : ℕ} (C : Collected tabulation ws scratch r s station n) (same-room : length mid ≡ length scratch)
     (D : Listed tabulation ws mid) where
   room-mid : used (slots-of ws) (places-of ws) ≤ length mid
   room-mid = omega (arith, C .ready .room, formed C .sizes)
 
+  -- what reading promises, of scratch as it is left
+  abbrev Told : List ℕ → Reading → Type 0
+  Told left l = (number l ≡ reading-refusal tabulation ws) × ((values l ≡ reading-values tabulation ws) × Listed tabulation ws left)
+
+  -- their issues can be looked at,
+  keys-stand : keys-at n mid ≡ keys-in ws
+  keys-stand = rw (C .count) (lined-keys D room-mid)
+
+  pub collected-searchable : (n < length mid) × ValidKeys (keys-at n mid)
+  collected-searchable = (omega (arith, C .count, collected-few C, room-mid), rw keys-stand (keys-in-valid ws))
+
+  pub collected-issues : {b : Bool} → b ≡ one-issue (keys-at n mid) → b ≡ true → one-issue (keys-in ws) ≡ true
+  collected-issues e q = sym (e ∙ ap one-issue keys-stand) ∙ q
+
+  pub read-twice : {b : Bool} → b ≡ one-issue (keys-at n mid) → b ≡ false → Told mid NotCanonical
+  unfolding canonical
+  read-twice e q = let o : one-issue (keys-in ws) ≡ false = sym (e ∙ ap one-issue keys-stand) ∙ q in (rw o, (rw o, D))
+
+  -- and they can be built
   pub collected-buildable : Buildable r s n mid
   collected-buildable = rw (C .slots, C .places, C .count) (lined-buildable D room-mid (formed C .sizes) (collected-few C))
 
-  module _ {after : List ℕ} {count : StashCount} (same : length after ≡ length mid) (B : Built r s n mid after count) where
+  module _ (one : one-issue (keys-in ws) ≡ true) {after : List ℕ} {count : StashCount} (same : length after ≡ length mid) (B : Built r s n mid after count) where
     built-set : Built (slots-of ws) (places-of ws) (length (keys-in ws)) mid after count
     built-set = rw (← C .slots, ← C .places, ← C .count) B
-
-    -- what reading promises
-    abbrev Told : Reading → Type 0
-    Told l = (number l ≡ reading-refusal tabulation ws) × ((values l ≡ reading-values tabulation ws) × Listed tabulation ws after)
 
     kept : Listed tabulation ws after
     kept = set-kept (keys-in-valid ws) (formed C .sizes) (collected-few C) room-mid D same built-set
 
-    pub read-full : count ≡ Overflow → Told NotCanonical
+    pub read-full : count ≡ Overflow → Told after NotCanonical
     unfolding canonical
-    read-full e = let f = set-full (keys-in-valid ws) (formed C .sizes) (collected-few C) room-mid D same built-set e in (rw f, (rw f, kept))
+    read-full e = let f = set-full (keys-in-valid ws) (formed C .sizes) (collected-few C) room-mid D same built-set e in (rw (one, f), (rw (one, f), kept))
 
     module _ {k : ℕ} (e : count ≡ Ranks k) {b : Bool} (compared : b ≡ alike-in r s n ws k after) where
       read-compared : canonical tabulation ws ≡ b
       read-compared =
           let valid = keys-in-valid ws in
-          canonical-same tabulation ws (C .ready .shape) (set-made valid (formed C .sizes) (collected-few C) room-mid D same built-set e .fit)
+          canonical-same tabulation ws (C .ready .shape) one (set-made valid (formed C .sizes) (collected-few C) room-mid D same built-set e .fit)
           ∙ sym (set-alike tabulation ws (formed C) valid (collected-few C) room-mid D same built-set e)
           ∙ sym (rw (C .slots, C .places, C .count) at compared)
 
-      pub read-same : b ≡ true → Told (Keys n)
+      pub read-same : b ≡ true → Told after (Keys n)
       read-same q = let c : canonical tabulation ws ≡ true = read-compared ∙ q in (rw c, (rw (C .count, c), kept))
 
-      pub read-other : b ≡ false → Told NotCanonical
+      pub read-other : b ≡ false → Told after NotCanonical
       read-other q = let c : canonical tabulation ws ≡ false = read-compared ∙ q in (rw c, (rw c, kept))
 
 -- A new set, whichever stands in scratch: r and s are those of the words,

@@ -14,6 +14,7 @@ use built::write_built;
 use codec::collect::collect_keys;
 use edges::write_edges;
 use layout::Header;
+use members::one_issue;
 use refusals::SHORT_SCRATCH;
 use refusals::STASH_FULL;
 use refusals::WRONG_SHAPE;
@@ -48,7 +49,8 @@ pub fn early(tabulation: &[u16], words: &[u32], room: usize) -> u32
     0
 }
 
-// The words read as a set: its keys and their edges come into scratch, and its image must be the words.
+// The words read as a set: its keys and their edges come into scratch, they must be one issue of each first part, and the
+// image must be the words.
 pub fn read_set(tabulation: &[u16], words: &[u32], scratch: &mut [u32]) -> Reading
     requires { ⌜ Ready (now tabulation) (now words) (now scratch) ⌝ }
     ensures numbered { λ l. ⌜ number l ≡ reading-refusal (now (tabulation .entry)) (now (words .entry)) ⌝ }
@@ -60,6 +62,9 @@ pub fn read_set(tabulation: &[u16], words: &[u32], scratch: &mut [u32]) -> Readi
     let s = header.places;
     let n = collect_keys(words, &mut *scratch);
     write_edges(tabulation, words, &mut *scratch, r, s, header.station, n);
+    if !one_issue(&*scratch, n) {
+        return Reading::NotCanonical;
+    }
     let count = seating::build(&mut *scratch, r, s, n);
     let StashCount::Ranks(stashed) = count else {
         return Reading::NotCanonical;

@@ -1,5 +1,6 @@
-// The set in scratch, its keys from word 1 on and their edges: where a key stands in it, and a key put in or taken out.
-// Both columns move together, at the same place.
+// The set in scratch, its keys from word 1 on and their edges: where a key or another issue of it stands, and a key put
+// in or taken out. Both columns move together, at the same place. Issues of one first part are neighbours in ascending
+// order, so none is searched for.
 ghost use mathlib.Core.Path.{_≡_};
 ghost use Prim.Native.Nat.{_+_, _*_, _/_, _≤_, _<_};
 ghost use lib.ListN.{length, getD};
@@ -8,11 +9,12 @@ ghost use Rattle.ordered.specs.Keys.{rank-of};
 ghost use Rattle.tabulation.specs.Hash.{tables, Hashing};
 ghost use Rattle.refusals.specs.Refusal.{done};
 ghost use Rattle.layout.specs.Entries.{max-tier};
+ghost use Rattle.layout.specs.Layout.{ValidKeys, another-issue, one-issue};
 ghost use Rattle.layout.specs.Answers.{number, values};
 ghost use Rattle.build.specs.Scratch.{edges-at, used};
 ghost use Rattle.codec.specs.Ranks.{tier-unit};
 ghost use Rattle.renewal.specs.Edges.{edge-with};
-ghost use Rattle.renewal.specs.Members.{keys-at, looked-in, put-in, taken-out};
+ghost use Rattle.renewal.specs.Members.{keys-at, Placed, looked-in, put-in, taken-out};
 use crate::edges::edge_given;
 use crate::edges::edge_tier;
 use layout::Found;
@@ -20,6 +22,7 @@ use ordered::close_at;
 use ordered::open_at;
 use ordered::rank;
 use parts::edges_start;
+use tabulation::first_part;
 
 // How many of the n keys are smaller than `key`: its place, if it is there, and the place where it belongs, if not.
 pub fn place_of(scratch: &[u32], n: usize, key: u32) -> usize
@@ -41,6 +44,44 @@ pub fn is_at(scratch: &[u32], n: usize, at: usize, key: u32) -> bool
         return x == key;
     }
     false
+}
+
+// Whether no two of the n keys are issues of one first part. No key has the first part 0.
+pub fn one_issue(scratch: &[u32], n: usize) -> bool
+    requires { ⌜ (n < length (now scratch)) × ValidKeys (keys-at n (now scratch)) ⌝ }
+    ensures { λ b. ⌜ b ≡ one-issue (keys-at n (now (scratch .entry))) ⌝ }
+{
+    let mut last: u32 = 0;
+    let mut i = 0;
+    while i < n {
+        let part = first_part(scratch[i + 1]);
+        if part == last {
+            return false;
+        }
+        last = part;
+        i += 1;
+    }
+    true
+}
+
+// Whether another issue of a key is one of the n, which are one issue of each first part; `at` is its place. It stands
+// before that place or at it; before the first key stands word 0, whose first part no key has.
+pub fn other_issue(scratch: &[u32], n: usize, at: usize, key: u32) -> bool
+    requires { ⌜ Placed (now scratch) n at key ⌝ }
+    ensures { λ b. ⌜ b ≡ another-issue key (keys-at n (now (scratch .entry))) ⌝ }
+{
+    let part = first_part(key);
+    if first_part(scratch[at]) == part {
+        return true;
+    }
+    if n <= at {
+        return false;
+    }
+    let next = scratch[at + 1];
+    if next == key {
+        return false;
+    }
+    first_part(next) == part
 }
 
 // The tier of the key at place `at`.

@@ -1,4 +1,4 @@
--- `dictionary::insert_key` meets its contract: the tier is too large, the key is there, there is no room for a further key, or the set with it is built.
+-- `dictionary::insert_key` meets its contract: the tier is too large, another issue or the key is there, there is no room for a further key, or the set with it is built.
 use Prim.Native.Nat.{_+_, _*_, _≤_, _<_}
 use native.Mathlib.Omega.{arith}
 use lib.ListN.{length}
@@ -7,8 +7,8 @@ use Rattle.layout.specs.Entries.{max-tier}
 use Rattle.layout.specs.Layout.{slots-of, places-of}
 use Rattle.layout.specs.Shape.{shape}
 use Rattle.build.specs.Scratch.{used}
-use Rattle.dictionary.specs.Core.{searchable, in-range, at-le, at-lt}
-use Rattle.dictionary.specs.Core.{insert-large, insert-other, insert-present, insert-crowded, insert-buildable, insert-renewed}
+use Rattle.dictionary.specs.Core.{searchable, in-range, at-le, at-lt, placed}
+use Rattle.dictionary.specs.Core.{insert-large, insert-issue, insert-other, insert-present, insert-crowded, insert-buildable, insert-renewed}
 use borrow.Author.Needs.{needs}
 use Rattle.dictionary.proofs.insert_key.Statement.{statement}
 use Rattle.dictionary.proofs.insert_key.Tie as tie
@@ -41,21 +41,8 @@ place-of-requires c κs = searchable (start (c .before) .pre)
 abbrev headed : tie.After-place-of → tie.After-read-header
 headed p = p .before .before
 
-is-at-requires : tie.Need-is-at-requires
-is-at-requires c κs = let p = c .before in (searchable (start (headed p) .pre), p .place-of .ensures)
-
--- the key is looked for there
-abbrev placed : tie.After-is-at → tie.After-place-of
-placed i = i .before .before
-
-tier-at-requires : tie.Need-tier-at-requires
-tier-at-requires c κs =
-    let i = c .before .before in
-    let p = placed i in
-    let h = headed p in
-    let b = ranges h in
-    let l = at-lt (start h .pre) (p .place-of .ensures) (i .is-at .ensures) (c .before .if2 .taken) in
-    ((b .0 .slots-bound, b .1 .0), omega arith)
+other-issue-requires : tie.Need-other-issue-requires
+other-issue-requires c κs = let p = c .before in placed (start (headed p) .pre) (p .place-of .ensures)
 
 same-length : tie.Need-same-length
 same-length c = search needs
@@ -65,12 +52,33 @@ same-length-2 c = search needs
 
 returns-2 : tie.Need-returns-2
 returns-2 c =
-    let t = c .before in
-    let y = t .before .before in
-    let p = placed (y .before) in
+    let o = c .before in
+    let p = o .before .before in
     let h = headed p in
-    insert-other (start h .pre) (p .place-of .ensures) (y .before .is-at .ensures) (y .if2 .taken) (h .read-header .ensures .0) (h .read-header .ensures .1 .0)
-    (t .tier-at .ensures) (small (h .before .before)) (λ q. c .if3 .taken q)
+    insert-issue (start h .pre) (p .place-of .ensures) (o .other-issue .ensures) (c .if2 .taken) (small (h .before .before))
+
+-- no other issue is listed
+abbrev found-at : tie.Else2 → tie.After-place-of
+found-at o = o .before .before .before
+
+is-at-requires : tie.Need-is-at-requires
+is-at-requires c κs = let p = found-at (c .before) in (searchable (start (headed p) .pre), p .place-of .ensures)
+
+-- the key is looked for there
+abbrev single : tie.After-is-at → tie.Else2
+single i = i .before .before
+
+abbrev place : tie.After-is-at → tie.After-place-of
+place i = found-at (single i)
+
+tier-at-requires : tie.Need-tier-at-requires
+tier-at-requires c κs =
+    let i = c .before .before in
+    let p = place i in
+    let h = headed p in
+    let b = ranges h in
+    let l = at-lt (start h .pre) (p .place-of .ensures) (i .is-at .ensures) (c .before .if3 .taken) in
+    ((b .0 .slots-bound, b .1 .0), omega arith)
 
 same-length-3 : tie.Need-same-length-3
 same-length-3 c = search needs
@@ -82,19 +90,10 @@ returns-3 : tie.Need-returns-3
 returns-3 c =
     let t = c .before in
     let y = t .before .before in
-    let p = placed (y .before) in
+    let p = place (y .before) in
     let h = headed p in
-    insert-present (start h .pre) (p .place-of .ensures) (y .before .is-at .ensures) (y .if2 .taken) (h .read-header .ensures .0) (h .read-header .ensures .1 .0)
-    (t .tier-at .ensures) (small (h .before .before)) (c .if3 .left)
-
-mul-wide : tie.Need-mul-wide
-mul-wide c = omega (arith, ranges (headed (placed (c .before))))
-
-add-wide : tie.Need-add-wide
-add-wide c = omega (arith, ranges (headed (placed (c .before))))
-
-wide-requires : tie.Need-wide-requires
-wide-requires c κs = search needs
+    insert-other (start h .pre) (p .place-of .ensures) (y .before .is-at .ensures) (y .if3 .taken) (h .read-header .ensures .0) (h .read-header .ensures .1 .0)
+    (t .tier-at .ensures) (small (h .before .before)) (λ q. c .if4 .taken q)
 
 same-length-5 : tie.Need-same-length-5
 same-length-5 c = search needs
@@ -104,29 +103,53 @@ same-length-6 c = search needs
 
 returns-4 : tie.Need-returns-4
 returns-4 c =
+    let t = c .before in
+    let y = t .before .before in
+    let p = place (y .before) in
+    let h = headed p in
+    insert-present (start h .pre) (p .place-of .ensures) (y .before .is-at .ensures) (y .if3 .taken) (h .read-header .ensures .0) (h .read-header .ensures .1 .0)
+    (t .tier-at .ensures) (small (h .before .before)) (c .if4 .left)
+
+mul-wide : tie.Need-mul-wide
+mul-wide c = omega (arith, ranges (headed (place (c .before))))
+
+add-wide : tie.Need-add-wide
+add-wide c = omega (arith, ranges (headed (place (c .before))))
+
+wide-requires : tie.Need-wide-requires
+wide-requires c κs = search needs
+
+same-length-7 : tie.Need-same-length-7
+same-length-7 c = search needs
+
+same-length-8 : tie.Need-same-length-8
+same-length-8 c = search needs
+
+returns-5 : tie.Need-returns-5
+returns-5 c =
     let e = c .before .before in
-    let p = placed (e .before) in
+    let p = place (e .before) in
     let h = headed p in
     let w = c .before .wide .ensures in
-    let l = c .if4 .taken in
-    insert-crowded (start h .pre) (p .place-of .ensures) (e .before .is-at .ensures) (e .if2 .left) (small (h .before .before))
+    let l = c .if5 .taken in
+    insert-crowded (start h .pre) (p .place-of .ensures) (e .before .is-at .ensures) (e .if3 .left) (single (e .before) .before .other-issue .ensures) (single (e .before) .if2 .left) (small (h .before .before))
     (omega (arith, h .read-header .ensures .0, h .read-header .ensures .1 .0))
 
 -- there is room for one more
-abbrev tested : tie.Else4 → tie.Else2
+abbrev tested : tie.Else5 → tie.Else3
 tested o = o .before .before
 
-few : (o : tie.Else4) → let a = start (headed (placed (tested o .before))) .args in a .n < 2 * slots-of (a .words .now) + places-of (a .words .now)
+few : (o : tie.Else5) → let a = start (headed (place (tested o .before))) .args in a .n < 2 * slots-of (a .words .now) + places-of (a .words .now)
 few o =
-    let h = headed (placed (tested o .before)) .read-header .ensures in
+    let h = headed (place (tested o .before)) .read-header .ensures in
     let w = o .before .wide .ensures in
-    let l = o .if4 .left in
+    let l = o .if5 .left in
     omega (arith, h .0, h .1 .0)
 
 put-key-requires : tie.Need-put-key-requires
 put-key-requires c κs =
     let o = c .before in
-    let p = placed (tested o .before) in
+    let p = place (tested o .before) in
     let h = headed p in
     let b = ranges h in (
       ((b .0, omega (arith, small (h .before .before))), b .1 .0),
@@ -148,30 +171,30 @@ renew-requires c κs =
     let k = put c in
     let o = k .before .before in
     let e = tested o in
-    let p = placed (e .before) in
+    let p = place (e .before) in
     let h = headed p in
-    insert-buildable (start h .pre) (p .place-of .ensures) (e .before .is-at .ensures) (e .if2 .left) (small (h .before .before)) (h .read-header .ensures .0)
+    insert-buildable (start h .pre) (p .place-of .ensures) (e .before .is-at .ensures) (e .if3 .left) (single (e .before) .before .other-issue .ensures) (single (e .before) .if2 .left) (small (h .before .before)) (h .read-header .ensures .0)
     (h .read-header .ensures .1 .0) (h .read-header .ensures .1 .1 .1 .1) (few o) (k .put-key .ensures) (k .put-key .kept .1 .0)
 
-same-length-7 : tie.Need-same-length-7
-same-length-7 c = search needs
+same-length-9 : tie.Need-same-length-9
+same-length-9 c = search needs
 
-same-length-8 : tie.Need-same-length-8
-same-length-8 c = search needs
+same-length-10 : tie.Need-same-length-10
+same-length-10 c = search needs
 
-returns-5 : tie.Need-returns-5
-returns-5 c =
+returns-6 : tie.Need-returns-6
+returns-6 c =
     let w = c .before .before .before .before in
     let k = put (w .before) in
     let o = k .before .before in
     let e = tested o in
-    let p = placed (e .before) in
+    let p = place (e .before) in
     let h = headed p in
-    insert-renewed (start h .pre) (p .place-of .ensures) (e .before .is-at .ensures) (e .if2 .left) (small (h .before .before)) (h .read-header .ensures .0)
+    insert-renewed (start h .pre) (p .place-of .ensures) (e .before .is-at .ensures) (e .if3 .left) (single (e .before) .before .other-issue .ensures) (single (e .before) .if2 .left) (small (h .before .before)) (h .read-header .ensures .0)
     (h .read-header .ensures .1 .0) (h .read-header .ensures .1 .1 .1 .1) (few o) (k .put-key .ensures) (k .put-key .kept .1 .0) (w .renew .ensures)
 
 pub insert-key-spec : {M : Type 1} → statement M
 insert-key-spec =
-    tie.close (tie.spec returns read-header-requires place-of-requires is-at-requires tier-at-requires same-length same-length-2 returns-2
-    same-length-3 same-length-4 returns-3 mul-wide add-wide wide-requires same-length-5 same-length-6 returns-4 put-key-requires add-renew
-    renew-requires same-length-7 same-length-8 returns-5)
+    tie.close (tie.spec returns read-header-requires place-of-requires other-issue-requires same-length same-length-2 returns-2 is-at-requires
+    tier-at-requires same-length-3 same-length-4 returns-3 same-length-5 same-length-6 returns-4 mul-wide add-wide wide-requires same-length-7
+    same-length-8 returns-5 put-key-requires add-renew renew-requires same-length-9 same-length-10 returns-6)

@@ -1,7 +1,13 @@
--- `renewal::read_set` meets its contract: the keys that stand in the words get their edges and are built, and the words compared with their image.
+-- `renewal::read_set` meets its contract: the keys that stand in the words get their edges, are one issue of each first part, are built, and the words compared
+-- with their image.
+use mathlib.Core.Path.{_≡_}
+use mathlib.Core.Bool.{true}
 use native.Mathlib.Omega.{arith}
+use borrow.Author.Tests.{not-true, not-false}
+use Rattle.layout.specs.Layout.{one-issue, keys-in}
 use Rattle.layout.specs.Shape.{shape}
-use Rattle.renewal.specs.Reading.{Collected, collected-room, collected-buildable, built-readable, read-full, read-same, read-other}
+use Rattle.renewal.specs.Reading.{Collected, collected-room, collected-searchable, collected-issues, collected-buildable, built-readable}
+use Rattle.renewal.specs.Reading.{read-twice, read-full, read-same, read-other}
 use borrow.Author.Needs.{needs}
 use Rattle.renewal.proofs.read_set.Statement.{statement}
 use Rattle.renewal.proofs.read_set.Tie as tie
@@ -42,14 +48,44 @@ write-edges-requires c κs = collected (c .before .before .before)
 abbrev keys-at : tie.After-write-edges → tie.After-collect-keys
 keys-at e = e .before .before .before .before
 
+one-issue-requires : tie.Need-one-issue-requires
+one-issue-requires c κs =
+    let e = c .before .before .before in
+    collected-searchable (collected (keys-at e)) (e .write-edges .kept .1 .1 .0) (e .write-edges .ensures)
+
+-- their issues are looked at
+abbrev tested : tie.After-one-issue → tie.After-write-edges
+tested o = o .before .before .before .before
+
+same-length : tie.Need-same-length
+same-length c = search needs
+
+returns : tie.Need-returns
+returns c =
+    let o = c .before in
+    let e = tested o in
+    read-twice (collected (keys-at e)) (e .write-edges .kept .1 .1 .0) (e .write-edges .ensures) (o .one-issue .ensures) (not-true _ (c .if1 .taken))
+
+-- they are one issue of each first part
+abbrev edges-of : tie.Else1 → tie.After-write-edges
+edges-of o = tested (o .before)
+
+single : (o : tie.Else1) → one-issue (keys-in (start (keys-at (edges-of o)) .args .words .now)) ≡ true
+single o =
+    let e = edges-of o in
+    collected-issues (collected (keys-at e)) (e .write-edges .kept .1 .1 .0) (e .write-edges .ensures) (o .before .one-issue .ensures) (not-false _ (o .if1 .left))
+
 build-requires : tie.Need-build-requires
 build-requires c κs =
-    let e = c .before .before .before in
+    let e = edges-of (c .before) in
     collected-buildable (collected (keys-at e)) (e .write-edges .kept .1 .1 .0) (e .write-edges .ensures)
 
 -- they are built
+abbrev passed : tie.After-build → tie.Else1
+passed b = b .before .before
+
 abbrev edges-at : tie.After-build → tie.After-write-edges
-edges-at b = b .before .before .before .before
+edges-at b = edges-of (passed b)
 
 enum-known-count : tie.Need-enum-known-count
 enum-known-count c = search needs
@@ -57,14 +93,14 @@ enum-known-count c = search needs
 enum-told : tie.Need-enum-told
 enum-told c = search needs
 
-same-length : tie.Need-same-length
-same-length c = search needs
+same-length-2 : tie.Need-same-length-2
+same-length-2 c = search needs
 
-returns : tie.Need-returns
-returns c =
+returns-2 : tie.Need-returns-2
+returns-2 c =
     let b = c .before .before .before .before in
     let e = edges-at b in
-    read-full (collected (keys-at e)) (e .write-edges .kept .1 .1 .0) (e .write-edges .ensures) (b .build .kept .0) (b .build .ensures) (c .enum-told .given .1)
+    read-full (collected (keys-at e)) (e .write-edges .kept .1 .1 .0) (e .write-edges .ensures) (single (passed b)) (b .build .kept .0) (b .build .ensures) (c .enum-told .given .1)
 
 -- their stash has room
 abbrev build-at : tie.After-count → tie.After-build
@@ -86,18 +122,6 @@ matches-built-requires c κs =
 abbrev counted : tie.After-matches-built → tie.After-count
 counted m = m .before .before .before
 
-same-length-2 : tie.Need-same-length-2
-same-length-2 c = search needs
-
-returns-2 : tie.Need-returns-2
-returns-2 c =
-    let m = c .before in
-    let q = counted m in
-    let b = build-at q in
-    let e = edges-at b in
-    read-same (collected (keys-at e)) (e .write-edges .kept .1 .1 .0) (e .write-edges .ensures) (b .build .kept .0) (b .build .ensures) (q .count .given .1)
-    (m .matches-built .ensures) (c .if1 .taken)
-
 same-length-3 : tie.Need-same-length-3
 same-length-3 c = search needs
 
@@ -107,10 +131,22 @@ returns-3 c =
     let q = counted m in
     let b = build-at q in
     let e = edges-at b in
-    read-other (collected (keys-at e)) (e .write-edges .kept .1 .1 .0) (e .write-edges .ensures) (b .build .kept .0) (b .build .ensures) (q .count .given .1)
-    (m .matches-built .ensures) (c .if1 .left)
+    read-same (collected (keys-at e)) (e .write-edges .kept .1 .1 .0) (e .write-edges .ensures) (single (passed b)) (b .build .kept .0) (b .build .ensures) (q .count .given .1)
+    (m .matches-built .ensures) (c .if2 .taken)
+
+same-length-4 : tie.Need-same-length-4
+same-length-4 c = search needs
+
+returns-4 : tie.Need-returns-4
+returns-4 c =
+    let m = c .before in
+    let q = counted m in
+    let b = build-at q in
+    let e = edges-at b in
+    read-other (collected (keys-at e)) (e .write-edges .kept .1 .1 .0) (e .write-edges .ensures) (single (passed b)) (b .build .kept .0) (b .build .ensures) (q .count .given .1)
+    (m .matches-built .ensures) (c .if2 .left)
 
 pub read-set-spec : {M : Type 1} → statement M
 read-set-spec =
-    tie.close (tie.spec read-header-requires collect-keys-requires write-edges-requires build-requires enum-known-count enum-told same-length returns
-    matches-built-requires same-length-2 returns-2 same-length-3 returns-3)
+    tie.close (tie.spec read-header-requires collect-keys-requires write-edges-requires one-issue-requires same-length returns build-requires enum-known-count
+    enum-told same-length-2 returns-2 matches-built-requires same-length-3 returns-3 same-length-4 returns-4)
