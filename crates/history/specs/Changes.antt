@@ -125,7 +125,7 @@ module _ {P : Params} {L : List Entry} {ws : List ℕ} (h : Holds P L ws) (full-
       → changed kind key L ≡ new-set kind key L
   new-is (Insert tier) n key e =
       elim (front-none (change-tests P (Insert tier) own n key L) [] e refl) [
-        | and a (and b (and c (and d (and o (and m f))))) ↦
+        | and a (and b (and c (and d (and i (and o (and m f)))))) ↦
             put-in-changed tier key L (h .is .valid .keys .asc) (λ i. true≢false (sym (in-member i) ∙ m))
       ]
   new-is Remove n key e = take-out-changed key L (h .is .valid .keys .asc)

@@ -1,9 +1,9 @@
 -- What else follows from the theorem about whole sequences: the answers alone; which runs are sequences; a lookup tells
--- the set; a refused call of another kind leaves words and set; a removal undoes an insert; what a trail answers; that
--- stations stay apart. Assumes nothing.
+-- the set; another issue of a key excludes the key; a refused call of another kind leaves words and set; a removal undoes
+-- an insert; what a trail answers; that stations stay apart. Assumes nothing.
 use Prim.Native.Nat.{ℕ, _-_, _≤_}
 use mathlib.Core.Path.{_≡_, refl, sym, _∙_, ap}
-use mathlib.Core.Bool.{not}
+use mathlib.Core.Bool.{true, false, not}
 use mathlib.Core.Logic.{_↔_}
 use mathlib.Core.List.{List, [], _∷_, _++_, map, map-map, List·Memᴰ as In, List·Memᴰ·head as here, List·Memᴰ·tail as there}
 use native.Mathlib.Omega.{arith}
@@ -14,7 +14,7 @@ use Rattle.basics.specs.Sets.{member, Asc}
 use Rattle.refusals.specs.Refusal.{done, short-scratch, blank-key, key-absent, short-trail, first-refusal}
 use Rattle.tabulation.specs.Hash.{blank}
 use Rattle.layout.specs.Entries.{Entry, keys-of}
-use Rattle.layout.specs.Layout.{Params, station-of, scratch-length}
+use Rattle.layout.specs.Layout.{Params, another-issue, station-of, scratch-length}
 use Rattle.layout.specs.Image.{image-station}
 use Rattle.layout.specs.Canonical.{image-of-keys}
 use Rattle.layout.specs.Answers.{looked-up}
@@ -24,7 +24,7 @@ use Rattle.counters.specs.declared.Counters.{Counters}
 use Rattle.outcome.specs.Laws.{change-tabulation}
 use Rattle.outcome.specs.Trail.{trail-of, trail-outcome}
 use Rattle.outcome.specs.TrailLaws.{trail-done, held-asked, held-trail}
-use Rattle.outcome.specs.Held.{held-some, held-undone, insert-kept}
+use Rattle.outcome.specs.Held.{issue-absent, held-some, held-undone, insert-kept}
 use Rattle.history.specs.Calls.{Lent, own, wrong, lent-of, Other, Call, Answer, Step, step, run, words-left}
 use Rattle.history.specs.Calls.{MayStand, Allowed, none, more, Sequence}
 use Rattle.history.specs.Model.{Request, request, requests, Reply, lookup-tests, reply, model, set-left}
@@ -130,6 +130,11 @@ module _ {P : Params} {ws : List ℕ} {cs : List Call} (q : Sequence P ws cs) wh
   unfolding step
   undone own scratch scratch′ counters counters′ key tier e room = held-undone (history q .final) (q .full-length) scratch scratch′ tier key e room
   undone (wrong u n) scratch scratch′ counters counters′ key tier e room = absurd (omega (arith, change-tabulation u W scratch (Insert tier) key n))
+
+-- "13 (another issue is listed) .. never together with 10 or 6": where the register's set has another issue of a key, it does not have the key.
+pub issue-excludes : {P : Params} {ws : List ℕ} {cs : List Call} → Sequence P ws cs → (key : ℕ)
+    → another-issue key (keys-of (set-left P ws cs)) ≡ true → member key (keys-of (set-left P ws cs)) ≡ false
+issue-excludes q key a = issue-absent (history q .final) key a
 
 -- What a trail answers at the end of a sequence: it tries its refusals as the register would, "the set" being the register's, and shows the trail of that set. So
 -- two sequences that end in one set show the same trails.

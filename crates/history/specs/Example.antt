@@ -21,7 +21,7 @@ use Rattle.tabulation.specs.Hash.{slots-in-range, station-in-range, blank, hash
 use Rattle.tabulation.specs.Answer.{hashes-refusal, hashes-values}
 use Rattle.tabulation.specs.Slots.{slot-0, slot-1}
 use Rattle.layout.specs.Entries.{Entry, keys-of, tier-of}
-use Rattle.layout.specs.Layout.{Params, family, sizes-in-range, params-in-range, shaped, stash-of, fits, image, place-words, place-entries, tier-in}
+use Rattle.layout.specs.Layout.{Params, another-issue, family, sizes-in-range, params-in-range, shaped, stash-of, fits, image, place-words, place-entries, tier-in}
 use Rattle.layout.specs.Answers.{view-refusal, view-of, fresh-refusal, fresh-words}
 use Rattle.layout.specs.Fitting.{without-valid, without-fits}
 use Rattle.layout.specs.Look.{image-view}
@@ -71,36 +71,38 @@ count = Call.other (reads (λ ws. says 0 (getD ws 2 0 ∷ [])))
 abbrev pub script : List (Call × Answer)
 script =
     -- K5, one key after the other, with the tiers 3, 0 and 7
-    (insert 1 3, says 0 [])
-    ∷ (insert 65 0, says 0 [])
-    ∷ (insert 129 7, says 0 [])
-    -- "K6 K5 plus 193: refused 8"
-    ∷ (insert 193 0, says 8 [])
+    (insert 10 3, says 0 [])
+    ∷ (insert 650 0, says 0 [])
+    ∷ (insert 1290 7, says 0 [])
+    -- "K6 K5 plus 193: refused 8", times ten
+    ∷ (insert 1930 0, says 8 [])
     -- a call of another kind that is accepted and leaves the words
     ∷ (count, says 0 (3 ∷ []))
-    -- two more: the trail of 65, over three words that are lent for it, is 65, 1; with one word it is refused 11
-    ∷ (Call.other (trail board-tabulation scratch 65 (8 ∷ 8 ∷ 8 ∷ [])), says 0 (2 ∷ 65 ∷ 1 ∷ 0 ∷ []))
-    ∷ (Call.other (trail board-tabulation scratch 65 (8 ∷ [])), says 11 (8 ∷ []))
+    -- two more: the trail of 650, over three words that are lent for it, is 650, 10; with one word it is refused 11
+    ∷ (Call.other (trail board-tabulation scratch 650 (8 ∷ 8 ∷ 8 ∷ [])), says 0 (2 ∷ 650 ∷ 10 ∷ 0 ∷ []))
+    ∷ (Call.other (trail board-tabulation scratch 650 (8 ∷ [])), says 11 (8 ∷ []))
     -- a tabulation of a wrong length, a scratch of 55 words, a blank key (whatever its tier), a tier above 7 (whatever the
-    -- key), a key that is in the set with another tier, and with this one
-    ∷ (Call.change (Insert 1) (wrong [] (λ e. omega arith)) scratch counters 17, says 1 [])
-    ∷ (Call.change (Insert 1) own (replicate 55 9) counters 17, says 3 [])
-    ∷ (insert 0 8, says 5 [])
-    ∷ (insert 129 8, says 9 [])
-    ∷ (insert 129 6, says 10 [])
-    ∷ (insert 129 7, says 6 [])
+    -- key), another issue of a key of the set (though the stash is full), a key that is in the set with another tier, and
+    -- with this one
+    ∷ (Call.change (Insert 1) (wrong [] (λ e. omega arith)) scratch counters 170, says 1 [])
+    ∷ (Call.change (Insert 1) own (replicate 55 9) counters 170, says 3 [])
+    ∷ (insert 9 8, says 5 [])
+    ∷ (insert 1290 8, says 9 [])
+    ∷ (insert 1291 7, says 13 [])
+    ∷ (insert 1290 6, says 10 [])
+    ∷ (insert 1290 7, says 6 [])
     -- "any other call on it may stand there if it is refused": init with station 256
     ∷ (Call.other (init 4 1 256), says 2 [])
-    -- another one that is accepted: the hashes of 65, "0.1" and "1.0"
-    ∷ (Call.other (hashes (family P) 65), says 0 (1 ∷ 0 ∷ []))
-    -- tier 0, tier 7, and not listed
-    ∷ (Call.lookup own 65, says 0 (1 ∷ 0 ∷ []))
-    ∷ (Call.lookup own 129, says 0 (1 ∷ 7 ∷ []))
-    ∷ (Call.lookup own 193, says 0 (0 ∷ []))
-    ∷ (remove 7, says 7 [])
+    -- another one that is accepted: the hashes of 650, "0.1" and "1.0"
+    ∷ (Call.other (hashes (family P) 650), says 0 (1 ∷ 0 ∷ []))
+    -- tier 0, tier 7, and not listed; a removal wants the exact issue
+    ∷ (Call.lookup own 650, says 0 (1 ∷ 0 ∷ []))
+    ∷ (Call.lookup own 1290, says 0 (1 ∷ 7 ∷ []))
+    ∷ (Call.lookup own 1930, says 0 (0 ∷ []))
+    ∷ (remove 651, says 7 [])
     ∷ (Call.check own scratch, says 0 [])
-    -- "drawer 129", "both words of each filled place"
-    ∷ (Call.view, says 0 (129 ∷ 7 ∷ []))
+    -- "drawer 129", times ten, "both words of each filled place"
+    ∷ (Call.view, says 0 (1290 ∷ 7 ∷ []))
     ∷ []
 
 abbrev pub calls : List Call
@@ -115,20 +117,20 @@ fresh = 4 ∷ 1 ∷ 0 ∷ 0 ∷ 0 ∷ 0 ∷ 0 ∷ 0 ∷ 0 ∷ 0 ∷ 0 ∷ 0 ∷ 
 
 -- the set with which it ends, and its words: K5
 abbrev one : Entry
-one = record { key = 1; tier = 3 }
+one = record { key = 10; tier = 3 }
 
 abbrev two : Entry
-two = record { key = 65; tier = 0 }
+two = record { key = 650; tier = 0 }
 
 abbrev three : Entry
-three = record { key = 129; tier = 7 }
+three = record { key = 1290; tier = 7 }
 
 abbrev pub entries : List Entry
 entries = one ∷ two ∷ three ∷ []
 
 abbrev pub words : List ℕ
 words =
-    4 ∷ 1 ∷ 3 ∷ 1 ∷ 0 ∷ 0 ∷ 0 ∷ 0 ∷ 1 ∷ 65 ∷ 3 ∷ 0 ∷ 0 ∷ 0 ∷ 0 ∷ 0 ∷ 0 ∷ 65 ∷ 1 ∷ 0 ∷ 0 ∷ 0 ∷ 0 ∷ 0 ∷ 0 ∷ 0 ∷ 0 ∷ 0 ∷ 0 ∷ 129 ∷ 7 ∷ []
+    4 ∷ 1 ∷ 3 ∷ 1 ∷ 0 ∷ 0 ∷ 0 ∷ 0 ∷ 10 ∷ 650 ∷ 3 ∷ 0 ∷ 0 ∷ 0 ∷ 0 ∷ 0 ∷ 0 ∷ 650 ∷ 10 ∷ 0 ∷ 0 ∷ 0 ∷ 0 ∷ 0 ∷ 0 ∷ 0 ∷ 0 ∷ 0 ∷ 0 ∷ 1290 ∷ 7 ∷ []
 
 -- Init with station 256 is refused on any words, so it may stand in a sequence.
 init-refused : (ws : List ℕ) → fresh-refusal (length ws) 4 1 256 ≡ done → ⊥
@@ -142,14 +144,14 @@ init-more {ws} rest = more (refused (init-refused ws)) rest
 
 -- The calls that leave the words may stand anywhere.
 trail-more : {ws : List ℕ} (sheet : List ℕ) {cs : List Call}
-    → Allowed board-tabulation (step board-tabulation ws (Call.other (trail board-tabulation scratch 65 sheet)) .words) cs
-    → Allowed board-tabulation ws (Call.other (trail board-tabulation scratch 65 sheet) ∷ cs)
-trail-more {ws} sheet rest = more (trail-stands board-tabulation ws scratch 65 sheet) rest
+    → Allowed board-tabulation (step board-tabulation ws (Call.other (trail board-tabulation scratch 650 sheet)) .words) cs
+    → Allowed board-tabulation ws (Call.other (trail board-tabulation scratch 650 sheet) ∷ cs)
+trail-more {ws} sheet rest = more (trail-stands board-tabulation ws scratch 650 sheet) rest
 
 may-stand : Allowed board-tabulation fresh calls
 may-stand =
     let rest = more (unchanged refl) (more tt (more tt (more tt (more tt (more tt (more tt none)))))) in
-    let middle = more tt (more tt (more tt (more tt (more tt (more tt (init-more rest)))))) in
+    let middle = more tt (more tt (more tt (more tt (more tt (more tt (more tt (init-more rest))))))) in
     more tt (more tt (more tt (more tt (more (unchanged refl) (trail-more (8 ∷ 8 ∷ 8 ∷ []) (trail-more (8 ∷ []) middle))))))
 
 -- It is a sequence: the list had 31 words, all 7, before it was laid.
@@ -164,22 +166,22 @@ K5 : Shown 4 1 entries words
 K5 = board-rows (shows 4 1 entries words) (there (there (there (there (there (here refl))))))
 
 -- so its parts fit, too;
-fits-two : fits P (1 ∷ 65 ∷ []) ≡ true
+fits-two : fits P (10 ∷ 650 ∷ []) ≡ true
 unfolding without
-fits-two = without-fits P (K5 .valid .keys) 129 (K5 .fit)
+fits-two = without-fits P (K5 .valid .keys) 1290 (K5 .fit)
 
-fits-one : fits P (1 ∷ []) ≡ true
+fits-one : fits P (10 ∷ []) ≡ true
 unfolding without
-fits-one = without-fits P (without-valid 129 (K5 .valid .keys)) 65 fits-two
+fits-one = without-fits P (without-valid 1290 (K5 .valid .keys)) 650 fits-two
 
--- K5 with 193 does not;
-K6 : Full 4 1 (plain (1 ∷ 65 ∷ 129 ∷ 193 ∷ []))
+-- K5 with 1930 does not;
+K6 : Full 4 1 (plain (10 ∷ 650 ∷ 1290 ∷ 1930 ∷ []))
 K6 =
-    board-rows (full 4 1 (plain (1 ∷ 65 ∷ 129 ∷ 193 ∷ [])))
+    board-rows (full 4 1 (plain (10 ∷ 650 ∷ 1290 ∷ 1930 ∷ [])))
     (there (there (there (there (there (there (there (here refl))))))))
 
 -- and the words of K5 say its stash.
-stash-K5 : place-words (tier-of entries) (stash-of P (keys-of entries)) ≡ 129 ∷ 7 ∷ []
+stash-K5 : place-words (tier-of entries) (stash-of P (keys-of entries)) ≡ 1290 ∷ 7 ∷ []
 unfolding view-of view-refusal shaped params-in-range sizes-in-range slots-in-range station-in-range
 stash-K5 = sym (image-view P entries (K5 .fit) refl) ∙ (rw (K5 .words-are))
 
@@ -203,20 +205,20 @@ to n values L = record { answer = says n values; set = L }
 -- here the first three calls,
 goes-first : {qs : List Request} {ms : List Reply} {M : List Entry} → Goes entries qs ms M
     → Goes []
-    (Request.change (Insert 3) own 56 1 ∷ Request.change (Insert 0) own 56 65 ∷ Request.change (Insert 7) own 56 129 ∷ qs)
+    (Request.change (Insert 3) own 56 10 ∷ Request.change (Insert 0) own 56 650 ∷ Request.change (Insert 7) own 56 1290 ∷ qs)
     (to 0 [] (one ∷ []) ∷ to 0 [] (one ∷ two ∷ []) ∷ to 0 [] entries ∷ ms)
     M
-unfolding reply with-key below above blank
+unfolding reply with-key below above blank another-issue
 goes-first g =
     next (rw (board-length, fits-one)) (next (rw (board-length, fits-two)) (next (rw (board-length, K5 .fit)) g))
 
 -- the fourth, after which the words are those of K5 still, so that they say 3 keys,
 abbrev first-four : List Call
-first-four = insert 1 3 ∷ insert 65 0 ∷ insert 129 7 ∷ insert 193 0 ∷ []
+first-four = insert 10 3 ∷ insert 650 0 ∷ insert 1290 7 ∷ insert 1930 0 ∷ []
 
 goes-fourth : {qs : List Request} {ms : List Reply} {M : List Entry} → Goes entries qs ms M
-    → Goes entries (Request.change (Insert 0) own 56 193 ∷ qs) (to 8 [] entries ∷ ms) M
-unfolding reply with-key below above blank
+    → Goes entries (Request.change (Insert 0) own 56 1930 ∷ qs) (to 8 [] entries ∷ ms) M
+unfolding reply with-key below above blank another-issue
 goes-fourth g = next (rw (board-length, K6 .unfit)) g
 
 four-words : words-left P fresh first-four ≡ words
@@ -228,16 +230,16 @@ four-words =
 count-says : getD (words-left P fresh first-four) 2 0 ≡ 3
 count-says = rw four-words
 
--- in K5 the trail of 65 is 65, 1, so that three words do for it and one does not,
-trail-says : (trail-in board-tabulation (words-left P fresh first-four) 65 ≡ 65 ∷ 1 ∷ [])
-    × ((trail-refusal board-tabulation (words-left P fresh first-four) scratch 65 3 ≡ 0)
-    × (trail-refusal board-tabulation (words-left P fresh first-four) scratch 65 1 ≡ 11))
+-- in K5 the trail of 650 is 650, 10, so that three words do for it and one does not,
+trail-says : (trail-in board-tabulation (words-left P fresh first-four) 650 ≡ 650 ∷ 10 ∷ [])
+    × ((trail-refusal board-tabulation (words-left P fresh first-four) scratch 650 3 ≡ 0)
+    × (trail-refusal board-tabulation (words-left P fresh first-four) scratch 650 1 ≡ 11))
 unfolding params-in-range sizes-in-range slots-in-range station-in-range blank without label joined component onCycle cyclic spare settle seated root sits occupant other trail-from cuckoo-trail.trail
 trail-says =
-    let p = shown-trail refl K5 scratch (omega arith) 65 refl refl refl in
+    let p = shown-trail refl K5 scratch (omega arith) 650 refl refl refl in
     rw four-words (p .0, (p .1 3, p .1 1))
 
-hashes-say : (hashes-refusal (family P) 65 ≡ 0) × (hashes-values (family P) 65 ≡ 1 ∷ 0 ∷ [])
+hashes-say : (hashes-refusal (family P) 650 ≡ 0) × (hashes-values (family P) 650 ≡ 1 ∷ 0 ∷ [])
 unfolding hashes-refusal hashes-values slots-in-range station-in-range hash blank board-tabulation
 hashes-say = (refl, refl)
 
@@ -249,7 +251,7 @@ goes : Goes []
     ∷ to 0 [] (one ∷ two ∷ [])
     ∷ map (λ (row : Call × Answer). record { answer = row .1; set = entries }) (drop 2 script))
     entries
-unfolding requests words-after step fresh-refusal params-in-range sizes-in-range slots-in-range station-in-range reply with-key below above blank trail-outcome
+unfolding requests words-after step fresh-refusal params-in-range sizes-in-range slots-in-range station-in-range reply with-key below above blank another-issue trail-outcome
 goes =
     goes-first
     (goes-fourth
@@ -257,6 +259,7 @@ goes =
     (next (rw (trail-says .1 .0, trail-says .0))
     (next (rw (trail-says .1 .1))
     (next refl
+    (next (rw board-length)
     (next (rw board-length)
     (next (rw board-length)
     (next (rw board-length)
@@ -270,7 +273,7 @@ goes =
     (next (rw board-length)
     (next (rw board-length)
     (next (rw stash-K5)
-    (stop entries)))))))))))))))))))
+    (stop entries))))))))))))))))))))
 
 -- what the calls answer, through the theorem
 
@@ -291,32 +294,32 @@ words-are = history sequence .final .is .is ∙ (ap (image P) set-is ∙ K5 .wor
 pub leaves-no-trace : NoTrace P fresh calls
 leaves-no-trace = no-trace sequence
 
--- The insert of 193 came to the test of 8 and was refused by it, so no placement of K5 with 193 exists.
+-- The insert of 1930 came to the test of 8 and was refused by it, so no placement of K5 with 1930 exists.
 abbrev first-three : List Call
-first-three = insert 1 3 ∷ insert 65 0 ∷ insert 129 7 ∷ []
+first-three = insert 10 3 ∷ insert 650 0 ∷ insert 1290 7 ∷ []
 
 first-set : set-left P fresh first-three ≡ entries
 unfolding requests
 first-set = goes-first (stop entries) .set
 
-comes : ComesToFull P entries own 56 193 0
-unfolding blank
-comes = record { right-length = rw board-length; long-enough = refl; not-blank = refl; small-tier = omega arith; absent = refl }
+comes : ComesToFull P entries own 56 1930 0
+unfolding blank another-issue
+comes = record { right-length = rw board-length; long-enough = refl; not-blank = refl; small-tier = omega arith; no-other = refl; absent = refl }
 
-refused-eight : step-after P fresh first-three (insert 193 0) .answer .number ≡ stash-full
+refused-eight : step-after P fresh first-three (insert 1930 0) .answer .number ≡ stash-full
 unfolding run words-after
 refused-eight = ap (λ (all : List Answer). getD all 3 (says 0 []) .number) answers-are
 
-pub no-place : Placement (slot-0 (family P)) (slot-1 (family P)) 1 (1 ∷ 65 ∷ 129 ∷ 193 ∷ []) → ⊥
+pub no-place : Placement (slot-0 (family P)) (slot-1 (family P)) 1 (10 ∷ 650 ∷ 1290 ∷ 1930 ∷ []) → ⊥
 unfolding with-key below above
 no-place =
-    let exactly = leaves-no-trace .full first-three (drop 4 calls) own scratch counters 193 0 refl (rw first-set comes) in
+    let exactly = leaves-no-trace .full first-three (drop 4 calls) own scratch counters 1930 0 refl (rw first-set comes) in
     rw first-set at (exactly .0 refused-eight)
 
 -- A sequence with another past: other keys first, one of them with another tier until it is removed, and nothing refused.
 -- It leaves the same words,
 abbrev pub other-calls : List Call
-other-calls = insert 129 2 ∷ insert 65 0 ∷ remove 129 ∷ insert 1 3 ∷ insert 129 7 ∷ []
+other-calls = insert 1290 2 ∷ insert 650 0 ∷ remove 1290 ∷ insert 10 3 ∷ insert 1290 7 ∷ []
 
 pub other-sequence : Sequence P fresh other-calls
 unfolding fresh-refusal fresh-words params-in-range sizes-in-range slots-in-range station-in-range
@@ -329,11 +332,11 @@ other-sequence = record {
 }
 
 pub other-set : set-left P fresh other-calls ≡ entries
-unfolding requests reply with-key below above blank without
+unfolding requests reply with-key below above blank another-issue without
 other-set =
-    let last-two : fits P (65 ∷ 129 ∷ []) ≡ true = without-fits P (K5 .valid .keys) 1 (K5 .fit) in
-    let last-one : fits P (129 ∷ []) ≡ true = without-fits P (without-valid 1 (K5 .valid .keys)) 65 last-two in
-    let early : Entry = record { key = 129; tier = 2 } in
+    let last-two : fits P (650 ∷ 1290 ∷ []) ≡ true = without-fits P (K5 .valid .keys) 10 (K5 .fit) in
+    let last-one : fits P (1290 ∷ []) ≡ true = without-fits P (without-valid 10 (K5 .valid .keys)) 650 last-two in
+    let early : Entry = record { key = 1290; tier = 2 } in
     let sets : List (List Entry) = (early ∷ []) ∷ (two ∷ early ∷ []) ∷ (two ∷ []) ∷ (one ∷ two ∷ []) ∷ entries ∷ [] in
     let g : Goes [] (requests board-tabulation fresh other-calls) (map (to 0 []) sets) entries =
     next (rw (board-length, last-one))
@@ -351,18 +354,18 @@ same-then ds = leaves-no-trace .same-later other-sequence (set-is ∙ sym other-
 
 -- a sale
 
--- At the end of the first sequence a sale of 129 is opened, at a base price of 15,000 and with a step of -500 for its tier, 7:
+-- At the end of the first sequence a sale of 1290 is opened, at a base price of 15,000 and with a step of -500 for its tier, 7:
 abbrev pub steps : List ℤ
 steps = pos 0 ∷ pos 0 ∷ pos 0 ∷ negsuc 249 ∷ pos 0 ∷ pos 20 ∷ pos 0 ∷ negsuc 499 ∷ []
 
 abbrev pub sale : Sale
-sale = record { key = 129; tier = 7; price = 14500 }
+sale = record { key = 1290; tier = 7; price = 14500 }
 
-pub sale-opened : step-after P fresh calls (Call.other (opening board-tabulation 129 15000 steps)) .answer ≡ says 0 (129 ∷ 7 ∷ 14500 ∷ [])
+pub sale-opened : step-after P fresh calls (Call.other (opening board-tabulation 1290 15000 steps)) .answer ≡ says 0 (1290 ∷ 7 ∷ 14500 ∷ [])
 unfolding step sale-refusal sale-values sale-of unpriced all-in-range tier-in place-entries shaped params-in-range sizes-in-range slots-in-range station-in-range hash blank board-tabulation
 sale-opened = rw words-are
 
--- 129 is withdrawn; closing the sale gives 14,500.
-pub sale-closed : step-after P fresh (calls ++ (Call.other (opening board-tabulation 129 15000 steps) ∷ remove 129 ∷ [])) (Call.other (closing sale)) .answer
+-- 1290 is withdrawn; closing the sale gives 14,500.
+pub sale-closed : step-after P fresh (calls ++ (Call.other (opening board-tabulation 1290 15000 steps) ∷ remove 1290 ∷ [])) (Call.other (closing sale)) .answer
     ≡ says 0 (14500 ∷ [])
-sale-closed = sale-stays sequence 129 15000 steps sale sale-opened .closing-says (remove 129 ∷ [])
+sale-closed = sale-stays sequence 1290 15000 steps sale sale-opened .closing-says (remove 1290 ∷ [])

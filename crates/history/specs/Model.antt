@@ -7,11 +7,11 @@ use lib.Dec.{eqb, ltb}
 use lib.ListN.{length}
 use Rattle.basics.specs.Sets.{member}
 use Rattle.ordered.specs.Keys.{with-key}
-use Rattle.refusals.specs.Refusal.{done, wrong-tabulation, short-scratch, blank-key, key-present, key-absent, stash-full, wrong-tier, other-tier}
+use Rattle.refusals.specs.Refusal.{done, wrong-tabulation, short-scratch, blank-key, key-present, key-absent, stash-full, wrong-tier, other-tier, other-issue}
 use Rattle.refusals.specs.Refusal.{first-refusal}
 use Rattle.tabulation.specs.Hash.{tabulation-length, blank}
 use Rattle.layout.specs.Entries.{Entry, max-tier, keys-of, tier-of}
-use Rattle.layout.specs.Layout.{Params, stash-of, scratch-length, fits, place-words}
+use Rattle.layout.specs.Layout.{Params, another-issue, stash-of, scratch-length, fits, place-words}
 use Rattle.outcome.specs.declared.Change.{Change}
 use Rattle.outcome.specs.declared.Change.the-variants.{Insert, Remove}
 use Rattle.history.specs.Calls.{Lent, lent-of, Call, Answer, step}
@@ -65,13 +65,14 @@ module _ (P : Params) where
   abbrev pub too-short : ℕ → Bool
   too-short n = ltb n (scratch-length (P .slots) (P .places))
 
-  -- "9 (tier above 7) after 5; 10 (add of a listed card with another tier) just before 6"
+  -- "9 (tier above 7) after 5; 10 (add of a listed card with another tier) just before 6"; "13 (another issue is listed) just before 10"
   abbrev pub change-tests : Change → Lent → ℕ → ℕ → List Entry → List (ℕ × Bool)
   change-tests (Insert tier) l n key L =
       (wrong-tabulation, wrong-length l)
       ∷ (short-scratch, too-short n)
       ∷ (blank-key, blank key)
       ∷ (wrong-tier, ltb max-tier tier)
+      ∷ (other-issue, another-issue key (keys-of L))
       ∷ (other-tier, member key (keys-of L) && not (eqb (tier-of L key) tier))
       ∷ (key-present, member key (keys-of L))
       ∷ (stash-full, not (fits P (with-key key (keys-of L))))

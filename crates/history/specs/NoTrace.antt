@@ -14,12 +14,12 @@ use Rattle.basics.specs.Tests.{test}
 use Rattle.basics.specs.Sets.{member}
 use Rattle.cuckoo.specs.Placement.{Placement}
 use Rattle.ordered.specs.Keys.{with-key}
-use Rattle.refusals.specs.Refusal.{done, wrong-tabulation, short-scratch, blank-key, key-present, stash-full, wrong-tier, other-tier}
+use Rattle.refusals.specs.Refusal.{done, wrong-tabulation, short-scratch, blank-key, key-present, stash-full, wrong-tier, other-tier, other-issue}
 use Rattle.refusals.specs.Refusal.{first-refusal, none, and, front-passes, front-none}
 use Rattle.tabulation.specs.Hash.{blank}
 use Rattle.tabulation.specs.Slots.{slot-0, slot-1}
 use Rattle.layout.specs.Entries.{Entry, max-tier, keys-of, tier-of}
-use Rattle.layout.specs.Layout.{Params, family, scratch-length, fits, image}
+use Rattle.layout.specs.Layout.{Params, another-issue, family, scratch-length, fits, image}
 use Rattle.layout.specs.Canonical.{image-one}
 use Rattle.outcome.specs.declared.Change.the-variants.{Insert}
 use Rattle.counters.specs.declared.Counters.{Counters}
@@ -35,13 +35,14 @@ use Rattle.history.specs.Others.{other-like}
 use Rattle.history.specs.History.{Follows, history}
 
 -- "A call that comes to the full-drawer rule": an insert to which none of the register's refusals before 8 applies, L
--- being the register's set. They are 1, 3, 5, 9, 10 and 6, the last two for a key of the set; "2 and 4 never do". By the
+-- being the register's set. They are 1, 3, 5, 9, 13, 10 and 6, the last two for a key of the set; "2 and 4 never do". By the
 -- law `comes-answers` these are exactly the inserts that answer 0 or 8.
 pub record ComesToFull (P : Params) (L : List Entry) (l : Lent) (scratch-size key tier : ℕ) : Type 0 where
   pub right-length : wrong-length P l ≡ false
   pub long-enough : too-short P scratch-size ≡ false
   pub not-blank : blank key ≡ false
   pub small-tier : tier ≤ max-tier
+  pub no-other : another-issue key (keys-of L) ≡ false
   pub absent : member key (keys-of L) ≡ false
 
 -- What the call c answers and leaves that comes after the calls cs: that step of the run, by the law `run-at`.
@@ -168,7 +169,7 @@ module _ {P : Params} {ws : List ℕ} {cs : List Call} (q : Sequence P ws cs)
   abbrev before-full : List (ℕ × Bool)
   before-full =
       (wrong-tabulation, wrong-length P l) ∷ (short-scratch, too-short P (length scratch)) ∷ (blank-key, blank key)
-      ∷ (wrong-tier, ltb max-tier tier) ∷ (other-tier, member key (keys-of L) && not (eqb (tier-of L key) tier))
+      ∷ (wrong-tier, ltb max-tier tier) ∷ (other-issue, another-issue key (keys-of L)) ∷ (other-tier, member key (keys-of L) && not (eqb (tier-of L key) tier))
       ∷ (key-present, member key (keys-of L)) ∷ []
 
   abbrev full-test : List (ℕ × Bool)
@@ -178,13 +179,19 @@ module _ {P : Params} {ws : List ℕ} {cs : List Call} (q : Sequence P ws cs)
   come h =
       insert-number
       ∙ front-passes before-full full-test (and (h .right-length) (and (h .long-enough) (and (h .not-blank)
-      (and (le-ltb max-tier tier (h .small-tier)) (and (rw (h .absent)) (and (h .absent) none))))))
+      (and (le-ltb max-tier tier (h .small-tier)) (and (h .no-other) (and (rw (h .absent)) (and (h .absent) none)))))))
 
   came : (answer ≡ done) ⊎ (answer ≡ stash-full) → ComesToFull P L l (length scratch) key tier
   came d =
       elim (front-none before-full full-test (sym insert-number) (elim d [ inl e ↦ rw e | inr e ↦ rw e ])) [
-        | and a (and b (and c (and s (and o (and m none))))) ↦
-            record { right-length = a; long-enough = b; not-blank = c; small-tier = ltb-false max-tier tier s; absent = m }
+        | and a (and b (and c (and s (and i (and o (and m none)))))) ↦ record {
+          right-length = a;
+          long-enough = b;
+          not-blank = c;
+          small-tier = ltb-false max-tier tier s;
+          no-other = i;
+          absent = m;
+        }
       ]
 
   -- An insert comes to the test of 8 exactly if it answers 0 or 8: if none of the refusals before 8 is given.
@@ -203,7 +210,7 @@ pub full-insert : {P : Params} {ws : List ℕ} {cs : List Call} → Sequence P w
 unfolding step
 full-insert {P} q own scratch counters key tier h =
     let room : scratch-length (P .slots) (P .places) ≤ length scratch = ltb-false (length scratch) _ (h .long-enough) in
-    held-full (history q .final) (q .full-length) scratch room key (h .not-blank) tier (h .small-tier) (h .absent)
+    held-full (history q .final) (q .full-length) scratch room key (h .not-blank) tier (h .small-tier) (h .no-other) (h .absent)
 full-insert {P} q (wrong t n) scratch counters key tier h = absurd (true≢false (sym (wrong-lent P t n) ∙ h .right-length))
 
 -- THE theorem of demand 3: no past leaves a trace.
