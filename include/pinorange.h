@@ -7,6 +7,9 @@
  * The tier of a key is a number from 0 to PINORANGE_MAX_TIER: the price tier of a card. It is given when the key is inserted and stands beside it in the
  * words. It has no part in where a key sits: two sets of the same keys with other tiers differ in the tier words alone.
  *
+ * The last decimal digit of a key is its issue: a card that is made again has the same first part, PINORANGE_FIRST_PART(key), and another digit. A set has at
+ * most one issue of each first part, and keys below 10, which have none, are blank. Issues of one first part have the same two slots. Every call means the exact key.
+ *
  * The station number, 0 to PINORANGE_MAX_STATION, is given when a dictionary is laid and stands in its words (word 4). It has a part in where every key sits, so
  * that a fleet which crowds the slots at one station is spread otherwise at the next. Every other call takes it from the words. Two dictionaries of one set, with one
  * tabulation, r, s and station, have the same words; those of two stations never do.
@@ -14,7 +17,7 @@
  * What the caller sees to: no pointer is null (a length of 0 needs one, too), pointers are aligned, and no two lent pieces of memory overlap. One
  * tabulation goes with a dictionary; under another its words are, in general, the image of no set (4). No call keeps state of its own. The promises hold when
  * a call returns: let nothing else touch the same words or scratch meanwhile. After a reset in the middle of a call, zero the scratch, and check.
- * "The set" is the set whose canonical image the words are, under the lent tabulation: keys, each with one tier. */
+ * "The set" is the set whose canonical image the words are, under the lent tabulation: keys, one issue of each first part, each with one tier. */
 #ifndef PINORANGE_H
 #define PINORANGE_H
 
@@ -24,12 +27,13 @@
 extern "C" {
 #endif
 
-/* The other numbers that a call answers. A call tries those that it can give in the order 1, 2, 3, 4, 5, 9, 10, 6, 7, 11, 12, 8; only the opening of a sale
+/* The other numbers that a call answers. A call tries those that it can give in the order 1, 2, 3, 4, 5, 9, 13, 10, 6, 7, 11, 12, 8; only the opening of a sale
  * tries 4 behind 7. Of a call on words, PINORANGE_WRONG_SHAPE (2) says: there are fewer than 5 words, word 0 (r) is not 1 to 1,024, word 1 (s) is above 64, word 4
  * (the station) is above 255, or there are not PINORANGE_WORDS(r, s). */
 #define PINORANGE_SHORT_SCRATCH 3u /* the scratch is shorter than PINORANGE_SCRATCH(r, s) */
 #define PINORANGE_NOT_CANONICAL 4u /* under the lent tabulation the words are the canonical image of no set; of a sale: the tier found is above 7 */
 #define PINORANGE_WRONG_TIER 9u    /* insert with a tier above PINORANGE_MAX_TIER */
+#define PINORANGE_OTHER_ISSUE 13u  /* insert of a key of which the set has another issue, which stays */
 #define PINORANGE_OTHER_TIER 10u   /* insert of a key that is in the set with another tier, which it keeps */
 #define PINORANGE_KEY_PRESENT 6u   /* insert of a key that is in the set with this tier */
 #define PINORANGE_KEY_ABSENT 7u    /* remove or trail of a key that is not in the set, sale of one that lookup does not find */
@@ -62,15 +66,17 @@ uint32_t pinorange_init(uint32_t *words, size_t words_length, uint32_t r, uint32
                         struct pinorange_counters *counters);
 
 /* Puts a key with its tier into the set. Done (0): the words are the canonical image of the set with the key at this tier, in every word.
- * Refused (1, 2, 3, 4, 5, 9, 10, 6 or 8, tried in that order): the words stay. 8 exactly when there is no way at all to give each key of the new set one of
+ * Refused (1, 2, 3, 4, 5, 9, 13, 10, 6 or 8, tried in that order): the words stay. 8 exactly when there is no way at all to give each key of the new set one of
  * its two slots or one of the s stash places, no slot two keys.
+ * An insert never takes the place of another issue: 13, whatever the tiers, and never where 10 or 6 would apply. To list a card that was made again, remove the
+ * issue that is listed and insert the new one; the same set fits again.
  * An insert never changes the tier of a key that is in the set: with the tier that it has it is refused with 6, with another with 10. To change a tier,
  * remove the key and insert it with the new one; the same keys fit again.
  * The scratch is zero over its full length afterwards, refused or not; its old content has no effect. The counters move on by one. */
 uint32_t pinorange_insert(const uint16_t *tabulation, size_t tabulation_length, uint32_t *words, size_t words_length,
                           uint32_t *scratch, size_t scratch_length, struct pinorange_counters *counters, uint32_t key, uint32_t tier);
 
-/* Takes a key out of the set, whatever its tier. Done (0): the words are the canonical image of the set without the key, in every word.
+/* Takes a key out of the set, this issue and whatever its tier. Done (0): the words are the canonical image of the set without the key, in every word.
  * Refused (1 to 5 or 7, tried in that order): the words stay. Scratch and counters as for insert. */
 uint32_t pinorange_remove(const uint16_t *tabulation, size_t tabulation_length, uint32_t *words, size_t words_length,
                           uint32_t *scratch, size_t scratch_length, struct pinorange_counters *counters, uint32_t key);
@@ -79,7 +85,7 @@ uint32_t pinorange_remove(const uint16_t *tabulation, size_t tabulation_length, 
 uint32_t pinorange_check(const uint16_t *tabulation, size_t tabulation_length, const uint32_t *words, size_t words_length,
                          uint32_t *scratch, size_t scratch_length);
 
-/* Whether a key is in the dictionary, and its tier.
+/* Whether a key is in the dictionary, this issue of it, and its tier.
  *
  * Reads: the tabulation and the words, of any length and content. Writes: nothing but `*listed` and `*tier`.
  * Done (0): if the key stands in one of its two slots or in the stash, `*listed` is 1 and `*tier` the tier word there; else `*listed` is 0 and `*tier` stays

@@ -14,24 +14,27 @@ extern "C" {
 #endif
 
 /* The version of the library and of the layout of the words. Heads whose first numbers differ must not be mixed: see CHANGELOG.md. */
-#define PINORANGE_VERSION "3.0.0"
+#define PINORANGE_VERSION "4.0.0"
 
 /* The numbers that a call answers. */
 #define PINORANGE_DONE 0u             /* accepted */
 #define PINORANGE_WRONG_TABULATION 1u /* the tabulation is not 2,560 entries long */
 #define PINORANGE_WRONG_SHAPE 2u      /* here: r is not 1 to 1,024, or the station is above 255 */
-#define PINORANGE_BLANK_KEY 5u        /* the key is 0 */
+#define PINORANGE_BLANK_KEY 5u        /* the key is below 10: it has no first part */
 
 #define PINORANGE_TABULATION_LENGTH 2560u /* entries of a tabulation: 1,280 for table 0, then 1,280 for table 1 */
 #define PINORANGE_MAX_SLOTS 1024u         /* the largest r */
 #define PINORANGE_MAX_STATION 255u        /* the largest station number */
 
+/* The first part of a key: all but its last decimal digit, which is its issue. The hashes come from it alone. */
+#define PINORANGE_FIRST_PART(key) ((key) / 10u)
+
 /* The two slots in which a key may sit, one in each table of r slots, at a station: 0 to PINORANGE_MAX_STATION, the number that the dictionary was laid with
- * (its word 4). At another station the same keys are spread otherwise.
+ * (its word 4). At another station the same keys are spread otherwise. Two issues of one first part have the same two slots.
  *
  * Reads: the `length` entries of `tabulation` (any length, any content).
  * Done (0): `*table0` and `*table1` are the key's hashes, both below r: in table k the sum, over the bytes b0 (lowest) to b3 of the
- *   key, of entry 1280 k + 256 i + bi, and of entry 1280 k + 1024 + ((b0 + station) modulo 256); all of it modulo r.
+ *   key's first part, of entry 1280 k + 256 i + bi, and of entry 1280 k + 1024 + ((b0 + station) modulo 256); all of it modulo r.
  * Refused (1, 2 or 5, tried in that order): `*table0` and `*table1` stay as they were.
  * The tabulation is never written. No pointer may be null (a length of 0 needs one, too), all are aligned, and `table0` and `table1` lie apart from
  * each other and from the tabulation. */
