@@ -44,12 +44,18 @@ bare-slots (suc n) ws = getD ws 0 0 ∷ getD ws 1 0 ∷ bare-slots n (drop slot-
 abbrev pub bare : List ℕ → List ℕ
 bare ws = take 4 ws ++ (bare-slots (slots-of ws + slots-of ws) (drop header-length ws) ++ keys-of (stash-entries ws))
 
--- document 01's slots of a key's first part, with its own tabulation
+-- document 01's slots of a number, with its own tabulation, and those of a key, which are its first part's
+abbrev pub slot-0-01 : List ℕ → ℕ → ℕ → ℕ
+slot-0-01 old r number = hash-01 old r 0 number
+
+abbrev pub slot-1-01 : List ℕ → ℕ → ℕ → ℕ
+slot-1-01 old r number = r + hash-01 old r 1 number
+
 abbrev pub old-0 : List ℕ → ℕ → ℕ → ℕ
-old-0 old r key = hash-01 old r 0 (first-part key)
+old-0 old r key = slot-0-01 old r (first-part key)
 
 abbrev pub old-1 : List ℕ → ℕ → ℕ → ℕ
-old-1 old r key = r + hash-01 old r 1 (first-part key)
+old-1 old r key = slot-1-01 old r (first-part key)
 
 module _ (P : Params) (L : List Entry) where
   abbrev S : List ℕ

@@ -76,6 +76,13 @@ one-issue-with key {S} e one c d i j q = elim (with-cases key S i) [
     alone : (d : ℕ) → In d S → first-part d ≡ first-part key → d ≡ key
     alone d i q = elim (eq? d key) [ inl k ↦ k | inr n ↦ absurd (none-other key S e (d, (i, (q, n)))) ]
 
+-- "Order still goes by the full number": within a set, order by first parts would be no other.
+pub order-parts : {S : List ℕ} → OneIssue S → (c d : ℕ) → In c S → In d S → (c < d) ↔ (first-part c < first-part d)
+order-parts one c d i j = (
+  λ l. let n : first-part c ≡ first-part d → ⊥ = λ q. omega (arith, one c d i j q) in omega (arith, part-le c d (omega arith), n),
+  λ l. omega arith,
+)
+
 -- Keys of one first part are neighbours in ascending order: another issue of a key stands before its rank or at it.
 module _ (key : ℕ) {S : List ℕ} (asc : Asc S) where
   abbrev at : ℕ
