@@ -107,6 +107,23 @@ at-map f [] i l = absurd (omega arith)
 at-map f (c ∷ K) zero l = refl
 at-map f (c ∷ K) (suc i) l = at-map f K i (omega arith)
 
+pub from-map : (f : ℕ → ℕ) {y : ℕ} (R : List ℕ) → In y (map f R) → (x : ℕ) × (In x R × (y ≡ f x))
+from-map f [] i = elim i [ ]
+from-map f (x ∷ R) i = elim i [
+  | here e ↦ (x, (here refl, e))
+  | there k ↦ let r = from-map f R k in (r .0, (there (r .1 .0), r .1 .1))
+]
+
+pub in-map : (f : ℕ → ℕ) {x : ℕ} {R : List ℕ} → In x R → In (f x) (map f R)
+in-map f (here e) = here (ap f e)
+in-map f (there i) = there (in-map f i)
+
+pub asc-map : (f : ℕ → ℕ) {R : List ℕ} → Asc R → ((x y : ℕ) → In x R → In y R → x < y → f x < f y) → Asc (map f R)
+asc-map f none up = none
+asc-map f (some {c} {R} h asc) up =
+    some {c = f c} (λ y i. let r = from-map f R i in rw (r .1 .1) (up c (r .0) (here refl) (there (r .1 .0)) (h (r .0) (r .1 .0))))
+    (asc-map f asc (λ x y i j l. up x y (there i) (there j) l))
+
 pub map-same : (f g : ℕ → ℕ) (S : List ℕ) → ((c : ℕ) → In c S → f c ≡ g c) → map f S ≡ map g S
 map-same f g [] h = refl
 map-same f g (c ∷ S) h = rw (h c (here refl), map-same f g S (λ d i. h d (there i)))

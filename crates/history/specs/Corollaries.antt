@@ -12,7 +12,7 @@ use lib.Dec.{ltb}
 use lib.ListN.{length, replicate}
 use Rattle.basics.specs.Sets.{member, Asc}
 use Rattle.refusals.specs.Refusal.{done, short-scratch, blank-key, key-absent, short-trail, first-refusal}
-use Rattle.tabulation.specs.Hash.{blank}
+use Rattle.tabulation.specs.Hash.{first-part, blank}
 use Rattle.layout.specs.Entries.{Entry, keys-of}
 use Rattle.layout.specs.Layout.{Params, another-issue, station-of, scratch-length}
 use Rattle.layout.specs.Image.{image-station}
@@ -24,7 +24,7 @@ use Rattle.counters.specs.declared.Counters.{Counters}
 use Rattle.outcome.specs.Laws.{change-tabulation}
 use Rattle.outcome.specs.Trail.{trail-of, trail-outcome}
 use Rattle.outcome.specs.TrailLaws.{trail-done, held-asked, held-trail}
-use Rattle.outcome.specs.Held.{issue-absent, held-some, held-undone, insert-kept}
+use Rattle.outcome.specs.Held.{issue-absent, held-some, held-undone, insert-kept, held-reissued}
 use Rattle.history.specs.Calls.{Lent, own, wrong, lent-of, Other, Call, Answer, Step, step, run, words-left}
 use Rattle.history.specs.Calls.{MayStand, Allowed, none, more, Sequence}
 use Rattle.history.specs.Model.{Request, request, requests, Reply, lookup-tests, reply, model, set-left}
@@ -130,6 +130,15 @@ module _ {P : Params} {ws : List ℕ} {cs : List Call} (q : Sequence P ws cs) wh
   unfolding step
   undone own scratch scratch′ counters counters′ key tier e room = held-undone (history q .final) (q .full-length) scratch scratch′ tier key e room
   undone (wrong u n) scratch scratch′ counters counters′ key tier e room = absurd (omega (arith, change-tabulation u W scratch (Insert tier) key n))
+
+  -- "A reissued card is the same card": after a removal of a key of the set an insert of another issue of it, with whatever tier, is accepted: never 8. Both
+  -- calls are lent the sequence's tabulation and a long enough scratch.
+  pub reissue : (scratch scratch′ : List ℕ) (counters counters′ : Counters) {old : ℕ} (key tier : ℕ) → In old (keys-of L) → first-part key ≡ first-part old
+      → tier ≤ 7 → scratch-length (P .slots) (P .places) ≤ length scratch → scratch-length (P .slots) (P .places) ≤ length scratch′
+      → step t (step t W (Call.change Remove own scratch counters old) .words) (Call.change (Insert tier) own scratch′ counters′ key) .answer .number ≡ done
+  unfolding step
+  reissue scratch scratch′ counters counters′ key tier i e small room room′ =
+      held-reissued (history q .final) (q .full-length) key tier i e small scratch scratch′ room room′
 
 -- "13 (another issue is listed) .. never together with 10 or 6": where the register's set has another issue of a key, it does not have the key.
 pub issue-excludes : {P : Params} {ws : List ℕ} {cs : List Call} → Sequence P ws cs → (key : ℕ)

@@ -3,14 +3,18 @@
 -- is document 01's, and a card that is issued anew sits where it sat. Assumes nothing.
 use Prim.Native.Nat.{ℕ, zero, suc, _+_, _*_, _-_, _<_}
 use mathlib.Core.Path.{_≡_, refl, sym, _∙_, ap}
-use mathlib.Core.Bool.{Bool, true}
+use mathlib.Core.Bool.{Bool, true, cond}
+use mathlib.Core.Logic.{inl, inr}
 use mathlib.Core.List.{List, [], _∷_, _++_, map, map-append, map-map, map-id, List·Memᴰ as In, List·Memᴰ·head as here, List·Memᴰ·tail as there}
 use native.Mathlib.Omega.{arith}
 use borrow.Author.Tests.{eqb-true, eq-eqb, ne-eqb}
 use lib.Dec.{eqb}
 use lib.ListN.{length, length-map, take, drop, replicate}
-use Rattle.basics.specs.Sets.{keep, first, keep-in, keep-test, in-keep, first-in}
-use Rattle.basics.specs.Lists.{keep-none, map-same, map-zeros}
+use Rattle.basics.specs.Tests.{eq?}
+use Rattle.basics.specs.Sets.{keep, first, without, keep-in, keep-test, in-keep, first-in, out-in, out-ne, in-out, asc-out, asc-ext}
+use Rattle.basics.specs.Lists.{keep-none, from-map, in-map, asc-map, map-same, map-zeros}
+use Rattle.ordered.specs.Keys.{with-key}
+use Rattle.ordered.specs.Place.{with-cases, with-here, with-there, asc-with}
 use Rattle.cuckoo.specs.Graph.{stash, slot-key, slot-next}
 use Rattle.cuckoo.specs.Renaming.{Renames, stash-map, slot-key-map, slot-next-map}
 use Rattle.tabulation.specs.Hash.{first-part}
@@ -44,27 +48,68 @@ pub record Reissues (f : ℕ → ℕ) (S : List ℕ) : Type 0 where
   pub no-key : f 0 ≡ 0
   pub same-part : (c : ℕ) → In c S → first-part (f c) ≡ first-part c
 
--- "A reissued card is the same card": where keys of a set are issued anew, the set fits as it did, and every word is what it was, with the new number in the
--- place of the old one: each key sits where it sat. (Of words without tiers and station: a key's tier goes with it.)
-module _ (P : Params) {L : List Entry} (M : List Entry) {f : ℕ → ℕ} (valid : ValidSet L) (h : Reissues f (keys-of L)) (k : keys-of M ≡ map f (keys-of L)) where
-  reissue-renames : Renames f (slot-0 (family P)) (slot-1 (family P)) (slot-0 (family P)) (slot-1 (family P)) (keys-of L)
+-- "A reissued card is the same card": where keys of a set are issued anew, the set fits as it did,
+module _ (P : Params) {S : List ℕ} (valid : ValidKeys S) (one : OneIssue S) {f : ℕ → ℕ} (h : Reissues f S) where
+  reissue-renames : Renames f (slot-0 (family P)) (slot-1 (family P)) (slot-0 (family P)) (slot-1 (family P)) S
   reissue-renames = record {
     no-key = h .no-key;
     up = λ c d i j l. elim i [
-      | here e ↦ omega (arith, h .same-part d j, not-blank-iff d .0 (valid .keys .none-blank d j), h .no-key, ap f e)
-      | there m ↦ omega (arith, h .same-part c m, h .same-part d j, order-parts (valid .issues) c d m j .0 l)
+      | here e ↦ omega (arith, h .same-part d j, not-blank-iff d .0 (valid .none-blank d j), h .no-key, ap f e)
+      | there k ↦ omega (arith, h .same-part c k, h .same-part d j, order-parts one c d k j .0 l)
     ];
     at-0 = λ c i. issues-slots (family P) (f c) c (h .same-part c i) .0;
     at-1 = λ c i. issues-slots (family P) (f c) c (h .same-part c i) .1;
   }
 
-  pub reissued-fits : fits P (keys-of M) ≡ fits P (keys-of L)
+  pub reissued-fits : fits P (map f S) ≡ fits P S
   unfolding fits fits-by
-  reissued-fits = rw (k, stash-map reissue-renames, length-map (stash (slot-0 (family P)) (slot-1 (family P)) (keys-of L)) f)
+  reissued-fits = rw (stash-map reissue-renames, length-map (stash (slot-0 (family P)) (slot-1 (family P)) S) f)
 
-  pub reissued-image : fits P (keys-of L) ≡ true → bare (image P M) ≡ renumbered f (bare (image P L))
-  reissued-image e =
-      bare-image P M (reissued-fits ∙ e) ∙ (rw (k, bare-image P L e) (key-image-map reissue-renames (P .slots) (P .places)))
+-- and every word is what it was, with the new number in the place of the old one: each key sits where it sat. (Of words without tiers and station: a key's tier
+-- goes with it.)
+pub reissued-image : (P : Params) {L : List Entry} (M : List Entry) {f : ℕ → ℕ} → ValidSet L → Reissues f (keys-of L) → keys-of M ≡ map f (keys-of L)
+    → fits P (keys-of L) ≡ true → bare (image P M) ≡ renumbered f (bare (image P L))
+reissued-image P {L} M {f} valid h k e =
+    let same = ap (fits P) k ∙ reissued-fits P (valid .keys) (valid .issues) h in
+    bare-image P M (same ∙ e) ∙ (rw (k, bare-image P L e) (key-image-map (reissue-renames P (valid .keys) (valid .issues) h) (P .slots) (P .places)))
+
+-- One key issued anew: the set without it and with the new issue is the set, renumbered.
+abbrev pub instead : ℕ → ℕ → ℕ → ℕ
+instead c d x = cond (eqb x c) d x
+
+module _ {S : List ℕ} (valid : ValidKeys S) (one : OneIssue S) {c : ℕ} (d : ℕ) (i : In c S) (q : first-part d ≡ first-part c) where
+  pub instead-reissues : Reissues (instead c d) S
+  instead-reissues = record {
+    no-key = rw (ne-eqb 0 c (λ e. omega (arith, not-blank-iff c .0 (valid .none-blank c i))));
+    same-part = λ x j. elim (eq? x c) [ inl e ↦ rw (eq-eqb x c e) (q ∙ ap first-part (sym e)) | inr n ↦ rw (ne-eqb x c n) ];
+  }
+
+  pub instead-is : with-key d (without c S) ≡ map (instead c d) S
+  instead-is = asc-ext (with-key d (without c S)) (map (instead c d) S) (asc-with d (asc-out c (valid .asc)))
+      (asc-map (instead c d) (valid .asc) (λ x y j k l. rises x y j k l))
+      (λ y j. elim (with-cases d (without c S) j) [
+        | inl e ↦ let k = in-map (instead c d) i in rw e (rw taken at k)
+        | inr k ↦
+            let n : y ≡ c → ⊥ = λ e. out-ne c S k (sym e) in
+            rw (left y n) at (in-map (instead c d) (out-in c S k))
+      ])
+      (λ y j.
+      let r = from-map (instead c d) S j in
+      elim (eq? (r .0) c) [
+        | inl e ↦ rw (r .1 .1, ap (instead c d) e, taken) (with-here d (without c S))
+        | inr n ↦ rw (r .1 .1, left (r .0) n) (with-there d (without c S) (in-out c S (λ e. n (sym e)) (r .1 .0)))
+      ])
+    where
+      taken : instead c d c ≡ d
+      taken = rw (eq-eqb c c refl)
+
+      left : (x : ℕ) → (x ≡ c → ⊥) → instead c d x ≡ x
+      left x n = rw (ne-eqb x c n)
+
+      rises : (x y : ℕ) → In x S → In y S → x < y → instead c d x < instead c d y
+      rises x y j k l =
+          let h = instead-reissues in
+          omega (arith, h .same-part x j, h .same-part y k, order-parts one x y j k .0 l)
 
 -- The same of first parts, and with document 01's hash.
 
@@ -111,18 +156,11 @@ module _ {S : List ℕ} (valid : ValidKeys S) (one : OneIssue S) where
   issue-is : (c : ℕ) → In c S → issue-in S (first-part c) ≡ c
   issue-is c i = let t = issue-there c i in one (issue-in S (first-part c)) c (t .0) i (t .1)
 
-  part-from : {part : ℕ} (R : List ℕ) → In part (map first-part R) → (c : ℕ) × (In c R × (part ≡ first-part c))
-  part-from [] i = elim i [ ]
-  part-from (c ∷ R) i = elim i [
-    | here e ↦ (c, (here refl, e))
-    | there k ↦ let r = part-from R k in (r .0, (there (r .1 .0), r .1 .1))
-  ]
-
   pub set-issued : Issued (issue-in S) (map first-part S)
   set-issued = record {
     no-part = rw (keep-none (λ (c : ℕ). eqb (first-part c) 0) S (λ c i.
         ne-eqb (first-part c) 0 (λ e. omega (arith, not-blank-iff c .0 (valid .none-blank c i)))));
-    issue-of = λ part i. let r = part-from S i in rw (r .1 .1) (issue-there (r .0) (r .1 .0) .1);
+    issue-of = λ part i. let r = from-map first-part S i in rw (r .1 .1) (issue-there (r .0) (r .1 .0) .1);
   }
 
   pub set-issues : S ≡ map (issue-in S) (map first-part S)

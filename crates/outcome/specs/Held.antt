@@ -11,18 +11,20 @@ use borrow.Author.Tests.{eq-eqb, ne-eqb, lt-ltb, le-ltb, ltb-false, not-false}
 use lib.Dec.{eqb, ltb}
 use lib.ListN.{length}
 use Rattle.basics.specs.Tests.{test, eq?}
-use Rattle.basics.specs.Sets.{Asc, without, member, member-in, in-member, out-in, out-ne, in-out}
+use Rattle.basics.specs.Sets.{Asc, without, member, member-in, in-member, out-in, out-ne, in-out, no-member}
 use Rattle.cuckoo.specs.Placement.{Placement}
 use Rattle.ordered.specs.Keys.{with-key}
 use Rattle.ordered.specs.Place.{with-cases, with-here, with-there, asc-with, with-same, without-with, length-with}
 use Rattle.refusals.specs.Refusal.{done, short-scratch, blank-key, key-present, key-absent, stash-full, wrong-tier, other-tier, other-issue, first-refusal, none, and, front-none}
-use Rattle.tabulation.specs.Hash.{tabulation-length, blank}
+use Rattle.tabulation.specs.Hash.{tabulation-length, first-part, blank}
+use Rattle.tabulation.specs.Issues.{not-blank-iff}
 use Rattle.tabulation.specs.Slots.{slot-0, slot-1}
 use Rattle.layout.specs.Entries.{Entry, max-tier, keys-of, tier-of, key-in, tiered, keys-tiered, tiered-agree, tier-tiered, tiered-self, tiered-in}
 use Rattle.layout.specs.Layout.{Params, ValidKeys, another-issue, OneIssue, ValidSet, family, params-of, slots-of, places-of, scratch-length, params-in-range, station-of, shaped, fits, image, keys-in, tier-in, set-in}
 use Rattle.layout.specs.Shape.{ranged, ranged-true, shape}
 use Rattle.layout.specs.Image.{image-shaped}
-use Rattle.layout.specs.Issues.{listed-alone, one-issue-part, one-issue-with}
+use Rattle.layout.specs.Issues.{no-other, listed-alone, one-issue-part, one-issue-with}
+use Rattle.layout.specs.Reissued.{reissued-fits, instead-reissues, instead-is}
 use Rattle.layout.specs.Canonical.{canonical, ImageOf, canonical-true, image-canonical, image-of-params, image-of-set}
 use Rattle.layout.specs.Answers.{lookup-values, looked-up}
 use Rattle.layout.specs.Look.{looked-entry, image-lookup-values}
@@ -395,3 +397,29 @@ held-undone {P} {L} {ws} h full-length scratch scratch′ tier key e room =
     let m : member key (keys-of (changed (Insert tier) key L)) ≡ true = rw (changed-keys (Insert tier) key L) (in-member (with-here key (keys-of L))) in
     let d = held-remove g full-length scratch′ room key (n .1) m in
     (d, held-changed g Remove scratch′ key d .is .is ∙ ap (image P) (changed-back tier key L (h .is .valid .keys .asc) (n .4)) ∙ sym (h .is .is))
+
+-- A card that is issued anew: the old issue goes, and the new one comes in, with whatever tier. That is never refused with 8: the set fits as it did.
+module _ {P : Params} {L : List Entry} {ws : List ℕ} (h : Holds P L ws) (full-length : length (P .tabulation) ≡ tabulation-length)
+    {old : ℕ} (key tier : ℕ) (i : In old (keys-of L)) (q : first-part key ≡ first-part old) (small : tier ≤ 7)
+    (scratch scratch′ : List ℕ) (room : scratch-length (P .slots) (P .places) ≤ length scratch) (room′ : scratch-length (P .slots) (P .places) ≤ length scratch′) where
+  abbrev S : List ℕ
+  S = keys-of L
+
+  abbrev valid : ValidSet L
+  valid = h .is .valid
+
+  -- what is left has no issue of it
+  left-ne : (d : ℕ) → In d (without old S) → first-part d ≡ first-part key → ⊥
+  left-ne d j e = out-ne old S j (valid .issues old d i (out-in old S j) (sym (e ∙ q)))
+
+  pub held-reissued : change-outcome (Insert tier) (P .tabulation) (change-outcome Remove (P .tabulation) ws scratch old .words) scratch′ key .answer ≡ done
+  held-reissued =
+      let b : blank old ≡ false = valid .keys .none-blank old i in
+      let gone = held-changed h Remove scratch old (held-remove h full-length scratch room old b (in-member i)) in
+      let b′ : blank key ≡ false = not-blank-iff key .1 (rw q (not-blank-iff old .0 b)) in
+      let new : another-issue key (without old S) ≡ false = no-other key (without old S) (λ a. left-ne (a .0) (a .1 .0) (a .1 .1 .0)) in
+      let out : member key (without old S) ≡ false = no-member key (without old S) (λ j. left-ne key j refl) in
+      let fit : fits P (with-key key (without old S)) ≡ true = rw (instead-is (valid .keys) (valid .issues) key i q)
+      (reissued-fits P (valid .keys) (valid .issues) (instead-reissues (valid .keys) (valid .issues) key i q) ∙ h .is .fit) in
+      held-new gone full-length scratch′ room′ key b′ tier small (rw (changed-keys Remove old L) new) (rw (changed-keys Remove old L) out)
+      ∙ (rw (changed-keys Remove old L, fit))
