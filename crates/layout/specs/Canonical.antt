@@ -1,7 +1,7 @@
 -- Whether given words are the canonical image of a set, decided by a computation: the keys that stand in the words make a set, and the words must be
 -- its image. The definitions come first; the theorems say that no other set has to be tried, and that differing sets have differing images.
 -- Assumes nothing.
-use Prim.Native.Nat.{ℕ, _≤_, _<_}
+use Prim.Native.Nat.{ℕ, suc, _+_, _≤_, _<_}
 use mathlib.Core.Path.{_≡_, refl, sym, _∙_, ap}
 use mathlib.Core.Bool.{Bool, true, false, not, _&&_, true≢false}
 use mathlib.Core.Logic.{inl, inr, _↔_}
@@ -9,17 +9,18 @@ use mathlib.Core.List.{List, List·Memᴰ as In}
 use native.Mathlib.Omega.{arith}
 use borrow.Author.Tests.{ltb-true, ltb-false, not-true}
 use lib.Dec.{ltb}
+use lib.ListN.{getD}
 use Rattle.basics.specs.Tests.{test, and-true}
 use Rattle.basics.specs.Sets.{any, any-true, true-any}
 use Rattle.basics.specs.Lists.{same, same-true, true-same}
 use Rattle.layout.specs.Entries.{Entry, max-tier, keys-of, keys-tiered, key-in, tiered-in, in-tiered}
 use Rattle.tabulation.specs.Hash.{first-part, blank}
 use Rattle.tabulation.specs.Issues.{not-blank-iff}
-use Rattle.layout.specs.Layout.{Params, ValidKeys, ValidSet, OneIssue, one-issue, slots-of, params-of, params-in-range, shaped, fits, image, keys-in, tier-in, set-in}
+use Rattle.layout.specs.Layout.{Params, ValidKeys, ValidSet, OneIssue, one-issue, key-at, slots-of, params-of, params-in-range, shaped, fits, image, keys-in, tier-in, set-in}
 use Rattle.layout.specs.Shape.{shape}
 use Rattle.layout.specs.Image.{image-shaped, image-params}
 use Rattle.layout.specs.Issues.{one-issue-iff}
-use Rattle.layout.specs.Standing.{KeyWord, keys-in-valid, keys-in-words, keys-in-image, set-in-image, image-key-in}
+use Rattle.layout.specs.Standing.{KeyWord, keys-in-valid, keys-in-words, keys-in-image, set-in-image, image-key-in, image-next-in}
 
 -- The words are a canonical image: the keys that stand in them are one issue of each first part, they fit, the tiers at which they are found are 0 to 7, and the
 -- words are the image of the set of these keys with these tiers (`same`, of basics/specs/Lists, is equality of lists).
@@ -158,13 +159,28 @@ neat-issues P L valid fit some two = elim (test (canonical (P .tabulation) (imag
   | inr e ↦ e
 ]
 
--- "A blank card is any number below 10": where one of 1 to 9 stands as a key, these are the image of no set.
+-- "A blank card is any number below 10": where one of 1 to 9 stands as a key, these are the image of no set;
+set-not-below : {P : Params} {L : List Entry} {ws : List ℕ} → ImageOf P L ws → {c : ℕ} → In c (keys-of L) → c < 10 → ⊥
+set-not-below h {c} i high = omega (arith, not-blank-iff c .0 (h .valid .keys .none-blank c i))
+
 pub below-ten : (tabulation ws : List ℕ) (c : ℕ) → KeyWord ws c → 0 < c → c < 10 → canonical tabulation ws ≡ false
 below-ten tabulation ws c k low high = elim (test (canonical tabulation ws)) [
   | inl e ↦
       let h = canonical-true tabulation ws e in
       let i = image-key-in (params-of tabulation ws) (set-in tabulation ws) (h .fit) (h .valid .keys) (rw (h .is) at k) (λ q. omega arith) in
-      absurd (omega (arith, not-blank-iff c .0 (h .valid .keys .none-blank c i)))
+      absurd (set-not-below h i high)
+  | inr e ↦ e
+]
+
+-- and so where one stands as a next number.
+pub next-below-ten : (tabulation ws : List ℕ) (v c : ℕ) → v < slots-of ws + slots-of ws → getD ws (suc (key-at v)) 0 ≡ c → 0 < c → c < 10
+    → canonical tabulation ws ≡ false
+next-below-ten tabulation ws v c l k low high = elim (test (canonical tabulation ws)) [
+  | inl e ↦
+      let h = canonical-true tabulation ws e in
+      let q : getD (image (params-of tabulation ws) (set-in tabulation ws)) (suc (key-at v)) 0 ≡ c = ap (λ (us : List ℕ). getD us (suc (key-at v)) 0) (sym (h .is)) ∙ k in
+      let i = image-next-in (params-of tabulation ws) (set-in tabulation ws) (h .fit) (h .valid .keys) v l q (λ z. omega arith) in
+      absurd (set-not-below h i high)
   | inr e ↦ e
 ]
 

@@ -6,13 +6,15 @@ use mathlib.Core.Bool.{true, false, not}
 use mathlib.Core.Logic.{inl, inr, _↔_}
 use mathlib.Core.List.{List, [], _∷_, _++_, List·Memᴰ as In, List·Memᴰ·head as here, List·Memᴰ·tail as there, Memᴰ·append-left, Memᴰ·append-right, List·Memᴰ·append-cases}
 use native.Mathlib.Omega.{arith}
-use borrow.Author.Tests.{not-true}
+use borrow.Author.Tests.{ne-eqb, not-true}
 use lib.ListN.{length, getD, drop, replicate}
 use lib.Seq.{getD-drop}
+use Rattle.basics.specs.Tests.{eq?}
 use Rattle.basics.specs.Sets.{keep, Asc, asc-ext, keep-in, keep-test, in-keep}
 use Rattle.basics.specs.Lists.{getD-in}
-use Rattle.cuckoo.specs.Graph.{seated, stash, slot-key}
-use Rattle.cuckoo.specs.Settling.{seated-sub, seated-stops}
+use Rattle.cuckoo.specs.Graph.{seated, stash, occupant, next, slot-key, slot-next}
+use Rattle.cuckoo.specs.Settling.{seated-sub, seated-asc, seated-stops}
+use Rattle.cuckoo.specs.Next.{next-in}
 use Rattle.cuckoo.specs.Seating.{look, occupant-from}
 use Rattle.cuckoo.specs.Filled.{seated-or-stash, stash-sub}
 use Rattle.ordered.specs.Sorting.{in-at}
@@ -23,7 +25,7 @@ use Rattle.tabulation.specs.Slots.{slot-0, slot-1, slot-0-lt, slot-1-lt}
 use Rattle.layout.specs.Entries.{Entry, keys-of, tier-of, tiered, keys-tiered, tiered-agree, tier-absent, tier-all, tiered-self, tiered-in, no-entry, keys-none, none-in, keys-append}
 use Rattle.layout.specs.Layout.{Params, family, family-of, ValidKeys, header-length, slot-width, place-width, key-at, stash-at, place-at, slots-of, places-of, place-words, image-by}
 use Rattle.layout.specs.Layout.{stash-of, fits, stash-words, image, slot-keys, place-entries, stash-entries, key-words, keys-in, slot-entry, looked-at, tier-in, set-in}
-use Rattle.layout.specs.Image.{fits-le, image-slots, image-places, image-key, image-tier, image-stash}
+use Rattle.layout.specs.Image.{fits-le, image-slots, image-places, image-key, image-next, image-tier, image-stash}
 
 -- blank keys: all that is needed here of `blank`
 
@@ -159,6 +161,20 @@ module _ (a b : ℕ → ℕ) {S : List ℕ} (asc : Asc S) where
         | inr h ↦ seated-sub a b S asc c (rw e at (h .0))
       ]
 
+  -- nor points to anything else
+  pub slot-next-in : {c : ℕ} (v : ℕ) → slot-next a b S v ≡ c → (c ≡ 0 → ⊥) → In c S
+  unfolding slot-key slot-next
+  slot-next-in {c} v e n =
+      elim (occupant-from a b (seated a b S) v) [
+        | inl z ↦ absurd (n (sym e ∙ (rw z)))
+        | inr h ↦ elim (eq? (occupant a b (seated a b S) v) 0) [
+          | inl z ↦ absurd (n (sym e ∙ (rw z)))
+          | inr s ↦
+              let q : next a b (seated a b S) (occupant a b (seated a b S) v) ≡ c = rw (ne-eqb (occupant a b (seated a b S) v) 0 s) at e in
+              seated-sub a b S asc c (rw q at (next-in a b (seated-asc a b S asc) (h .0) .0))
+        ]
+      ]
+
 -- what is looked at are key words
 pub looked-key-word : (tabulation ws : List ℕ) → 0 < slots-of ws → (key : ℕ) {c : ℕ} → In c (keys-of (looked-at tabulation ws key)) → KeyWord ws c
 looked-key-word tabulation ws some key i =
@@ -229,6 +245,10 @@ module _ (P : Params) (L : List Entry) (e : fits P (keys-of L) ≡ true) where
           | inl j ↦ stash-sub (slot-0 (family P)) (slot-1 (family P)) S c j
           | inr j ↦ absurd (n (in-zeros empty-places j))
         ]
+
+    -- and as next numbers,
+    pub image-next-in : {c : ℕ} (v : ℕ) → v < P .slots + P .slots → getD (image P L) (suc (key-at v)) 0 ≡ c → (c ≡ 0 → ⊥) → In c S
+    image-next-in v l q n = slot-next-in (slot-0 (family P)) (slot-1 (family P)) (valid .asc) v (sym (image-next P L v l) ∙ q) n
 
     -- and each of them does, where a lookup looks for it
     pub image-in-looked : 0 < P .slots → {c : ℕ} → In c S → In c (keys-of (looked-at (P .tabulation) (image P L) c))
