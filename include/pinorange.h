@@ -69,7 +69,7 @@ uint32_t pinorange_init(uint32_t *words, size_t words_length, uint32_t r, uint32
  * Refused (1, 2, 3, 4, 5, 9, 13, 10, 6 or 8, tried in that order): the words stay. 8 exactly when there is no way at all to give each key of the new set one of
  * its two slots or one of the s stash places, no slot two keys.
  * An insert never takes the place of another issue: 13, whatever the tiers, and never where 10 or 6 would apply. To list a card that was made again, remove the
- * issue that is listed and insert the new one; the same set fits again.
+ * issue that is listed and insert the new one, with whatever tier; that insert is never refused with 8.
  * An insert never changes the tier of a key that is in the set: with the tier that it has it is refused with 6, with another with 10. To change a tier,
  * remove the key and insert it with the new one; the same keys fit again.
  * The scratch is zero over its full length afterwards, refused or not; its old content has no effect. The counters move on by one. */
