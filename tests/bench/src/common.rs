@@ -21,6 +21,20 @@ pub const SLOT: usize = 3;
 /// Words of a stash place: key, tier.
 pub const PLACE: usize = 2;
 pub const MAX_TIER: u32 = 7;
+/// How many issues a first part can have, one for each last decimal digit. A key below it is all issue: it is blank.
+const ISSUES: u32 = 10;
+
+/// Whether a word is the key of no card.
+#[inline]
+pub fn is_blank(key: u32) -> bool {
+    key < ISSUES
+}
+
+/// A key without its issue, the last decimal digit.
+#[inline]
+pub fn first_part(key: u32) -> u32 {
+    key / ISSUES
+}
 
 /// What the slots of a key hang on, taken once in a call. A station is a byte, so that adding it to one is modulo 256.
 #[derive(Clone, Copy)]
@@ -31,10 +45,10 @@ pub struct Hashing<'a> {
 }
 
 impl Hashing<'_> {
-    /// The slot of a key in a table.
+    /// The slot of a key in a table. Its issue has no part in it.
     #[inline]
     fn hash(self, table: usize, key: u32) -> u32 {
-        let [b0, b1, b2, b3] = key.to_le_bytes();
+        let [b0, b1, b2, b3] = first_part(key).to_le_bytes();
         let entry = |i: usize, byte: u8| {
             u32::from(self.tabulation[HALF * table + STRETCH * i + usize::from(byte)])
         };
@@ -137,7 +151,7 @@ pub fn lookup(
 ) -> u32 {
     let Ok(tabulation) = <&Tabulation>::try_from(tabulation) else { return 1 };
     let Some((r, _, station)) = shape(words) else { return 2 };
-    if key == 0 {
+    if is_blank(key) {
         return 5;
     }
     let found = tier_in(Hashing { tabulation, r, station }, words, key);
@@ -162,14 +176,22 @@ pub fn early<'a>(
     Ok((Hashing { tabulation, r, station }, s))
 }
 
-/// Where a new key belongs among `keys`, of which there may be `most`, or what refuses it: 5, 9, 10, 6 or 8. `tier_at` gives the tier of a key that is there.
+/// Whether another issue of a key is a neighbour of the place where the key belongs.
+fn other_issue_beside(keys: &[u32], at: usize, key: u32) -> bool {
+    let neighbours = &keys[at.saturating_sub(1)..keys.len().min(at + 1)];
+    neighbours.iter().any(|other| first_part(*other) == first_part(key))
+}
+
+/// Where a new key belongs among `keys`, of which there may be `most`, or what refuses it: 5, 9, 13, 10, 6 or 8.
+/// `tier_at` gives the tier of a key that is there. Where the key itself is there, no other issue of it is; where it is
+/// not, another issue stands just before its place or at it.
 pub fn place_to_insert(
     keys: &[u32],
     most: usize,
     (key, tier): (u32, u32),
     tier_at: impl FnOnce(usize) -> Option<u32>,
 ) -> Result<usize, u32> {
-    if key == 0 {
+    if is_blank(key) {
         return Err(5);
     }
     if tier > MAX_TIER {
@@ -178,6 +200,7 @@ pub fn place_to_insert(
     match keys.binary_search(&key) {
         Ok(at) if tier_at(at) == Some(tier) => Err(6),
         Ok(_) => Err(10),
+        Err(at) if other_issue_beside(keys, at, key) => Err(13),
         Err(_) if most <= keys.len() => Err(8),
         Err(at) => Ok(at),
     }
@@ -185,7 +208,7 @@ pub fn place_to_insert(
 
 /// Where a key stands among `keys`, or what refuses its removal: 5 or 7.
 pub fn place_to_remove(keys: &[u32], key: u32) -> Result<usize, u32> {
-    if key == 0 {
+    if is_blank(key) {
         return Err(5);
     }
     keys.binary_search(&key).map_err(|_| 7)

@@ -1,11 +1,12 @@
 //! The plain twin, one of the two partners of the benchmark: insert, remove and check as a Rust engineer would write them without the ranks of `ranks.rs`, with
-//! the same promise as the library (answers, words, scratch and counters of the specification), in lent scratch and without allocation: collect, sort, build, find
-//! the tiers, compare; change, build, find the tiers, write. A key is hashed wherever its slots are needed. Where std has something faster than plain code, as its
+//! the same promise as the library (answers, words, scratch and counters of the specification), in lent scratch and
+//! without allocation: collect, sort, look for two issues, build, find the tiers, compare; change, build, find the
+//! tiers, write. A key is hashed wherever its slots are needed. Where std has something faster than plain code, as its
 //! sort, it is used. Every call that is timed is compared with the library's.
 
 use crate::common::{
-    columns, early, matches, place_to_insert, place_to_remove, tier_in, write, Hashing, MAX_TIER,
-    PLACE, SLOT,
+    columns, early, first_part, is_blank, matches, place_to_insert, place_to_remove, tier_in,
+    write, Hashing, MAX_TIER, PLACE, SLOT,
 };
 
 /// Scratch in its parts: keys (2r + s), held, next and sets (2r each), stash (s), and the tiers of what is held (2r) and stashed (s).
@@ -219,7 +220,7 @@ fn collect(words: &[u32], r: u32, keys: &mut [u32]) -> usize {
     let mut n = 0;
     let in_slots = slots.chunks_exact(SLOT).map(|slot| slot[0]);
     for key in in_slots.chain(stash.chunks_exact(PLACE).map(|place| place[0])) {
-        if key != 0 {
+        if !is_blank(key) {
             keys[n] = key;
             n += 1;
         }
@@ -258,6 +259,11 @@ fn load<'a>(
     let (hashing, s) = early(tabulation, words, scratch)?;
     let mut parts = split(scratch, hashing.r, s);
     let n = collect(words, hashing.r, parts.keys);
+    // The keys rise; where two are issues of one first part, their first parts do not.
+    let first_parts = parts.keys[..n].iter().map(|key| first_part(*key));
+    if !first_parts.is_sorted_by(|one, two| one < two) {
+        return Err(4);
+    }
     let mut build = Build { hashing, parts: &mut parts };
     let stashed = build.build(n).ok_or(4u32)?;
     build.place_tiers(words, (0, 0));
