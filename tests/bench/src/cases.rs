@@ -9,6 +9,8 @@ use reference::rng::Rng;
 use reference::samples::random_tiers;
 use reference::set::Member;
 
+use crate::common::{first_part, is_blank};
+
 pub const PLACES: u32 = 64;
 
 /// The station of every case.
@@ -82,7 +84,9 @@ impl Case {
             Load::Full => house(r, full(r), sets),
             Load::Path => path(r),
             Load::Moves => moves(r),
-            Load::OnePlace => (vec![0; TABULATION_LEN], vec![(1..=PLACES + 2).collect()]),
+            Load::OnePlace => {
+                (vec![0; TABULATION_LEN], vec![(1..=PLACES + 2).map(an_issue).collect()])
+            }
         };
         // The last key of a set is the extra one. No tier plays a part in where keys sit, so any tiers fit.
         let mut rng = Rng::new(u64::from(r));
@@ -155,14 +159,19 @@ impl Room {
     }
 }
 
-/// `count` random keys that fit, in the order in which they were found.
+/// A key of a first part. Which issue it is has no part in where it sits, so any digit will do.
+fn an_issue(part: u32) -> u32 {
+    10 * part + part % 10
+}
+
+/// `count` random keys that fit, one issue of each first part, in the order in which they were found.
 fn fitting_keys(rng: &mut Rng, tabulation: &[u16], r: u32, count: usize) -> Vec<u32> {
     let mut room = Room::new(2 * r as usize);
     let mut seen = BTreeSet::new();
     let mut keys = Vec::new();
     while keys.len() < count {
-        let key = rng.next_u32().max(1);
-        if !seen.insert(key) {
+        let key = rng.next_u32();
+        if is_blank(key) || !seen.insert(first_part(key)) {
             continue;
         }
         let [first, second] = hashes(tabulation, r, STATION, key).expect("a sound book and key");
@@ -190,8 +199,9 @@ fn house(r: u32, count: usize, sets: u64) -> Sets {
     (HOUSE.to_vec(), (0..sets).map(set).collect())
 }
 
-/// A book under which keys are edges of one path through all slots, by the number in their two low bytes: `edge` says which edge of the path that is. Edge e joins
-/// the slots e and e + 1 of the path, of which the even ones are in table 0. An edge must be the sum of those of the two bytes, one of these even.
+/// A book under which keys are edges of one path through all slots, by the number in the two low bytes of their first
+/// parts: `edge` says which edge of the path that is. Edge e joins the slots e and e + 1 of the path, of which the even
+/// ones are in table 0. An edge must be the sum of those of the two bytes, one of these even.
 /// The lowest byte's share stands in the station's stretch, so that the keys are this path at `STATION` alone.
 fn path_book(r: u32, edge: impl Fn(u32) -> u32) -> Vec<u16> {
     let mut tabulation = vec![0u16; TABULATION_LEN];
@@ -210,24 +220,24 @@ fn path_book(r: u32, edge: impl Fn(u32) -> u32) -> Vec<u16> {
     tabulation
 }
 
-/// A book under which the keys 1 to 2r - 1 are one path through all slots, and ascending they join stretches of one length, doubling it: every set is
-/// deep, and half of it moves. `r` is a power of two from 128 on.
+/// A book under which keys of the first parts 1 to 2r - 1 are one path through all slots, and ascending they join
+/// stretches of one length, doubling it: every set is deep, and half of it moves. `r` is a power of two from 128 on.
 fn path(r: u32) -> Sets {
     let bits = (2 * r).trailing_zeros();
-    // Key k is edge e of the path, its bits reversed: the highest bit of k says whether e is even.
+    // First part k is edge e of the path, its bits reversed: the highest bit of k says whether e is even.
     let tabulation = path_book(r, |k: u32| k.reverse_bits() >> (32 - bits));
     let extra = 1 << (bits - 1);
-    let mut keys: Vec<u32> = (1..2 * r).filter(|k| *k != extra).collect();
-    keys.push(extra);
-    (tabulation, vec![keys])
+    let parts = (1..2 * r).filter(|k| *k != extra).chain([extra]);
+    (tabulation, vec![parts.map(an_issue).collect()])
 }
 
 /// A path through all slots that takes the most moves we know: of two stretches that are joined, nearly of one length, the one that is re-rooted has its root at
-/// its far end, so that every key in it moves. The upper bytes of a key say when its edge is joined, and have no part in its slots.
+/// its far end, so that every key in it moves. The upper bytes of a first part say when its edge is joined, and have no
+/// part in the slots.
 fn moves(r: u32) -> Sets {
     let mut edges = Vec::new();
     join(0, 2 * r, false, &mut edges);
-    let keys = (1..).zip(edges).map(|(order, edge)| order << 16 | edge).collect();
+    let keys = (1..).zip(edges).map(|(order, edge)| an_issue(order << 16 | edge)).collect();
     (path_book(r, |number| number), vec![keys])
 }
 

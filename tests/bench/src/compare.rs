@@ -1,19 +1,20 @@
 //! A quick run of random calls on small boards, on tampered words and with wrong lengths, too: the library and both twins must leave the same in all memory.
 
-use std::collections::BTreeMap;
+use std::collections::{BTreeMap, BTreeSet};
 
 use library::Counters;
 use reference::rng::Rng;
-use reference::samples::{random_keys, random_station, random_tabulation, random_tier};
+use reference::samples::{random_station, random_tabulation, random_tier};
 
 use crate::common::{HEADER, PLACE, SLOT, STATION_AT};
+use crate::issues::{another_issue, seat_beside};
 use crate::partners::{Call, Partner, PARTNERS};
 
 /// How many calls a board gets before the next one is laid.
 const CALLS: usize = 100;
 
 /// How many answers each call can give: all of them must come.
-const ANSWERS: [usize; 4] = [10, 7, 5, 4];
+const ANSWERS: [usize; 4] = [11, 7, 5, 4];
 
 /// All that a call is lent.
 #[derive(Clone, Debug, PartialEq)]
@@ -54,6 +55,20 @@ struct Board {
     keys: Vec<u32>,
 }
 
+/// Different keys, at least so many: half of the time of small first parts. Some are issues of one first part.
+fn random_issues(rng: &mut Rng, count: usize) -> Vec<u32> {
+    let small = rng.one_in(2);
+    let mut keys = BTreeSet::new();
+    while keys.len() < count {
+        let key = if small { 10 + rng.below(2_550) as u32 } else { rng.next_u32().max(10) };
+        keys.insert(key);
+        if rng.one_in(4) {
+            keys.insert(another_issue(key));
+        }
+    }
+    keys.into_iter().collect()
+}
+
 /// A board that is filled as far as chance has it. Small boards have many cycles; of 48 keys on the keys are sorted in another way.
 fn random_board(rng: &mut Rng) -> Board {
     let r = rng.pick(&[1, 1, 2, 3, 4, 5, 8, 16, 24, 32, 40]);
@@ -61,7 +76,7 @@ fn random_board(rng: &mut Rng) -> Board {
     let most = (2 * r + s) as usize;
     let values = rng.pick(&[1, 2, r as usize, 4 * r as usize, 65_536]);
     let tabulation = random_tabulation(rng, values);
-    let keys = random_keys(rng, (most + most / 2 + 1).min(200));
+    let keys = random_issues(rng, (most + most / 2 + 1).min(200));
     let mut words = library::fresh(r, s, random_station(rng));
     let mut scratch = vec![0; library::scratch_length(r, s)];
     for _ in 0..rng.below(2 * most) {
@@ -81,8 +96,8 @@ fn random_slot(rng: &mut Rng, words: &[u32]) -> usize {
 fn tamper(rng: &mut Rng, words: &mut [u32], keys: &[u32]) {
     let (one, two) = (random_slot(rng, words), random_slot(rng, words));
     let stash = HEADER + 2 * SLOT * words[0] as usize;
-    match rng.below(9) {
-        0 => words[rng.below(words.len() - 2) + 2] = rng.pick(&[0, 1, 7, 8, u32::MAX]),
+    match rng.below(11) {
+        0 => words[rng.below(words.len() - 2) + 2] = rng.pick(&[0, 1, 7, 8, 9, 10, u32::MAX]),
         1 => words[rng.below(words.len() - 2) + 2] = rng.pick(keys),
         2 => words.copy_within(one..one + SLOT, two),
         3 => (0..SLOT).for_each(|i| words.swap(one + i, two + i)),
@@ -93,6 +108,10 @@ fn tamper(rng: &mut Rng, words: &mut [u32], keys: &[u32]) {
         }
         6 => words.swap(one, two),
         7 => words[STATION_AT] = rng.pick(&[0, 1, 254, 255, 256, u32::MAX]),
+        8 => words[one] = rng.below(10) as u32,
+        9 => {
+            seat_beside(words, another_issue);
+        }
         _ => words[HEADER..stash]
             .chunks_exact_mut(SLOT)
             .filter(|slot| slot[0] == 0)
@@ -126,7 +145,7 @@ fn random_call(rng: &mut Rng, board: &Board) -> Asked {
     use Call::*;
     Asked {
         call: rng.pick(&[Insert, Insert, Insert, Remove, Remove, Check, Lookup]),
-        key: if rng.one_in(30) { 0 } else { rng.pick(&board.keys) },
+        key: if rng.one_in(30) { rng.below(10) as u32 } else { rng.pick(&board.keys) },
         tier: if rng.one_in(30) { 8 } else { random_tier(rng) },
     }
 }

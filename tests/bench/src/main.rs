@@ -1,13 +1,15 @@
-//! The benchmark: the library beside two twins in Rust. `tests/bench/run` uses it, in this order: `compare N` makes N random calls that all partners must answer alike;
-//! `counts` prints what a build does, in a build with the feature of that name; `wanted` lists the calls whose instructions are to be counted, trails of the library
-//! among them, and `one CASE PARTNER CALL` makes one of them; `tables FILE` takes what was counted from a file, takes times, and prints the tables; `picture FILE`
-//! draws times against keys.
+//! The benchmark: the library beside two twins in Rust. `tests/bench/run` uses it, in this order: `compare N` has all
+//! partners refuse issues of one first part, and makes N random calls that they must answer alike; `counts` prints what
+//! a build does, in a build with the feature of that name; `wanted` lists the calls whose instructions are to be
+//! counted, trails of the library among them, and `one CASE PARTNER CALL` makes one of them; `tables FILE` takes what
+//! was counted from a file, takes times, and prints the tables; `picture FILE` draws times against keys.
 
 mod cases;
 mod common;
 mod compare;
 mod goals;
 mod instructions;
+mod issues;
 mod partners;
 mod picture;
 mod plain;
@@ -23,7 +25,10 @@ fn main() {
     let words: Vec<String> = std::env::args().skip(1).collect();
     let words: Vec<&str> = words.iter().map(String::as_str).collect();
     match words[..] {
-        ["compare", calls] => compare::run(calls.parse().expect("how many calls")),
+        ["compare", calls] => {
+            issues::run();
+            compare::run(calls.parse().expect("how many calls"));
+        }
         ["counts"] => tables::print_counts(),
         ["wanted"] => instructions::print_wanted(),
         ["one", case, partner, call] => instructions::one(case, partner, call),

@@ -8,6 +8,7 @@ use library::Counters;
 use reference::set::Member;
 
 use crate::cases::{Board, Case};
+use crate::common::is_blank;
 use crate::partners::{Call, Partner, PARTNERS};
 
 /// How many turns each board of a row has in a table.
@@ -98,7 +99,7 @@ pub fn changes(case: &Case, rounds: usize) -> Changes {
 pub fn others(board: &Board) -> Vec<u32> {
     let inside: HashSet<u32> = board.keys().into_iter().collect();
     let spread = (1..).map(|i: u32| i.wrapping_mul(2_654_435_761));
-    spread.filter(|key| *key != 0 && !inside.contains(key)).take(inside.len()).collect()
+    spread.filter(|key| !is_blank(*key) && !inside.contains(key)).take(inside.len()).collect()
 }
 
 /// Who looks keys up: the library, the twins, which have one lookup, and std's HashMap.
