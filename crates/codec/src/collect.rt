@@ -1,6 +1,6 @@
 // The keys that stand in given words, ascending, in scratch: the words that are not blank are gathered, sorted, and
-// doubles are dropped. A key comes to the word of its rank, counted from 1: word 0 is 0, since "no key" has rank 0. The words
-// need only the shape of a dictionary: whether they are canonical is found out later, from these keys.
+// doubles are dropped. A key comes to the word of its rank, counted from 1: word 0 is 0, since "no key" has rank 0. The
+// words need only the shape of a dictionary: whether they are canonical is found out later, from these keys.
 ghost use mathlib.Core.Path.{_≡_};
 ghost use mathlib.Core.Bool.{cond};
 ghost use mathlib.Core.List.{_∷_, _++_};

@@ -49,8 +49,8 @@ pub fn early(tabulation: &[u16], words: &[u32], room: usize) -> u32
     0
 }
 
-// The words read as a set: its keys and their edges come into scratch, they must be one issue of each first part, and the
-// image must be the words.
+// The words read as a set: its keys and their edges come into scratch, they must be one issue of each first part, and
+// the image must be the words.
 pub fn read_set(tabulation: &[u16], words: &[u32], scratch: &mut [u32]) -> Reading
     requires { ⌜ Ready (now tabulation) (now words) (now scratch) ⌝ }
     ensures numbered { λ l. ⌜ number l ≡ reading-refusal (now (tabulation .entry)) (now (words .entry)) ⌝ }

@@ -4,7 +4,8 @@
 ghost use mathlib.Core.Path.{_≡_};
 ghost use Prim.Native.Nat.{_<_};
 ghost use Rattle.tabulation.specs.Slots.{slot-0, slot-1};
-ghost use Rattle.tabulation.specs.Hash.{slots-in-range, station-in-range, tables, Hashing, first-part, blank, hash};
+ghost use Rattle.tabulation.specs.Hash.{slots-in-range, station-in-range, tables, Hashing};
+ghost use Rattle.tabulation.specs.Hash.{first-part, blank, hash};
 ghost use Rattle.tabulation.specs.Answer.{number, values, hashes-refusal, hashes-values, written};
 use refusals::BLANK_KEY;
 use refusals::WRONG_SHAPE;
