@@ -9,7 +9,7 @@
 #include <string.h>
 
 static uint16_t house[PINORANGE_TABULATION_LENGTH];
-static unsigned char accepted[4096]; /* of key i * 2654435761 in the session that runs */
+static unsigned char accepted[4096]; /* of key_of(i) in the session that runs */
 static unsigned long calls;
 static int failures;
 
@@ -49,6 +49,20 @@ static void expect_zeros(const char *what, const uint32_t *memory, size_t length
         }
 }
 
+/* The keys of a session, far apart: no two of them are issues of one first part. */
+static uint32_t key_of(uint32_t i)
+{
+    return i * 2654435761u;
+}
+
+/* Another issue of a key: of the same first part, smaller or larger. */
+static uint32_t other_issue(uint32_t key)
+{
+    uint32_t other = key % 10 < 5 ? key + 1 : key - 1;
+    expect("the first part of another issue", PINORANGE_FIRST_PART(other), PINORANGE_FIRST_PART(key));
+    return other;
+}
+
 /* A tier that stands for a removal. */
 #define OUT UINT32_MAX
 
@@ -76,6 +90,17 @@ struct board {
     size_t length;
     size_t room;
 };
+
+/* A change of the words of a board, which it may only read. */
+static uint32_t change_on(const struct board *board, uint32_t *words, uint32_t key, uint32_t tier)
+{
+    return change(board->book, board->book_length, words, board->length, board->room, key, tier);
+}
+
+static uint32_t look_up(const struct board *board, uint32_t key, uint32_t *listed, uint32_t *tier)
+{
+    return pinorange_lookup(board->book, board->book_length, board->words, board->length, key, listed, tier);
+}
 
 /* A trail with a scratch of its own, which must be zeros afterwards. */
 static uint32_t ask(const struct board *board, uint32_t key, uint32_t *trail, size_t trail_length, uint32_t *count)
@@ -190,20 +215,45 @@ static uint32_t follow(const struct board *board, uint32_t r, uint32_t key)
     return count;
 }
 
-/* A sale of each key of a session, where it was accepted, and none where it was not; and a sale of the first one, which stays open. */
+/* A sale of each key of a session, where it was accepted, and none where it was not, nor of another issue; and a sale
+ * of the first one, which stays open. */
 static struct pinorange_sale *serve(const struct board *board, uint32_t keys)
 {
     struct pinorange_sale *first = lend(sizeof *first);
-    for (uint32_t i = 1; i <= keys; i++)
+    for (uint32_t i = 1; i <= keys; i++) {
+        expect_no_sale("another issue", board, other_issue(key_of(i)), 1000, PINORANGE_STEPS, PINORANGE_KEY_ABSENT);
         if (accepted[i])
-            expect_sale("sale", board, i * 2654435761u, 1000, i % 8, (uint32_t)(1000 + all_steps[i % 8]));
+            expect_sale("sale", board, key_of(i), 1000, i % 8, (uint32_t)(1000 + all_steps[i % 8]));
         else
-            expect_no_sale("not in the set", board, i * 2654435761u, i % 2, i % 10, PINORANGE_KEY_ABSENT);
-    expect("the first key", open_sale(board, 2654435761u, 500, PINORANGE_STEPS, first), PINORANGE_DONE);
+            expect_no_sale("not in the set", board, key_of(i), i % 2, i % 10, PINORANGE_KEY_ABSENT);
+    }
+    expect("the first key", open_sale(board, key_of(1), 500, PINORANGE_STEPS, first), PINORANGE_DONE);
     return first;
 }
 
-/* A dictionary filled, key i at tier i % 8, and emptied again; in between refused inserts, lookups, trails, sales and views. */
+/* Each key of a session, where it was accepted, replaced by another issue at the same tier, and that one by the key
+ * again, which brings every word back. The one that is listed keeps the other out, whatever its tier: 13. */
+static void replace(const struct board *board, uint32_t *words, uint32_t keys)
+{
+    size_t bytes = board->length * sizeof *words;
+    uint32_t *before = lend(bytes);
+    memcpy(before, words, bytes);
+    for (uint32_t i = 1; i <= keys; i++)
+        for (uint32_t turn = 0; accepted[i] && turn < 2; turn++) {
+            uint32_t out = turn ? other_issue(key_of(i)) : key_of(i), in = turn ? key_of(i) : other_issue(key_of(i));
+            for (uint32_t tier = 0; tier <= PINORANGE_MAX_TIER; tier++)
+                expect("another issue", change_on(board, words, in, tier), PINORANGE_OTHER_ISSUE);
+            expect("wrong tier", change_on(board, words, in, PINORANGE_MAX_TIER + 1), PINORANGE_WRONG_TIER);
+            expect("remove of another issue", change_on(board, words, in, OUT), PINORANGE_KEY_ABSENT);
+            expect("remove", change_on(board, words, out, OUT), PINORANGE_DONE);
+            expect("replace", change_on(board, words, in, i % 8), PINORANGE_DONE);
+            expect("the words are other ones", memcmp(before, words, bytes) != 0, turn == 0);
+        }
+    free(before);
+}
+
+/* A dictionary filled, key i at tier i % 8, and emptied again; in between refused inserts, keys that are replaced,
+ * lookups, trails, sales and views. */
 static void session(uint32_t r, uint32_t s, uint32_t station, uint32_t keys)
 {
     size_t length = PINORANGE_WORDS(r, s), room = PINORANGE_SCRATCH(r, s);
@@ -216,23 +266,28 @@ static void session(uint32_t r, uint32_t s, uint32_t station, uint32_t keys)
 
     expect("init", pinorange_init(words, length, r, s, station, &counters), PINORANGE_DONE);
     for (uint32_t i = 1; i <= keys; i++) {
-        uint32_t answer = change(book, PINORANGE_TABULATION_LENGTH, words, length, room, i * 2654435761u, i % 8);
+        uint32_t answer = change_on(&board, words, key_of(i), i % 8);
         full += answer == PINORANGE_STASH_FULL;
         accepted[i] = answer == PINORANGE_DONE;
         expect("insert", answer, accepted[i] ? PINORANGE_DONE : PINORANGE_STASH_FULL);
     }
     for (uint32_t i = 1; i <= keys; i++) {
-        expect("insert again", change(book, PINORANGE_TABULATION_LENGTH, words, length, room, i * 2654435761u, i % 8),
+        expect("insert again", change_on(&board, words, key_of(i), i % 8),
                accepted[i] ? PINORANGE_KEY_PRESENT : PINORANGE_STASH_FULL);
-        expect("another tier", change(book, PINORANGE_TABULATION_LENGTH, words, length, room, i * 2654435761u, (i + 1) % 8),
+        expect("another tier", change_on(&board, words, key_of(i), (i + 1) % 8),
                accepted[i] ? PINORANGE_OTHER_TIER : PINORANGE_STASH_FULL);
-        expect("wrong tier", change(book, PINORANGE_TABULATION_LENGTH, words, length, room, i * 2654435761u, PINORANGE_MAX_TIER + i),
-               PINORANGE_WRONG_TIER);
+        expect("wrong tier", change_on(&board, words, key_of(i), PINORANGE_MAX_TIER + i), PINORANGE_WRONG_TIER);
+        /* of a key that has no place no other issue has one: both have the same slots */
+        expect("another issue", change_on(&board, words, other_issue(key_of(i)), i % 8),
+               accepted[i] ? PINORANGE_OTHER_ISSUE : PINORANGE_STASH_FULL);
     }
+    replace(&board, words, keys);
     for (uint32_t i = 1; i <= 2 * keys; i++) {
         uint32_t listed = 7, tier = 77, table0, table1;
-        expect("lookup", pinorange_lookup(book, PINORANGE_TABULATION_LENGTH, words, length, i * 2654435761u, &listed, &tier), PINORANGE_DONE);
-        expect("hashes", pinorange_hashes(book, PINORANGE_TABULATION_LENGTH, r, station, i * 2654435761u, &table0,
+        expect("lookup", look_up(&board, other_issue(key_of(i)), &listed, &tier), PINORANGE_DONE);
+        expect("another issue is not listed", listed, 0);
+        expect("lookup", look_up(&board, key_of(i), &listed, &tier), PINORANGE_DONE);
+        expect("hashes", pinorange_hashes(book, PINORANGE_TABULATION_LENGTH, r, station, key_of(i), &table0,
                                           &table1), PINORANGE_DONE);
         expect("listed", listed, i <= keys && accepted[i]);
         expect("tier", tier, listed ? i % 8 : 77);
@@ -241,17 +296,18 @@ static void session(uint32_t r, uint32_t s, uint32_t station, uint32_t keys)
     }
     for (uint32_t i = 1; i <= keys; i++)
         if (accepted[i]) {
-            uint32_t count = follow(&board, r, i * 2654435761u);
+            uint32_t count = follow(&board, r, key_of(i));
+            expect_refusal("another issue", &board, other_issue(key_of(i)), 2 * r, PINORANGE_KEY_ABSENT);
             empty += count == 0;
             longer += count > 1;
         } else {
-            expect_refusal("not in the set", &board, i * 2654435761u, i % 3, PINORANGE_KEY_ABSENT);
+            expect_refusal("not in the set", &board, key_of(i), i % 3, PINORANGE_KEY_ABSENT);
         }
     expect("empty trails, one for each stashed key", empty, words[3]);
     expect("some trails are longer than one key", longer > 0, 1);
     sale = serve(&board, keys);
     for (uint32_t i = 1; i <= keys; i++) {
-        uint32_t offset, count, answer = change(book, PINORANGE_TABULATION_LENGTH, words, length, room, i * 2654435761u, OUT);
+        uint32_t offset, count, answer = change_on(&board, words, key_of(i), OUT);
         expect("remove", answer, accepted[i] ? PINORANGE_DONE : PINORANGE_KEY_ABSENT);
         expect("stash", pinorange_stash(words, length, &offset, &count), PINORANGE_DONE);
         expect("the view has two words a key", count, 2 * words[3]);
@@ -260,7 +316,7 @@ static void session(uint32_t r, uint32_t s, uint32_t station, uint32_t keys)
     /* nothing is left: r, s, the station and zeros */
     for (size_t i = 0; i < length; i++)
         expect("word", words[i], i == 0 ? r : i == 1 ? s : i == 4 ? station : 0);
-    expect_no_sale("removed", &board, 2654435761u, 500, PINORANGE_STEPS, PINORANGE_KEY_ABSENT);
+    expect_no_sale("removed", &board, key_of(1), 500, PINORANGE_STEPS, PINORANGE_KEY_ABSENT);
     expect("the sale of a key that is gone", pinorange_close_sale(sale), 480);
     free(sale);
     expect("most inserts were accepted", full < keys - keys / 3 + 1, 1);
@@ -275,21 +331,20 @@ static void session(uint32_t r, uint32_t s, uint32_t station, uint32_t keys)
 static void test_sales(const struct board *board)
 {
     struct pinorange_sale *sale = lend(sizeof *sale);
-    expect_sale("17", board, 17, 100, 0, 70);
-    expect_sale("193, stashed", board, 193, 100, 1, 80);
-    expect_sale("129", board, 129, 100, 3, 100);
-    expect_sale("65", board, 65, 100, 7, 140);
-    expect_sale("the smallest price", board, 17, 31, 0, 1);
-    expect_sale("the largest base", board, 65, PINORANGE_MAX_BASE, 7, PINORANGE_MAX_BASE + 40);
+    expect_sale("170", board, 170, 100, 0, 70);
+    expect_sale("1930, stashed", board, 1930, 100, 1, 80);
+    expect_sale("1290", board, 1290, 100, 3, 100);
+    expect_sale("650", board, 650, 100, 7, 140);
+    expect_sale("the smallest price", board, 170, 31, 0, 1);
+    expect_sale("the largest base", board, 650, PINORANGE_MAX_BASE, 7, PINORANGE_MAX_BASE + 40);
     for (size_t steps_length = 0; steps_length <= ALL_STEPS; steps_length++)
         if (steps_length != PINORANGE_STEPS)
-            expect_no_sale("12, steps", board, 17, 100, steps_length, PINORANGE_WRONG_PRICE);
-    expect_no_sale("12, price", board, 17, 30, PINORANGE_STEPS, PINORANGE_WRONG_PRICE);
-    expect_no_sale("12, price", board, 17, 29, PINORANGE_STEPS, PINORANGE_WRONG_PRICE);
-    expect_no_sale("12, base", board, 65, 0, PINORANGE_STEPS, PINORANGE_WRONG_PRICE);
-    expect_no_sale("12, base", board, 65, PINORANGE_MAX_BASE + 1, PINORANGE_STEPS, PINORANGE_WRONG_PRICE);
-    expect_no_sale("7", board, 2, 0, 0, PINORANGE_KEY_ABSENT);
-    expect_no_sale("5", board, 0, 0, 0, PINORANGE_BLANK_KEY);
+            expect_no_sale("12, steps", board, 170, 100, steps_length, PINORANGE_WRONG_PRICE);
+    expect_no_sale("12, price", board, 170, 30, PINORANGE_STEPS, PINORANGE_WRONG_PRICE);
+    expect_no_sale("12, price", board, 170, 29, PINORANGE_STEPS, PINORANGE_WRONG_PRICE);
+    expect_no_sale("12, base", board, 650, 0, PINORANGE_STEPS, PINORANGE_WRONG_PRICE);
+    expect_no_sale("12, base", board, 650, PINORANGE_MAX_BASE + 1, PINORANGE_STEPS, PINORANGE_WRONG_PRICE);
+    expect_no_sale("7", board, 20, 0, 0, PINORANGE_KEY_ABSENT);
     sale->price = 480; /* neither key nor tier is ever written */
     expect("closing needs the price alone", pinorange_close_sale(sale), 480);
     free(sale);
@@ -298,25 +353,59 @@ static void test_sales(const struct board *board)
 /* The refusals that are left, on words of the test board whose tiers are all above 7; each with causes for those that are tried behind it. */
 static void test_refused_sales(const struct board *board)
 {
-    static const uint32_t keys[] = {17, 65, 129, 193};
+    static const uint32_t keys[] = {170, 650, 1290, 1930};
     struct board other = *board;
     for (size_t i = 0; i < 4; i++) {
         expect_no_sale("4", board, keys[i], 100, PINORANGE_STEPS, PINORANGE_NOT_CANONICAL);
         expect_no_sale("4", board, keys[i], 0, i, PINORANGE_NOT_CANONICAL);
     }
-    expect_no_sale("7", board, 2, 0, 7, PINORANGE_KEY_ABSENT);
-    expect_no_sale("5", board, 0, 0, 7, PINORANGE_BLANK_KEY);
+    expect_no_sale("7", board, 20, 0, 7, PINORANGE_KEY_ABSENT);
+    expect_no_sale("7, another issue", board, 171, 0, 7, PINORANGE_KEY_ABSENT);
+    for (uint32_t key = 0; key < 10; key++)
+        expect_no_sale("5", board, key, 0, 7, PINORANGE_BLANK_KEY);
     other.length--;
     expect_no_sale("2", &other, 0, 0, 7, PINORANGE_WRONG_SHAPE);
     other.book_length--;
     expect_no_sale("1", &other, 0, 0, 7, PINORANGE_WRONG_TABULATION);
 }
 
-/* The keys 17, 65 and 129 on the test board of the specification, and then 193 in the stash: their trails by hand, and every refusal of a trail, with causes
- * for those that are tried behind it. Then their sales, which the tampering with a count does not touch, and tiers above 7 do. */
+/* Keys that the sound test board does not have: below 10, and other issues of its own, smaller and larger. No call
+ * takes one of these for another. */
+static void test_strange_keys(const struct board *board, uint32_t *words)
+{
+    static const uint32_t others[] = {171, 179, 651, 1291, 1939};
+    for (uint32_t key = 0; key < 10; key++) {
+        expect("5", change_on(board, words, key, PINORANGE_MAX_TIER + 1), PINORANGE_BLANK_KEY);
+        expect("5", change_on(board, words, key, OUT), PINORANGE_BLANK_KEY);
+        expect_refusal("5", board, key, 0, PINORANGE_BLANK_KEY);
+        expect_no_sale("5", board, key, 0, 0, PINORANGE_BLANK_KEY);
+    }
+    for (size_t i = 0; i < sizeof others / sizeof *others; i++) {
+        expect("13, and not 8", change_on(board, words, others[i], 1), PINORANGE_OTHER_ISSUE);
+        expect("7, another issue", change_on(board, words, others[i], OUT), PINORANGE_KEY_ABSENT);
+        expect_refusal("7, another issue", board, others[i], 0, PINORANGE_KEY_ABSENT);
+        expect_no_sale("7, another issue", board, others[i], 0, 0, PINORANGE_KEY_ABSENT);
+    }
+    expect("8 for a key with the slots of 650", change_on(board, words, 10, 1), PINORANGE_STASH_FULL);
+}
+
+/* Another key in the stash of the test board, in the place of 1930: no set has these words. A sale is opened. */
+static void test_stashed(const struct board *board, uint32_t *words, uint32_t key)
+{
+    words[29] = key;
+    expect("4", change_on(board, words, 20, 0), PINORANGE_NOT_CANONICAL);
+    expect("4", change_on(board, words, 170, OUT), PINORANGE_NOT_CANONICAL);
+    expect_refusal("4", board, 170, 8, PINORANGE_NOT_CANONICAL);
+    expect_sale("1290", board, 1290, 100, 3, 100);
+    words[29] = 1930;
+}
+
+/* The keys 170, 650 and 1290 on the test board of the specification, and then 1930 in the stash: their trails by hand,
+ * and every refusal of a trail, with causes for those that are tried behind it. Then their sales, which the tampering
+ * with a count does not touch, and tiers above 7 do. */
 static void test_board(void)
 {
-    static const uint32_t of_17[] = {17, 65}, of_65[] = {65}, of_129[] = {129, 65};
+    static const uint32_t of_170[] = {170, 650}, of_650[] = {650}, of_1290[] = {1290, 650};
     size_t books = PINORANGE_TABULATION_LENGTH, length = PINORANGE_WORDS(4, 1), room = PINORANGE_SCRATCH(4, 1);
     uint16_t *book = lend_book(books);
     uint32_t *words = lend(length * sizeof *words);
@@ -327,26 +416,28 @@ static void test_board(void)
     for (uint32_t v = 0; v < books; v++)
         book[v] = (uint16_t)(v < 256 ? v : v >= 1280 && v < 1536 ? (v - 1280) / 16 : 0);
     expect("init", pinorange_init(words, length, 4, 1, 0, &counters), PINORANGE_DONE);
-    expect("insert", change(book, books, words, length, room, 129, 3), PINORANGE_DONE);
-    expect("insert", change(book, books, words, length, room, 17, 0), PINORANGE_DONE);
-    expect("insert", change(book, books, words, length, room, 65, 7), PINORANGE_DONE);
+    expect("insert", change(book, books, words, length, room, 1290, 3), PINORANGE_DONE);
+    expect("insert", change(book, books, words, length, room, 170, 0), PINORANGE_DONE);
+    expect("insert", change(book, books, words, length, room, 650, 7), PINORANGE_DONE);
     for (size_t more = 0; more <= 8; more++) {
-        expect_trail("129", &board, 129, 2 + more, of_129, 2);
-        expect_trail("17", &board, 17, 2 + more, of_17, 2);
-        expect_trail("65", &board, 65, 1 + more, of_65, 1);
+        expect_trail("1290", &board, 1290, 2 + more, of_1290, 2);
+        expect_trail("170", &board, 170, 2 + more, of_170, 2);
+        expect_trail("650", &board, 650, 1 + more, of_650, 1);
     }
-    expect("insert", change(book, books, words, length, room, 193, 1), PINORANGE_DONE);
-    expect_trail("193, stashed", &board, 193, 0, NULL, 0);
-    expect_trail("193, stashed", &board, 193, 8, NULL, 0);
-    expect_trail("129 as before", &board, 129, 8, of_129, 2);
+    expect("insert", change(book, books, words, length, room, 1930, 1), PINORANGE_DONE);
+    expect_trail("1930, stashed", &board, 1930, 0, NULL, 0);
+    expect_trail("1930, stashed", &board, 1930, 8, NULL, 0);
+    expect_trail("1290 as before", &board, 1290, 8, of_1290, 2);
 
-    expect_refusal("11", &board, 129, 1, PINORANGE_SHORT_TRAIL);
-    expect_refusal("11", &board, 65, 0, PINORANGE_SHORT_TRAIL);
-    expect_refusal("7", &board, 2, 8, PINORANGE_KEY_ABSENT);
-    expect_refusal("7", &board, 2, 0, PINORANGE_KEY_ABSENT);
-    expect_refusal("5", &board, 0, 0, PINORANGE_BLANK_KEY);
+    expect_refusal("11", &board, 1290, 1, PINORANGE_SHORT_TRAIL);
+    expect_refusal("11", &board, 650, 0, PINORANGE_SHORT_TRAIL);
+    expect_refusal("7", &board, 20, 8, PINORANGE_KEY_ABSENT);
+    expect_refusal("7", &board, 20, 0, PINORANGE_KEY_ABSENT);
+    test_strange_keys(&board, words);
+    test_stashed(&board, words, 1291); /* the largest on its cycle, as it must be, but 1290 has the same first part */
+    test_stashed(&board, words, 9);
     words[2]++; /* tampered */
-    expect_refusal("4", &board, 129, 8, PINORANGE_NOT_CANONICAL);
+    expect_refusal("4", &board, 1290, 8, PINORANGE_NOT_CANONICAL);
     expect_refusal("4", &board, 0, 0, PINORANGE_NOT_CANONICAL);
     expect_refusal("3", &(struct board){book, books, words, length, room - 1}, 0, 0, PINORANGE_SHORT_SCRATCH);
     expect_refusal("2", &(struct board){book, books, words, length - 1, room - 1}, 0, 8, PINORANGE_WRONG_SHAPE);
@@ -389,15 +480,16 @@ static void lengths(uint32_t r, uint32_t s, uint32_t station)
                    more ? PINORANGE_WRONG_TABULATION : shape);
             for (int out = 0; out < 2; out++)
                 expect("short or long scratch",
-                       change(house, PINORANGE_TABULATION_LENGTH, words, length, rooms, 0, out ? OUT : 8),
+                       change(house, PINORANGE_TABULATION_LENGTH, words, length, rooms, length % 10, out ? OUT : 8),
                        shape ? shape : more < 0 ? PINORANGE_SHORT_SCRATCH : PINORANGE_BLANK_KEY);
-            expect_refusal("trail", &(struct board){book, books, words, length, rooms}, 5, length % 3,
+            expect_refusal("trail", &(struct board){book, books, words, length, rooms}, 50, length % 3,
                            more ? PINORANGE_WRONG_TABULATION : shape ? shape : PINORANGE_KEY_ABSENT);
-            expect_refusal("trail", &(struct board){house, PINORANGE_TABULATION_LENGTH, words, length, rooms}, 5, length % 3,
-                           shape ? shape : more < 0 ? PINORANGE_SHORT_SCRATCH : PINORANGE_KEY_ABSENT);
-            expect_no_sale("sale", &(struct board){book, books, words, length, rooms}, 5, 100, length % 10,
+            expect_refusal("trail", &(struct board){house, PINORANGE_TABULATION_LENGTH, words, length, rooms}, 50,
+                           length % 3, shape ? shape : more < 0 ? PINORANGE_SHORT_SCRATCH : PINORANGE_KEY_ABSENT);
+            expect_no_sale("sale", &(struct board){book, books, words, length, rooms}, 50, 100, length % 10,
                            more ? PINORANGE_WRONG_TABULATION : shape ? shape : PINORANGE_KEY_ABSENT);
-            expect("lookup", pinorange_lookup(book, books, words, length, 5, &listed, &tier), more ? PINORANGE_WRONG_TABULATION : shape);
+            expect("lookup", pinorange_lookup(book, books, words, length, 50, &listed, &tier),
+                   more ? PINORANGE_WRONG_TABULATION : shape);
             expect("listed", listed, more || shape ? 7 : 0);
             expect("tier", tier, 77);
             expect("stash", pinorange_stash(words, length, &offset, &count), shape);

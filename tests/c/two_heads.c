@@ -1,7 +1,8 @@
-/* Two pump heads with different pasts: one loads a promotion and cancels it, and mends a card's tier, while customers with such cards are filling up; the other
- * never saw any of it. Their lists are compared word by word, as a station console does. Exits with 0 when they are alike, and when a third head with another
- * set differs, a fourth with other tiers, and a fifth at another station, though it has the first one's cards and tiers; and when every sale is closed at the
- * price that it was opened with. */
+/* Two pump heads with different pasts: one loads a promotion and cancels it, mends a card's tier, and replaces a card
+ * that was made again, while customers with such cards are filling up; the other never saw any of it. Their lists are
+ * compared word by word, as a station console does. Exits with 0 when they are alike, and when a third head with another
+ * set differs, a fourth with other tiers, a fifth at another station, though it has the first one's cards and tiers, and
+ * a sixth that has the earlier issue of a card; and when every sale is closed at the price that it was opened with. */
 #include "pinorange.h"
 
 #include <stdio.h>
@@ -104,10 +105,45 @@ static uint32_t tier_of(uint32_t card)
     return card % 8;
 }
 
+/* The promotion's cards: as all cards, no two of one first part. */
+static uint32_t promoted(uint32_t card)
+{
+    return 900000u + 10 * card;
+}
+
+/* A regular card that was made again, and the number that it had before: the same but for its last digit. */
+#define REMADE 7u
+static uint32_t earlier(void)
+{
+    uint32_t issue = number(REMADE) - 2;
+    expect("first part", PINORANGE_FIRST_PART(issue), PINORANGE_FIRST_PART(number(REMADE)));
+    return issue;
+}
+
+/* Adds a regular card to a head that has the earlier issue of the one that was made again. */
+static uint32_t add_earlier(struct head *h, uint32_t card)
+{
+    return add(h, card == REMADE ? earlier() : number(card), tier_of(card));
+}
+
+/* Replaces the card that was made again. While the earlier issue is listed, the new one cannot be added, whatever its
+ * tier, and is not listed: there is nothing to look up, to withdraw or to sell to. */
+static void replace(struct head *h)
+{
+    for (uint32_t tier = 0; tier <= PINORANGE_MAX_TIER; tier++)
+        expect("other issue", add(h, number(REMADE), tier), PINORANGE_OTHER_ISSUE);
+    expect_tier("the new issue is not listed", h, number(REMADE), 77);
+    expect("the new issue is not listed", withdraw(h, number(REMADE)), PINORANGE_KEY_ABSENT);
+    expect_no_sale("no sale of the new issue", h, number(REMADE));
+    expect_tier("the earlier issue stays", h, earlier(), tier_of(REMADE));
+    expect("withdrawn", withdraw(h, earlier()), PINORANGE_DONE);
+    expect("replaced", add(h, number(REMADE), tier_of(REMADE)), PINORANGE_DONE);
+}
+
 int main(void)
 {
-    static struct head one, two, three, four, five;
-    struct pinorange_sale promotion, regular, later;
+    static struct head one, two, three, four, five, six;
+    struct pinorange_sale promotion, regular, later, replaced;
     uint32_t offset = 9, length = 9, moved = 0;
 
     expect("house", pinorange_house(tabulation, PINORANGE_TABULATION_LENGTH), PINORANGE_DONE);
@@ -116,6 +152,7 @@ int main(void)
     lay(&three, STATION);
     lay(&four, STATION);
     lay(&five, STATION + 1);
+    lay(&six, STATION);
 
     /* head one: the regular cards, ascending */
     for (uint32_t card = 1; card <= 60; card++)
@@ -123,20 +160,23 @@ int main(void)
 
     /* head two: a promotion first, the regular cards descending, then the promotion cancelled; refused calls in between */
     for (uint32_t card = 1; card <= 20; card++)
-        expect("promotion", add(&two, 900000u + card, 7), PINORANGE_DONE);
+        expect("promotion", add(&two, promoted(card), 7), PINORANGE_DONE);
     for (uint32_t card = 60; card >= 1; card--)
-        expect("add", add(&two, number(card), card == 5 ? 2 : tier_of(card)), PINORANGE_DONE);
+        expect("add", card == 5 ? add(&two, number(card), 2) : add_earlier(&two, card), PINORANGE_DONE);
     expect("listed", add(&two, number(1), tier_of(1)), PINORANGE_KEY_PRESENT);
     expect("blank", add(&two, 0, 0), PINORANGE_BLANK_KEY);
+    expect("blank, without a first part", add(&two, 9, 0), PINORANGE_BLANK_KEY);
     expect("wrong tier", add(&two, number(1), PINORANGE_MAX_TIER + 1), PINORANGE_WRONG_TIER);
 
-    /* a customer with a card of the promotion, and one with card 5, lift their nozzles at head two; then the promotion is cancelled */
-    promotion = expect_sale("nozzle lift, promotion", &two, 900001u, 7, 1679);
+    /* a customer with a card of the promotion, one with card 5, and one with the earlier issue of a card lift their
+     * nozzles at head two; then the promotion is cancelled */
+    promotion = expect_sale("nozzle lift, promotion", &two, promoted(1), 7, 1679);
+    replaced = expect_sale("nozzle lift, earlier issue", &two, earlier(), 7, 1679);
     regular = expect_sale("nozzle lift", &two, number(5), 2, 1789);
     for (uint32_t card = 1; card <= 20; card++)
-        expect("cancelled", withdraw(&two, 900000u + card), PINORANGE_DONE);
-    expect("not listed", withdraw(&two, 900001u), PINORANGE_KEY_ABSENT);
-    expect_no_sale("no sale of a cancelled card", &two, 900001u);
+        expect("cancelled", withdraw(&two, promoted(card)), PINORANGE_DONE);
+    expect("not listed", withdraw(&two, promoted(1)), PINORANGE_KEY_ABSENT);
+    expect_no_sale("no sale of a cancelled card", &two, promoted(1));
     expect("hang-up, promotion", pinorange_close_sale(&promotion), 1679);
 
     /* card 5 came to head two at tier 2: an add with the right tier is refused and leaves it; withdrawn and added again it has the right one */
@@ -147,13 +187,18 @@ int main(void)
     expect("added again", add(&two, number(5), tier_of(5)), PINORANGE_DONE);
     later = expect_sale("nozzle lift at the right tier", &two, number(5), 5, 1774);
 
+    replace(&two);
+    expect_no_sale("no sale of the earlier issue", &two, earlier());
+    expect("hang-up, earlier issue", pinorange_close_sale(&replaced), 1679);
+
     /* head three: one card fewer; head four: every card, one of them at another tier; head five: as head one, at the next
-     * station */
+     * station; head six: the earlier issue of a card */
     for (uint32_t card = 1; card <= 60; card++) {
         if (card < 60)
             expect("add", add(&three, number(card), tier_of(card)), PINORANGE_DONE);
         expect("add", add(&four, number(card), card == 60 ? 0 : tier_of(card)), PINORANGE_DONE);
         expect("add", add(&five, number(card), tier_of(card)), PINORANGE_DONE);
+        expect("add", add_earlier(&six, card), PINORANGE_DONE);
     }
 
     /* two sales of card 5 are open at head two, and none at head one */
@@ -167,6 +212,10 @@ int main(void)
     }
     if (memcmp(one.words, four.words, sizeof one.words) == 0) {
         printf("two heads with the same cards at different tiers are alike\n");
+        failures++;
+    }
+    if (memcmp(one.words, six.words, sizeof one.words) == 0) {
+        printf("two heads with different issues of a card are alike\n");
         failures++;
     }
     /* head five: its own station, the same number of cards, and cards in other slots */
@@ -186,7 +235,7 @@ int main(void)
     expect("the other's station", check(&five), PINORANGE_NOT_CANONICAL);
     five.words[4] = PINORANGE_MAX_STATION + 1;
     expect("no station", check(&five), PINORANGE_WRONG_SHAPE);
-    expect("no station", add(&five, 1, 0), PINORANGE_WRONG_SHAPE);
+    expect("no station", add(&five, 10, 0), PINORANGE_WRONG_SHAPE);
     five.words[4] = STATION + 1;
     expect("its own station", check(&five), PINORANGE_DONE);
     expect("init at no station", pinorange_init(five.words, PINORANGE_WORDS(R, S), R, S, PINORANGE_MAX_STATION + 1,
@@ -198,13 +247,13 @@ int main(void)
     expect("check", check(&two), PINORANGE_DONE);
     for (uint32_t card = 1; card <= 60; card++)
         expect_tier("lookup", &two, number(card), tier_of(card));
-    expect_tier("cancelled", &two, 900001u, 77);
+    expect_tier("cancelled", &two, promoted(1), 77);
     expect_tier("another tier", &four, number(60), 0);
     expect("stash", pinorange_stash(two.words, PINORANGE_WORDS(R, S), &offset, &length), PINORANGE_DONE);
     expect("stash offset", offset, 5 + 6 * R);
     expect("stash length", length, 2 * two.words[3]);
-    expect("done", two.counters.done, 103);
-    expect("refused", two.counters.refused, 5);
+    expect("done", two.counters.done, 105);
+    expect("refused", two.counters.refused, 15);
     for (size_t i = 0; i < PINORANGE_SCRATCH(R, S); i++)
         expect("scratch", scratch[i], 0);
 
