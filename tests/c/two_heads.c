@@ -1,8 +1,8 @@
 /* Two pump heads with different pasts: one loads a promotion and cancels it, mends a card's tier, and replaces a card
  * that was made again, while customers with such cards are filling up; the other never saw any of it. Their lists are
- * compared word by word, as a station console does. Exits with 0 when they are alike, and when a third head with another
- * set differs, a fourth with other tiers, a fifth at another station, though it has the first one's cards and tiers, and
- * a sixth that has the earlier issue of a card; and when every sale is closed at the price that it was opened with. */
+ * compared word by word, as a station console does. Exits with 0 when they are alike, and when a third head with
+ * another set differs, a fourth with other tiers, a fifth at another station, though it has the first one's cards and
+ * tiers, and a sixth with the earlier issue of a card; and when every sale is closed at the price of its opening. */
 #include "pinorange.h"
 
 #include <stdio.h>
