@@ -1,14 +1,14 @@
 //! What a call gives back: accepted, one of the refusals of document 01's table (with those that
-//! requests One, Two and Four add to it), or what a lookup found.
+//! requests One, Two, Four and Six add to it), or what a lookup found.
 //! Every other module names refusals by this enum; the paper's numbers stand only here.
 
 /// Why a call was refused.
 ///
 /// Paper: the table under "What a call gives back". "They are tried in this order, and none is
 /// given otherwise." Request One puts 9 and 10 between 5 and 6, request Two 11 after 7, request
-/// Four 12 after that; the variants stand in the order of this table, in which they are tried. Only
-/// opening a sale tries 4 after 7: "Opening checks as look-up does, then 7, then 4 if the tier
-/// found is above 7."
+/// Four 12 after that, request Six 13 just before 10; the variants stand in the order of this
+/// table, in which they are tried. Only opening a sale tries 4 after 7: "Opening checks as look-up
+/// does, then 7, then 4 if the tier found is above 7."
 #[derive(Clone, Copy, Debug, PartialEq, Eq, PartialOrd, Ord, Hash)]
 pub enum Refusal {
     /// Paper: 1, "wrong book": "book not 2,048 long"; request Five: "The book becomes 2,560
@@ -24,10 +24,12 @@ pub enum Refusal {
     /// Paper: 4, "tampered": "the list is the canonical image of no set". (For the stash view: "4
     /// when word 3 exceeds s". For opening a sale, request Four: "4 if the tier found is above 7".)
     NotCanonical = 4,
-    /// Paper: 5, "blank card": "number 0".
+    /// Paper: 5, "blank card": "number 0"; request Six: "A blank card is any number below 10."
     BlankKey = 5,
     /// Request One: "9 (tier above 7) after 5".
     WrongTier = 9,
+    /// Request Six: "13 (another issue is listed) just before 10, never together with 10 or 6".
+    OtherIssue = 13,
     /// Request One: "10 (add of a listed card with another tier) just before 6".
     OtherTier = 10,
     /// Paper: 6, "listed": "add of a card in the set".

@@ -7,8 +7,9 @@ use crate::answer::{Answer, Found, Refusal};
 use crate::counters::Counters;
 use crate::hash::{hashes, TABULATION_LEN};
 use crate::image::Engine;
+use crate::key::is_blank;
 use crate::layout::{Shape, Slot, HEADER_LEN, PLACE_LEN};
-use crate::set::{members, set, Set, MAX_TIER};
+use crate::set::{has_other_issue, members, set, Set, MAX_TIER};
 
 /// Makes the words an empty list (the paper's "lay").
 ///
@@ -33,9 +34,9 @@ fn init_words(r: u32, s: u32, station: u32, words: &mut [u32]) -> Answer {
 
 /// Puts a key with its tier into the set (the paper's "add").
 ///
-/// Paper: "Add can give 1 to 6 and 8"; by request One also 9 and 10. The words become the image of
-/// the new set; "Every refusal leaves list and book unchanged". The scratch "is zero over its full
-/// length after every call that borrows it".
+/// Paper: "Add can give 1 to 6 and 8"; by request One also 9 and 10, by request Six also 13. The
+/// words become the image of the new set; "Every refusal leaves list and book unchanged". The
+/// scratch "is zero over its full length after every call that borrows it".
 pub fn insert(
     engine: &impl Engine,
     tabulation: &[u16],
@@ -51,7 +52,7 @@ pub fn insert(
 
 /// Takes a key out of the set, whatever its tier (the paper's "withdraw").
 ///
-/// Paper: "withdraw 1 to 5 and 7".
+/// Paper: "withdraw 1 to 5 and 7". Request Six: "Look-up and withdraw want the exact issue."
 pub fn remove(
     engine: &impl Engine,
     tabulation: &[u16],
@@ -83,7 +84,8 @@ pub fn check(
 /// Paper: "Look-up borrows no sheet. It gives 1, 2, 5, or else yes exactly when the number stands
 /// as a card number in its rack 0 place, its rack 1 place or one of the s drawer words, tampered
 /// list or not." Request One: "Look-up answers the tier or that the card isn't listed [..]; should
-/// a tampered list show the card more than once, the first in word order counts."
+/// a tampered list show the card more than once, the first in word order counts." Request Six:
+/// "Look-up and withdraw want the exact issue."; another issue has the same slots and is passed by.
 pub fn lookup(tabulation: &[u16], words: &[u32], key: u32) -> Result<Found, Refusal> {
     if tabulation.len() != TABULATION_LEN {
         return Err(Refusal::WrongTabulation);
@@ -130,8 +132,8 @@ fn stash_part(words: &[u32]) -> Result<&[u32], Refusal> {
 /// Request Two: "Its card numbers are written to a lent sheet, rest zeros, and the call tells how
 /// many; a drawer card's trail is empty. [..] Checks run as for withdraw, and the borrowed work
 /// sheet is zeroed. Answers: 11 (trail sheet shorter than the trail) after 7; every refusal leaves
-/// the trail sheet unchanged." So it can give 1 to 5, 7 and 11. It counts nowhere and changes no
-/// word of the list.
+/// the trail sheet unchanged." So it can give 1 to 5, 7 and 11, and 7 for another issue of a listed
+/// key, as withdraw. It counts nowhere and changes no word of the list.
 pub fn trail(
     engine: &impl Engine,
     tabulation: &[u16],
@@ -185,7 +187,7 @@ fn set_with_listed(
     key: u32,
 ) -> Result<(Shape, Set), Refusal> {
     let (shape, set) = listed_set(engine, tabulation, words, scratch_len)?;
-    if key == 0 {
+    if is_blank(key) {
         return Err(Refusal::BlankKey);
     }
     if !set.contains_key(&key) {
@@ -195,6 +197,9 @@ fn set_with_listed(
 }
 
 /// The words after an insert, or its refusal.
+///
+/// A set has one issue of a first part. So 13 is never due together with 10 or 6, and it is the
+/// order before 8 alone that shows.
 fn with_key(
     engine: &impl Engine,
     tabulation: &[u16],
@@ -204,11 +209,14 @@ fn with_key(
     tier: u32,
 ) -> Result<Vec<u32>, Refusal> {
     let (shape, mut set) = listed_set(engine, tabulation, words, scratch_len)?;
-    if key == 0 {
+    if is_blank(key) {
         return Err(Refusal::BlankKey);
     }
     if tier > MAX_TIER {
         return Err(Refusal::WrongTier);
+    }
+    if has_other_issue(&set, key) {
+        return Err(Refusal::OtherIssue);
     }
     match set.insert(key, tier) {
         Some(listed) if listed != tier => return Err(Refusal::OtherTier),

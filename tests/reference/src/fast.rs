@@ -5,6 +5,7 @@
 use crate::answer::{Found, Refusal};
 use crate::hash::{HALF_LEN, STRETCH_LEN, TABULATION_LEN};
 use crate::image::Engine;
+use crate::key::{first_part, is_blank};
 use crate::layout::{Shape, HEADER_LEN, PLACE_LEN, SLOT_LEN};
 use crate::set::{Member, MAX_TIER};
 
@@ -53,8 +54,10 @@ pub fn image(
     members.sort_unstable();
     members.dedup();
     let (keys, tiers): (Vec<u32>, Vec<u32>) = members.into_iter().unzip();
-    let two_tiers = keys.windows(2).any(|pair| pair[0] == pair[1]);
-    if keys.first() == Some(&0) || two_tiers || tiers.iter().any(|&tier| tier > MAX_TIER) {
+    // In ascending order the issues of a first part stand side by side, as do the tiers of a key.
+    let repeated = keys.windows(2).any(|pair| first_part(pair[0]) == first_part(pair[1]));
+    let blank = keys.first().is_some_and(|&smallest| is_blank(smallest));
+    if blank || repeated || tiers.iter().any(|&tier| tier > MAX_TIER) {
         return None;
     }
     let ends: Vec<[u32; 2]> = keys.iter().map(|&key| ends(tabulation, r, station, key)).collect();
@@ -117,14 +120,15 @@ pub fn trail(
 /// Paper: "Look-up borrows no sheet. It gives 1, 2, 5, or else yes exactly when the number stands
 /// as a card number in its rack 0 place, its rack 1 place or one of the s drawer words, tampered
 /// list or not." Request One: "Look-up answers the tier or that the card isn't listed [..]; should
-/// a tampered list show the card more than once, the first in word order counts."
+/// a tampered list show the card more than once, the first in word order counts." Request Six:
+/// "Look-up and withdraw want the exact issue."
 #[inline]
 pub fn lookup(tabulation: &[u16], words: &[u32], key: u32) -> Result<Found, Refusal> {
     let Ok(tabulation) = <&[u16; TABULATION_LEN]>::try_from(tabulation) else {
         return Err(Refusal::WrongTabulation);
     };
     let shape = Shape::of(words)?;
-    if key == 0 {
+    if is_blank(key) {
         return Err(Refusal::BlankKey);
     }
     for end in ends(tabulation, shape.r(), shape.station(), key) {
@@ -148,11 +152,13 @@ const NONE: u32 = u32::MAX;
 /// of table 0 is i and slot i of table 1 is r + i.
 ///
 /// Request Five: "a place's sum adds the fifth stretch's entry at (b0 + station number) modulo
-/// 256". That is the lowest byte of key + station, also where this sum wraps.
+/// 256", and request Six takes the bytes from the first part. So that is the lowest byte of first
+/// part + station, a sum that never wraps: a first part is below 2^29.
 #[inline]
 fn ends(tabulation: &[u16; TABULATION_LEN], r: u32, station: u32, key: u32) -> [u32; 2] {
-    let [b0, b1, b2, b3] = key.to_le_bytes();
-    let [moved, ..] = key.wrapping_add(station).to_le_bytes();
+    let first = first_part(key);
+    let [b0, b1, b2, b3] = first.to_le_bytes();
+    let [moved, ..] = (first + station).to_le_bytes();
     [0, 1].map(|table| {
         let half = &tabulation[HALF_LEN * table..][..HALF_LEN];
         let entry = |i: usize, byte: u8| u32::from(half[STRETCH_LEN * i + usize::from(byte)]);

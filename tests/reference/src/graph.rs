@@ -33,7 +33,7 @@ impl Edge {
 }
 
 /// The edges of a set of keys at a station, ascending by key, each key once; refused as [`hashes`]
-/// refuses.
+/// refuses. Two issues of a first part are not refused here but by [`crate::set::set`].
 pub fn edges(tabulation: &[u16], r: u32, station: u32, keys: &[u32]) -> Result<Vec<Edge>, Refusal> {
     let set: BTreeSet<u32> = keys.iter().copied().collect();
     set.into_iter()

@@ -1,7 +1,9 @@
 //! The two hashes of a key, by simple tabulation: the paper's "Where a card may sit", to which
-//! request Five adds the station. This is a part of its own that knows nothing of the list.
+//! request Five adds the station; by request Six they are those of the key's first part. This is a
+//! part of its own that knows nothing of the list.
 
 use crate::answer::Refusal;
+use crate::key::{first_part, is_blank};
 
 /// The length of a stretch of a tabulation: one entry for each value of a byte. Request Five:
 /// "1,280 for each rack in five stretches of 256".
@@ -32,7 +34,7 @@ pub fn hashes(tabulation: &[u16], r: u32, station: u32, key: u32) -> Result<[u32
     if !(1..=MAX_R).contains(&r) || station > MAX_STATION {
         return Err(Refusal::WrongShape);
     }
-    if key == 0 {
+    if is_blank(key) {
         return Err(Refusal::BlankKey);
     }
     Ok([0, 1].map(|table| hash(tabulation, table, r, station, key)))
@@ -44,9 +46,10 @@ pub fn hashes(tabulation: &[u16], r: u32, station: u32, key: u32) -> Result<[u32
 /// Paper: "Split the card number into bytes b0 (lowest) to b3. Its place in rack k is the sum over
 /// i = 0 to 3 of book entry 1,024k + 256i + bi, taken modulo r." Request Five: "1,280 for each rack
 /// in five stretches of 256, and a place's sum adds the fifth stretch's entry at (b0 + station
-/// number) modulo 256".
+/// number) modulo 256". Request Six: "The places come from the number divided by ten and rounded
+/// down"; so it is this number that is split, and b0 is its lowest byte for the fifth entry, too.
 fn hash(tabulation: &[u16], table: usize, r: u32, station: u32, key: u32) -> u32 {
-    let [b0, b1, b2, b3] = key.to_le_bytes().map(usize::from);
+    let [b0, b1, b2, b3] = first_part(key).to_le_bytes().map(usize::from);
     let in_stretches = [b0, b1, b2, b3, (b0 + station as usize) % STRETCH_LEN];
     let entry = |(i, at): (usize, usize)| tabulation[HALF_LEN * table + STRETCH_LEN * i + at];
     let sum: u32 = in_stretches.into_iter().enumerate().map(entry).map(u32::from).sum();

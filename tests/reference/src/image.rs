@@ -16,7 +16,7 @@ pub trait Engine {
     /// The words of the canonical image of a set at a station, its members (key, tier) given in any
     /// order (a repeated one counts once). `None` when there is none: the stash would need more
     /// than `s` places, or the tabulation, `r`, `s`, `station`, a key or a tier is one that no list
-    /// has, or a key stands with two tiers.
+    /// has, or a key stands with two tiers, or a first part with two issues.
     fn image(
         &self,
         tabulation: &[u16],

@@ -141,7 +141,8 @@ impl Shape {
     }
 
     /// What a slot of words of this shape holds; `None` when its key word is zero ("Zero means no
-    /// card").
+    /// card"). A blank key other than 0 is held like any other number: request Six makes it the key
+    /// of no set, but only zeros are an empty slot.
     pub fn entry(self, words: &[u32], slot: Slot) -> Option<Entry> {
         let at = self.slot_at(slot);
         (words[at] != 0).then(|| Entry { key: words[at], next: words[at + 1], tier: words[at + 2] })
@@ -156,7 +157,8 @@ impl Shape {
 
     /// All keys that stand in words of this shape, in a slot or in any of the s stash places, each
     /// with the tier beside it; ascending and each pair once. In words that are no image a key can
-    /// come with several tiers, and a tier can be any word.
+    /// come with several tiers, a first part with several issues, a key can be blank, and a tier
+    /// can be any word.
     pub fn members(self, words: &[u32]) -> Vec<Member> {
         let entries = self.slots().filter_map(|slot| self.entry(words, slot));
         let stored = entries.map(|entry| (entry.key, entry.tier));

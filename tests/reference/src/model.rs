@@ -5,9 +5,10 @@
 use crate::answer::{Answer, Found, Refusal};
 use crate::hash::TABULATION_LEN;
 use crate::image::Engine;
+use crate::key::is_blank;
 use crate::layout::{Shape, HEADER_LEN};
 use crate::sale::{price, Sale};
-use crate::set::{members, Set, MAX_TIER};
+use crate::set::{has_other_issue, members, Set, MAX_TIER};
 
 /// A call of a sequence, as the model is fed it.
 ///
@@ -112,7 +113,8 @@ pub enum Reply {
 ///
 /// Paper: "The register has the sequence's book [..]; of the list it knows only what lay was given.
 /// Its state is a set of cards, empty at first." What init was given is r, s and, with request
-/// Five, the station. Request One: ""set" means cards with their tiers everywhere".
+/// Five, the station. Request One: ""set" means cards with their tiers everywhere". Request Six:
+/// "a set has at most one issue of each such first part"; 13 keeps the state such a set.
 #[derive(Clone, Debug)]
 pub struct Model<E> {
     engine: E,
@@ -190,12 +192,15 @@ impl<E: Engine> Model<E> {
     }
 
     /// Request One: "9 (tier above 7) after 5; 10 (add of a listed card with another tier) just
-    /// before 6".
+    /// before 6". Request Six: "13 (another issue is listed) just before 10".
     fn try_insert(&self, tabulation_len: usize, scratch_len: usize, key: u32, tier: u32) -> Answer {
         self.refuse_lengths(tabulation_len, scratch_len)?;
         refuse_blank(key)?;
         if tier > MAX_TIER {
             return Err(Refusal::WrongTier);
+        }
+        if has_other_issue(&self.set, key) {
+            return Err(Refusal::OtherIssue);
         }
         if self.set.get(&key).is_some_and(|&listed| listed != tier) {
             return Err(Refusal::OtherTier);
@@ -291,7 +296,7 @@ fn refuse_tabulation(len: usize) -> Answer {
 }
 
 fn refuse_blank(key: u32) -> Answer {
-    if key == 0 {
+    if is_blank(key) {
         Err(Refusal::BlankKey)
     } else {
         Ok(())

@@ -36,9 +36,10 @@ pub struct Sale {
 ///
 /// Request Four: "Opening checks as look-up does, then 7, then 4 if the tier found is above 7.
 /// Answers: 12 (base or a step outside its range, or this card's price below 1) after that." So it
-/// can give 1, 2, 5, 7, 4 and 12, in this order; words that are no image for any other reason than
-/// the tier found are not refused. Of several copies of the key lookup's counts, the first in word
-/// order. It borrows no scratch, counts nowhere and changes no word.
+/// can give 1, 2, 5, 7 (for another issue of a listed key, too), 4 and 12, in this order; words
+/// that are no image for any other reason than the tier found are not refused. Of several copies of
+/// the key lookup's counts, the first in word order. It borrows no scratch, counts nowhere and
+/// changes no word.
 pub fn open(
     tabulation: &[u16],
     words: &[u32],

@@ -1,9 +1,10 @@
 //! Tabulations and key sets to try things on: the paper's test book, tabulations that give chosen
 //! hashes, and random ones with few values so that small boards have many cycles.
 
-use std::collections::BTreeSet;
+use std::collections::BTreeMap;
 
 use crate::hash::{HALF_LEN, MAX_STATION, TABULATION_LEN};
+use crate::key::{first_part, is_blank, issues};
 use crate::rng::Rng;
 use crate::set::{Member, MAX_TIER};
 
@@ -17,8 +18,9 @@ pub fn test_tabulation() -> Vec<u16> {
     chosen_tabulation(&hashes)
 }
 
-/// A tabulation under which key v, below 256, has the hashes `hashes[v]` (before they are taken
-/// modulo r) at every station; entries that are not chosen are 0, the fifth stretches too.
+/// A tabulation under which all keys with first part v, below 256, have the hashes `hashes[v]`
+/// (before they are taken modulo r) at every station; entries that are not chosen are 0, the fifth
+/// stretches too.
 pub fn chosen_tabulation(hashes: &[[u16; 2]]) -> Vec<u16> {
     let mut tabulation = vec![0; TABULATION_LEN];
     for (v, &[hash0, hash1]) in hashes.iter().enumerate() {
@@ -42,18 +44,25 @@ pub fn random_station(rng: &mut Rng) -> u32 {
     }
 }
 
-/// A random set of `count` keys in ascending order: half of the time small keys (of which there are
-/// 255, so `count` must be well below that), half of the time keys of any size.
+/// A random set of `count` keys in ascending order, one issue of each first part: half of the time
+/// small keys (whose first parts are 1 to 255, so `count` must be well below that), half of the
+/// time keys of any size.
 pub fn random_keys(rng: &mut Rng, count: usize) -> Vec<u32> {
     let small = rng.one_in(2);
-    let mut keys = BTreeSet::new();
+    let mut keys = BTreeMap::new();
     while keys.len() < count {
-        let key = if small { 1 + rng.below(255) as u32 } else { rng.next_u32() };
-        if key != 0 {
-            keys.insert(key);
+        let key = if small { 10 + rng.below(2_550) as u32 } else { rng.next_u32() };
+        if !is_blank(key) {
+            keys.insert(first_part(key), key);
         }
     }
-    keys.into_iter().collect()
+    keys.into_values().collect()
+}
+
+/// A random issue of the key's first part, perhaps the key itself.
+pub fn random_issue(rng: &mut Rng, key: u32) -> u32 {
+    let issues: Vec<u32> = issues(key).collect();
+    rng.pick(&issues)
 }
 
 /// A random tier: half of the time 0, else any from 0 to 7.

@@ -1,7 +1,7 @@
 //! What the tests share: the two engines, lists written out by hand, a list with everything that
 //! its calls borrow, prices of sales, and tallies that must not stay at zero.
 
-use std::collections::{BTreeMap, BTreeSet};
+use std::collections::BTreeMap;
 
 use reference::answer::{Answer, Refusal};
 use reference::calls;
@@ -198,13 +198,14 @@ pub fn on_cycle(edges: &[Edge], edge: &Edge) -> bool {
     reachable(&others, edge.slots[0]).contains(&edge.slots[1])
 }
 
-/// Distinct random keys in random order.
+/// Random keys in random order, one issue of each first part.
 pub fn many_keys(rng: &mut Rng, count: usize) -> Vec<u32> {
-    let mut keys = BTreeSet::new();
+    let mut keys = BTreeMap::new();
     while keys.len() < count {
-        keys.insert(rng.next_u32().max(1));
+        let key = rng.next_u32().max(10);
+        keys.insert(key / 10, key);
     }
-    let mut keys: Vec<u32> = keys.into_iter().collect();
+    let mut keys: Vec<u32> = keys.into_values().collect();
     rng.shuffle(&mut keys);
     keys
 }
@@ -231,13 +232,42 @@ pub fn subset(keys: &[u32], mask: usize) -> Vec<u32> {
     keys.iter().enumerate().filter(|(i, _)| mask >> i & 1 == 1).map(|(_, &key)| key).collect()
 }
 
-/// All sets over these keys with tiers among these, as their members.
+/// The digits of a key without the last. Deliberately not by `key`.
+fn first_digits(key: u32) -> String {
+    let mut digits = key.to_string();
+    digits.pop();
+    digits
+}
+
+/// All issues of a key's first part but the key itself.
+pub fn other_issues(key: u32) -> Vec<u32> {
+    let issues = (0..10).filter_map(|issue| format!("{}{issue}", first_digits(key)).parse().ok());
+    issues.filter(|&other| other != key).collect()
+}
+
+/// Whether two keys are issues of one first part, a key and itself included.
+pub fn same_first_part(key: u32, other: u32) -> bool {
+    first_digits(key) == first_digits(other)
+}
+
+/// A random key with a first part from 0 to `most`, so that it can be blank; half of the time of
+/// issue 0, so that a key comes again.
+pub fn small_key(rng: &mut Rng, most: usize) -> u32 {
+    let issue = if rng.one_in(2) { 0 } else { rng.pick(&[1, 5, 9]) };
+    (10 * rng.below(most + 1) + issue) as u32
+}
+
+/// All sets over these keys with tiers among these, as their members. Of several issues of a first
+/// part each has its sets, but no set has two.
 pub fn all_sets(keys: &[u32], tiers: &[u32]) -> Vec<Vec<Member>> {
     let Some((&key, rest)) = keys.split_first() else {
         return vec![Vec::new()];
     };
     let mut sets = all_sets(rest, tiers);
     for without in sets.clone() {
+        if without.iter().any(|&(other, _)| same_first_part(key, other)) {
+            continue;
+        }
         for &tier in tiers {
             let mut with = without.clone();
             with.insert(0, (key, tier));
@@ -247,8 +277,8 @@ pub fn all_sets(keys: &[u32], tiers: &[u32]) -> Vec<Vec<Member>> {
     sets
 }
 
-/// Hashes of the keys 1 to `count`, each below r, by a number: every choice has one below r to the
-/// power of 2 `count`. Key 0 has hashes, too, so that a key is its own index.
+/// Hashes of the first parts 1 to `count`, each below r, by a number: every choice has one below r
+/// to the power of 2 `count`. First part 0 has hashes, too, so that a first part is its own index.
 pub fn numbered_ends(number: usize, r: usize, count: usize) -> Vec<[u16; 2]> {
     let mut left = number;
     let mut ends = vec![[0, 0]];

@@ -1,5 +1,6 @@
-//! The console program: the paper's worked listing (with tier 0, with other tiers, and at another
-//! station), its grammar, random inputs against the reference model, and the binary itself.
+//! The console program: the paper's worked listing (with tier 0, with other tiers, with other
+//! issues, and at another station), its grammar, random inputs against the reference model, and the
+//! binary itself.
 
 use std::io::Write;
 use std::path::PathBuf;
@@ -14,30 +15,45 @@ use reference::model::{Call, Model, Reply};
 use reference::rng::Rng;
 use reference::samples::{random_station, random_tabulation, test_tabulation};
 
-use crate::common::{engines, Tally};
+use crate::common::{engines, small_key, Tally};
 
-const LISTING_INPUT: &str = "2,1,0\nA,65,0\nA,1,0\nA,33,0\nA,97,0\nL,65\n";
-const LISTING_OUTPUT: &str =
-    "A,65,0,0\nA,1,0,0\nA,33,0,0\nA,97,0,8\nL,65,0\nP,0,1,1,33,0\nP,1,0,33,1,0\nD,65,0\n";
+/// Request Six: "The test board and the program's case run with every card multiplied by ten".
+const LISTING_INPUT: &str = "2,1,0\nA,650,0\nA,10,0\nA,330,0\nA,970,0\nL,650\n";
+const LISTING_OUTPUT: &str = "A,650,0,0\nA,10,0,0\nA,330,0,0\nA,970,0,8\nL,650,0\n\
+    P,0,1,10,330,0\nP,1,0,330,10,0\nD,650,0\n";
 
 /// The same with other tiers and some more lines.
 const TIERS_INPUT: &str =
-    "2,1,0\nA,65,7\nA,1,2\nA,33,5\nA,97,3\nA,65,6\nA,65,8\nA,65,7\nL,65\nL,33\nL,97\nW,97\n";
-const TIERS_OUTPUT: &str = "A,65,7,0\nA,1,2,0\nA,33,5,0\nA,97,3,8\nA,65,6,10\nA,65,8,9\nA,65,7,6\n\
-    L,65,7\nL,33,5\nL,97,N\nW,97,7\nP,0,1,1,33,2\nP,1,0,33,1,5\nD,65,7\n";
+    "2,1,0\nA,650,7\nA,10,2\nA,330,5\nA,970,3\nA,650,6\nA,650,8\nA,650,7\nL,650\nL,330\nL,970\n\
+    W,970\n";
+const TIERS_OUTPUT: &str = "A,650,7,0\nA,10,2,0\nA,330,5,0\nA,970,3,8\nA,650,6,10\nA,650,8,9\n\
+    A,650,7,6\nL,650,7\nL,330,5\nL,970,N\nW,970,7\nP,0,1,10,330,2\nP,1,0,330,10,5\nD,650,7\n";
+
+/// The same with other issues and some more lines: 13 for each listed key's other issues, whatever
+/// the tier and though the stash is full, and an issue that takes another's place.
+const ISSUES_INPUT: &str =
+    "2,1,0\nA,655,7\nA,19,2\nA,330,5\nA,970,3\nA,650,7\nA,659,0\nA,650,8\nA,10,2\nA,339,5\nA,9,0\n\
+    A,9,8\nL,9\nW,9\nL,655\nL,650\nL,19\nL,10\nL,1\nW,10\nW,651\nW,19\nA,18,1\nL,19\nL,18\n\
+    A,978,3\n";
+const ISSUES_OUTPUT: &str =
+    "A,655,7,0\nA,19,2,0\nA,330,5,0\nA,970,3,8\nA,650,7,13\nA,659,0,13\nA,650,8,9\nA,10,2,13\n\
+    A,339,5,13\nA,9,0,5\nA,9,8,5\nL,9,R5\nW,9,5\nL,655,7\nL,650,N\nL,19,2\nL,10,N\nL,1,R5\nW,10,7\n\
+    W,651,7\nW,19,0\nA,18,1,0\nL,19,N\nL,18,1\nA,978,3,8\n\
+    P,0,1,18,330,1\nP,1,0,330,18,5\nD,655,7\n";
 
 fn bytes_of(tabulation: &[u16]) -> Vec<u8> {
     tabulation.iter().flat_map(|entry| [(entry % 256) as u8, (entry / 256) as u8]).collect()
 }
 
 /// At station 31 with other fifth stretches: entry 1,024 + v is 1 for v = 32 alone, and entry
-/// 2,304 + v is 1 for v = 128 alone. So key 1, with (1 + 31) modulo 256, is moved from slot 1 of
-/// table 0 to slot 0, and key 97, with 97 + 31, from slot 0 of table 1 to slot 1; keys 65 and 33
+/// 2,304 + v is 1 for v = 128 alone. So key 10, with (1 + 31) modulo 256, is moved from slot 1 of
+/// table 0 to slot 0, and key 970, with 97 + 31, from slot 0 of table 1 to slot 1; keys 650 and 330
 /// stay where the test book has them.
 const STATION_INPUT: &str =
-    "2,1,31\nA,65,7\nA,1,2\nA,33,5\nA,97,3\nL,1\nL,97\nW,65\nL,65\nA,65,8\nA,1,3\n";
-const STATION_OUTPUT: &str = "A,65,7,0\nA,1,2,0\nA,33,5,0\nA,97,3,0\nL,1,2\nL,97,3\nW,65,0\n\
-    L,65,N\nA,65,8,9\nA,1,3,10\nP,0,0,1,33,2\nP,0,1,33,97,5\nP,1,0,1,33,2\nP,1,1,97,1,3\n";
+    "2,1,31\nA,650,7\nA,10,2\nA,330,5\nA,970,3\nL,10\nL,970\nW,650\nL,650\nA,650,8\nA,10,3\n";
+const STATION_OUTPUT: &str =
+    "A,650,7,0\nA,10,2,0\nA,330,5,0\nA,970,3,0\nL,10,2\nL,970,3\nW,650,0\nL,650,N\nA,650,8,9\n\
+    A,10,3,10\nP,0,0,10,330,2\nP,0,1,330,970,5\nP,1,0,10,330,2\nP,1,1,970,10,3\n";
 
 fn station_tabulation() -> Vec<u16> {
     let mut tabulation = test_tabulation();
@@ -58,8 +74,8 @@ fn worked_listing_and_its_words() {
     for (_, engine) in engines() {
         let session = session(&engine, Some(&book), LISTING_INPUT.as_bytes());
         assert_eq!(String::from_utf8(session.output).unwrap(), LISTING_OUTPUT);
-        let slots = [0, 0, 0, 1, 33, 0, 33, 1, 0, 0, 0, 0];
-        assert_eq!(session.words, [&[2, 1, 3, 1, 0], &slots[..], &[65, 0]].concat());
+        let slots = [0, 0, 0, 10, 330, 0, 330, 10, 0, 0, 0, 0];
+        assert_eq!(session.words, [&[2, 1, 3, 1, 0], &slots[..], &[650, 0]].concat());
         assert_eq!(session.counters, Counters { done: 4, refused: 1 });
     }
 }
@@ -70,9 +86,21 @@ fn the_listing_with_other_tiers_and_its_words() {
     for (_, engine) in engines() {
         let session = session(&engine, Some(&book), TIERS_INPUT.as_bytes());
         assert_eq!(String::from_utf8(session.output).unwrap(), TIERS_OUTPUT);
-        let slots = [0, 0, 0, 1, 33, 2, 33, 1, 5, 0, 0, 0];
-        assert_eq!(session.words, [&[2, 1, 3, 1, 0], &slots[..], &[65, 7]].concat());
+        let slots = [0, 0, 0, 10, 330, 2, 330, 10, 5, 0, 0, 0];
+        assert_eq!(session.words, [&[2, 1, 3, 1, 0], &slots[..], &[650, 7]].concat());
         assert_eq!(session.counters, Counters { done: 4, refused: 5 });
+    }
+}
+
+#[test]
+fn the_listing_with_other_issues_and_its_words() {
+    let book = bytes_of(&test_tabulation());
+    for (_, engine) in engines() {
+        let session = session(&engine, Some(&book), ISSUES_INPUT.as_bytes());
+        assert_eq!(String::from_utf8(session.output).unwrap(), ISSUES_OUTPUT);
+        let slots = [0, 0, 0, 18, 330, 1, 330, 18, 5, 0, 0, 0];
+        assert_eq!(session.words, [&[2, 1, 3, 1, 0], &slots[..], &[655, 7]].concat());
+        assert_eq!(session.counters, Counters { done: 6, refused: 12 });
     }
 }
 
@@ -82,7 +110,7 @@ fn a_listing_at_another_station_and_its_words() {
     for (_, engine) in engines() {
         let session = session(&engine, Some(&book), STATION_INPUT.as_bytes());
         assert_eq!(String::from_utf8(session.output).unwrap(), STATION_OUTPUT);
-        let slots = [1, 33, 2, 33, 97, 5, 1, 33, 2, 97, 1, 3];
+        let slots = [10, 330, 2, 330, 970, 5, 10, 330, 2, 970, 10, 3];
         assert_eq!(session.words, [&[2, 1, 3, 0, 31], &slots[..], &[0, 0]].concat());
         assert_eq!(session.counters, Counters { done: 6, refused: 2 });
     }
@@ -102,12 +130,12 @@ fn a_book_of_another_length_prints_b_whatever_the_input() {
 #[test]
 fn the_book_is_read_low_byte_first() {
     let mut bytes = vec![0; 5_120];
-    bytes[2 * 9 + 1] = 2; // entry 9 is 512
+    bytes[2 * 9 + 1] = 2; // entry 9, of first part 9, is 512
     bytes[5_119] = 1; // entry 2,559, the last of table 1's fifth stretch, is 256
-    let printed = b"A,9,4,0\nP,0,512,9,9,4\nP,1,0,9,9,4\n";
-    assert_eq!(run(&Fast, Some(&bytes), b"1000,0,0\nA,9,4"), printed);
-    let printed = b"A,9,4,0\nP,0,512,9,9,4\nP,1,256,9,9,4\n";
-    assert_eq!(run(&Fast, Some(&bytes), b"1000,0,246\nA,9,4"), printed, "9 + 246 is 255");
+    let printed = b"A,90,4,0\nP,0,512,90,90,4\nP,1,0,90,90,4\n";
+    assert_eq!(run(&Fast, Some(&bytes), b"1000,0,0\nA,90,4"), printed);
+    let printed = b"A,99,4,0\nP,0,512,99,99,4\nP,1,256,99,99,4\n";
+    assert_eq!(run(&Fast, Some(&bytes), b"1000,0,246\nA,99,4"), printed, "9 + 246 is 255");
 }
 
 /// Line 1 of every form that is not accepted: E,1 and nothing more, whatever follows.
@@ -154,8 +182,8 @@ fn lines_of_another_form_print_their_number() {
         |A,5,0x1|A,5,\"1\"|A,5,٣|A,5,1\t|A,5,4294967296|A,5,4294967303|A,5,18446744073709551617\
         |A,0,4294967296|A,0,08|W,5,0|L,5,0|W,5,3|L,5,3|W,0,0|L,0,0|W,5,|L,5,";
     for line in other_forms.split('|') {
-        let expected = "A,5,3,0\nE,3\nL,5,3\nP,0,1,5,5,3\nP,1,0,5,5,3\n";
-        assert_eq!(printed(format!("2,1,0\nA,5,3\n{line}\nL,5\n")), expected, "{line:?}");
+        let expected = "A,50,3,0\nE,3\nL,50,3\nP,0,1,50,50,3\nP,1,0,50,50,3\n";
+        assert_eq!(printed(format!("2,1,0\nA,50,3\n{line}\nL,50\n")), expected, "{line:?}");
     }
     assert_eq!(printed(b"2,1,0\nA,\xff,0\n\xc3\x28\nA,1,\xff\n"), "E,2\nE,3\nE,4\n");
     // A line may be of any length.
@@ -166,19 +194,18 @@ fn lines_of_another_form_print_their_number() {
 
 #[test]
 fn every_line_counts_for_its_number() {
-    let input = format!("2,1,0\n{}\nA,x,0\n", "L,1\n\n".repeat(60));
-    let expected: String =
-        (0..60).map(|i| format!("L,1,N\nE,{}\n", 3 + 2 * i)).collect::<String>() + "E,122\nE,123\n";
-    assert_eq!(printed(input), expected);
+    let input = format!("2,1,0\n{}\nA,x,0\n", "L,10\n\n".repeat(60));
+    let lines: String = (0..60).map(|i| format!("L,10,N\nE,{}\n", 3 + 2 * i)).collect();
+    assert_eq!(printed(input), lines + "E,122\nE,123\n");
 }
 
 #[test]
 fn a_newline_or_the_end_of_input_ends_a_line() {
-    let listed = "A,5,1,0\nP,0,1,5,5,1\nP,1,0,5,5,1\n";
-    assert_eq!(printed("2,1,0\nA,5,1"), listed, "the last newline is missing");
-    assert_eq!(printed("2,1,0\nA,5,1\n"), listed, "nothing after the last newline is no line");
+    let listed = "A,50,1,0\nP,0,1,50,50,1\nP,1,0,50,50,1\n";
+    assert_eq!(printed("2,1,0\nA,50,1"), listed, "the last newline is missing");
+    assert_eq!(printed("2,1,0\nA,50,1\n"), listed, "nothing after the last newline is no line");
     assert_eq!(
-        printed("2,1,0\nA,5,1\n\n"),
+        printed("2,1,0\nA,50,1\n\n"),
         listed.replacen("P", "E,3\nP", 1),
         "an empty line is a line"
     );
@@ -189,22 +216,31 @@ fn a_newline_or_the_end_of_input_ends_a_line() {
 #[test]
 fn answers_and_refusals_are_printed_by_number() {
     assert_eq!(printed("2,1,0\nL,0\nA,0,0\nW,0\nA,0,8\n"), "L,0,R5\nA,0,0,5\nW,0,5\nA,0,8,5\n");
+    // Every number below 10 is of a right form, and blank.
+    for blank in 0..10 {
+        assert_eq!(
+            printed(format!("2,1,0\nL,{blank}\nA,{blank},0\nW,{blank}\nA,{blank},8\n")),
+            format!("L,{blank},R5\nA,{blank},0,5\nW,{blank},5\nA,{blank},8,5\n")
+        );
+    }
     assert_eq!(
-        printed("2,1,0\nW,7\nA,7,2\nA,7,2\nA,7,0\nL,7\nW,7\nL,7\n"),
-        "W,7,7\nA,7,2,0\nA,7,2,6\nA,7,0,10\nL,7,2\nW,7,0\nL,7,N\n"
+        printed("2,1,0\nW,70\nA,70,2\nA,70,2\nA,70,0\nL,70\nW,70\nL,70\n"),
+        "W,70,7\nA,70,2,0\nA,70,2,6\nA,70,0,10\nL,70,2\nW,70,0\nL,70,N\n"
     );
-    // A tier above 7 is of a right form, and refused with 9, before 10 and 6.
+    // A tier above 7 is of a right form, and refused with 9, before 13, 10 and 6.
     assert_eq!(
-        printed("2,1,0\nA,7,8\nA,7,4294967295\nA,7,7\nA,7,8\nW,7\n"),
-        "A,7,8,9\nA,7,4294967295,9\nA,7,7,0\nA,7,8,9\nW,7,0\n"
+        printed("2,1,0\nA,70,8\nA,70,4294967295\nA,70,7\nA,70,8\nA,71,8\nA,71,7\nW,71\nW,70\n"),
+        "A,70,8,9\nA,70,4294967295,9\nA,70,7,0\nA,70,8,9\nA,71,8,9\nA,71,7,13\nW,71,7\nW,70,0\n"
     );
     let last = "A,4294967295,7,0\nL,4294967295,7\n\
         P,0,1,4294967295,4294967295,7\nP,1,1,4294967295,4294967295,7\n";
     assert_eq!(printed("2,1,0\nA,4294967295,7\nL,4294967295"), last);
-    // Three keys in the stash are printed in ascending order, one a line; 10 and 9 go before 8.
-    let full = "A,9,1,0\nA,7,6,0\nA,5,0,0\nA,3,4,0\nA,1,3,0\nA,2,0,8\nA,9,1,6\nA,9,2,10\nA,2,8,9\n\
-        P,0,0,1,3,3\nP,1,0,3,1,4\nD,5,0\nD,7,6\nD,9,1\n";
-    let input = "1,3,0\nA,9,1\nA,7,6\nA,5,0\nA,3,4\nA,1,3\nA,2,0\nA,9,1\nA,9,2\nA,2,8\n";
+    // Three keys in the stash are printed in ascending order, one a line; 13, 10 and 9 go before 8.
+    let full = "A,90,1,0\nA,75,6,0\nA,50,0,0\nA,30,4,0\nA,19,3,0\nA,20,0,8\nA,90,1,6\nA,90,2,10\n\
+        A,20,8,9\nA,91,1,13\nA,74,2,13\nA,10,3,13\n\
+        P,0,0,19,30,3\nP,1,0,30,19,4\nD,50,0\nD,75,6\nD,90,1\n";
+    let input = "1,3,0\nA,90,1\nA,75,6\nA,50,0\nA,30,4\nA,19,3\nA,20,0\nA,90,1\nA,90,2\nA,20,8\n\
+        A,91,1\nA,74,2\nA,10,3\n";
     assert_eq!(printed(input), full);
 }
 
@@ -213,7 +249,7 @@ fn random_line(rng: &mut Rng) -> String {
     let key = match rng.below(10) {
         0 => 0,
         1 => u64::from(u32::MAX) + rng.below(3) as u64 - 1,
-        _ => rng.below(9) as u64,
+        _ => u64::from(small_key(rng, 6)),
     };
     let tier = match rng.below(12) {
         0 => 8,
@@ -336,6 +372,7 @@ fn random_inputs_print_what_the_reference_model_answers() {
         "A 8",
         "A 9",
         "A 10",
+        "A 13",
         "W 0",
         "W 5",
         "W 7",
@@ -376,10 +413,12 @@ fn the_binary_reads_book_bin_and_standard_input() {
     assert_eq!(run_binary("listing", Some(&book), listing), LISTING_OUTPUT.as_bytes());
     let tiers = TIERS_INPUT.as_bytes();
     assert_eq!(run_binary("tiers", Some(&book), tiers), TIERS_OUTPUT.as_bytes());
+    let issues = ISSUES_INPUT.as_bytes();
+    assert_eq!(run_binary("issues", Some(&book), issues), ISSUES_OUTPUT.as_bytes());
     let station =
         run_binary("station", Some(&bytes_of(&station_tabulation())), STATION_INPUT.as_bytes());
     assert_eq!(station, STATION_OUTPUT.as_bytes());
-    assert_eq!(run_binary("no-station", Some(&book), b"2,1\nA,65,0\n"), b"E,1\n");
+    assert_eq!(run_binary("no-station", Some(&book), b"2,1\nA,650,0\n"), b"E,1\n");
     assert_eq!(run_binary("no-input", Some(&book), b""), b"E,1\n");
     assert_eq!(run_binary("no-book", None, listing), b"B\n");
     assert_eq!(run_binary("short-book", Some(&book[1..]), listing), b"B\n");

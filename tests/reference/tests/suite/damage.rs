@@ -21,8 +21,11 @@ fn checked(tabulation: &[u16], words: &[u32]) -> Result<(), Refusal> {
     slow
 }
 
-/// A small board: its tabulation and the images of all sets of keys from 1 to 5 with tiers from 0
-/// to 2, at two stations.
+/// The keys of the small boards: first parts 1 to 5, two of them with two issues.
+const KEYS: [u32; 7] = [10, 20, 25, 30, 40, 49, 50];
+
+/// A small board: its tabulation and the images of all sets of these keys with tiers from 0 to 2,
+/// at two stations.
 struct Images {
     tabulation: Vec<u16>,
     stations: [u32; 2],
@@ -41,7 +44,7 @@ impl Images {
         }
         let station = random_station(rng);
         let stations = [station, (station + 1 + rng.below(255) as u32) % 256];
-        let sets = all_sets(&[1, 2, 3, 4, 5], &[0, 1, 2]);
+        let sets = all_sets(&KEYS, &[0, 1, 2]);
         let mut images = BTreeMap::new();
         for station in stations {
             for set in &sets {
@@ -54,7 +57,7 @@ impl Images {
 
     /// The images of the empty set and some others.
     fn some(&self, rng: &mut Rng) -> Vec<(&Vec<u32>, &Vec<Member>)> {
-        self.sets.iter().filter(|(_, set)| set.is_empty() || rng.one_in(32)).collect()
+        self.sets.iter().filter(|(_, set)| set.is_empty() || rng.one_in(96)).collect()
     }
 }
 
@@ -77,14 +80,16 @@ fn a_damaged_word_is_found_unless_the_words_are_another_image() {
         for (words, set) in images.some(&mut rng) {
             assert_eq!(checked(&images.tabulation, words), Ok(()));
             for at in 2..words.len() {
-                // Values of the few keys, tiers and stations, tiers above 7 and stations above 255,
-                // so that the table of images tells the answer.
+                // Values of the few keys, tiers and stations, blank keys, tiers above 7 and
+                // stations above 255, so that the table of images tells the answer.
                 let kind = kind(words, at);
                 let [station, other_station] = images.stations;
                 let values = match kind {
-                    "other word" => [0, 1, 2, 3, 4, 5],
-                    "station" => [station, other_station, 256, 256 + station, 1 << 31, u32::MAX],
-                    _ => [0, 1, 2, 8, 9, u32::MAX],
+                    "other word" => [&KEYS[..], &[0, 1, 2, 3, 5, 9]].concat(),
+                    "station" => {
+                        vec![station, other_station, 256, 256 + station, 1 << 31, u32::MAX]
+                    }
+                    _ => vec![0, 1, 2, 8, 9, u32::MAX],
                 };
                 for value in values.into_iter().filter(|&value| value != words[at]) {
                     let mut damaged = words.clone();
@@ -136,7 +141,8 @@ fn any_value_in_a_word_is_found_unless_the_words_are_another_image() {
                     ^ match rng.below(4) {
                         0 => rng.next_u32().max(1),
                         1 => 1 << rng.below(32),
-                        _ => 1 + rng.below(7) as u32,
+                        // Often another issue.
+                        _ => 1 + rng.below(15) as u32,
                     };
                 let mut damaged = words.clone();
                 damaged[at] = value;
@@ -255,7 +261,7 @@ fn damage_of_r_and_s_together_can_keep_the_shape() {
         "the image of the empty set of another shape"
     );
     for tier in [0, 2, 7] {
-        let mut turned = Slow.image(&tabulation, 2, 1, 9, &[(3, tier)]).unwrap();
+        let mut turned = Slow.image(&tabulation, 2, 1, 9, &[(30, tier)]).unwrap();
         turned[..2].copy_from_slice(&[1, 4]);
         assert_eq!(checked(&tabulation, &turned), Err(Refusal::NotCanonical));
     }

@@ -19,13 +19,13 @@ fn the_scratch_needs_its_full_length() {
             let mut list = Harness::new(engine, &test_tabulation(), r, s, 0);
             assert_eq!(list.scratch_len, enough);
             list.scratch_len -= 1;
-            assert_eq!(list.insert(5, 1), Err(Refusal::ShortScratch));
-            assert_eq!(list.remove(5), Err(Refusal::ShortScratch));
+            assert_eq!(list.insert(50, 1), Err(Refusal::ShortScratch));
+            assert_eq!(list.remove(50), Err(Refusal::ShortScratch));
             assert_eq!(list.check(), Err(Refusal::ShortScratch));
             list.scratch_len += 1;
-            assert_eq!(list.insert(5, 1), Ok(()));
+            assert_eq!(list.insert(50, 1), Ok(()));
             assert_eq!(list.check(), Ok(()));
-            assert_eq!(list.remove(5), Ok(()));
+            assert_eq!(list.remove(50), Ok(()));
         }
     }
 }
@@ -140,9 +140,13 @@ fn the_largest_list_and_the_largest_key_are_accepted() {
         assert_eq!(list.check(), Ok(()));
         assert_eq!(lookup(&HOUSE, &list.words, u32::MAX), Ok(Found::Listed(7)));
         assert_eq!(lookup(&HOUSE, &list.words, u32::MAX - 1), Ok(Found::Absent));
+        assert_eq!(list.insert(u32::MAX - 1, 7), Err(Refusal::OtherIssue));
         assert_eq!(list.words[2..4], [1, 0]);
         assert_eq!(list.remove(u32::MAX), Ok(()));
         assert_eq!(list.words, hand_words(1_024, 64, 255, 0, &[], &[]));
+        assert_eq!(list.insert(9, 0), Err(Refusal::BlankKey));
+        assert_eq!(list.insert(10, 0), Ok(()), "the smallest key");
+        assert_eq!(list.check(), Ok(()));
     }
 }
 
@@ -155,22 +159,27 @@ fn found(words: &[u32], key: u32) -> Result<Found, Refusal> {
 
 #[test]
 fn lookup_reads_its_slots_and_all_stash_words_of_a_damaged_list() {
-    // Key 17 stands in a slot of another key, in a next word, in tier words and in the header, as
-    // count and as station: all not seen.
-    let entries = [(0, 2, 17, 17, 1), (1, 3, 5, 17, 17), (0, 1, 5, 5, 17), (1, 1, 0, 0, 17)];
-    let words = hand_words(4, 3, 17, 17, &entries, &[(5, 17), (0, 17), (6, 17)]);
-    assert_eq!(found(&words, 17), Ok(Found::Absent));
+    // Key 170 stands in a slot of another key, in a next word, in tier words and in the header, as
+    // count and as station: all not seen. Nor are its first part and its other issues.
+    let entries =
+        [(0, 2, 170, 170, 1), (1, 3, 50, 170, 170), (0, 1, 17, 50, 170), (1, 1, 171, 0, 170)];
+    let words = hand_words(4, 3, 170, 170, &entries, &[(17, 170), (0, 170), (179, 170)]);
+    assert_eq!(found(&words, 170), Ok(Found::Absent));
     // In either of its own slots alone, whatever the counts say: seen.
-    let in_table_0 = hand_words(4, 3, 0, 0, &[(0, 1, 17, 0, 2)], &[]);
-    assert_eq!(found(&in_table_0, 17), Ok(Found::Listed(2)));
-    let in_table_1 = hand_words(4, 3, 0, 0, &[(1, 1, 17, 0, 3)], &[]);
-    assert_eq!(found(&in_table_1, 17), Ok(Found::Listed(3)));
+    let in_table_0 = hand_words(4, 3, 0, 0, &[(0, 1, 170, 0, 2)], &[]);
+    assert_eq!(found(&in_table_0, 170), Ok(Found::Listed(2)));
+    let in_table_1 = hand_words(4, 3, 0, 0, &[(1, 1, 170, 0, 3)], &[]);
+    assert_eq!(found(&in_table_1, 170), Ok(Found::Listed(3)));
     // In the last stash place beyond what word 3 says: seen.
     let mut words = hand_words(4, 3, 0, 0, &[], &[]);
-    words[33..].copy_from_slice(&[17, 4]);
+    words[33..].copy_from_slice(&[170, 4]);
     assert_eq!((words[3], words.len()), (0, 35));
-    assert_eq!(found(&words, 17), Ok(Found::Listed(4)));
-    assert_eq!(found(&words, 0), Err(Refusal::BlankKey));
+    assert_eq!(found(&words, 170), Ok(Found::Listed(4)));
+    assert_eq!(found(&words, 17), Ok(Found::Absent));
+    for blank in 0..10 {
+        words[33] = blank;
+        assert_eq!(found(&words, blank), Err(Refusal::BlankKey));
+    }
 }
 
 #[test]
@@ -209,14 +218,15 @@ fn counters_stay_at_their_end_and_nothing_depends_on_them() {
         assert_eq!(init(1, 1, 7, &mut words, &mut counters), Ok(()));
         assert_eq!(counters, Counters { done, refused: start.refused });
         let tabulation = test_tabulation();
-        let inserted = insert(&Fast, &tabulation, &mut words, &mut scratch, &mut counters, 5, 6);
+        let inserted = insert(&Fast, &tabulation, &mut words, &mut scratch, &mut counters, 50, 6);
         assert_eq!(inserted, Ok(()));
-        assert_eq!(remove(&Fast, &tabulation, &mut words, &mut scratch, &mut counters, 5), Ok(()));
+        let removed = remove(&Fast, &tabulation, &mut words, &mut scratch, &mut counters, 50);
+        assert_eq!(removed, Ok(()));
         assert_eq!(counters, Counters { done, refused: start.refused });
-        let refused = insert(&Fast, &tabulation, &mut words, &mut scratch, &mut counters, 5, 8);
+        let refused = insert(&Fast, &tabulation, &mut words, &mut scratch, &mut counters, 50, 8);
         assert_eq!(refused, Err(Refusal::WrongTier));
         assert_eq!(counters, full);
-        let refused = remove(&Fast, &tabulation, &mut words, &mut scratch, &mut counters, 5);
+        let refused = remove(&Fast, &tabulation, &mut words, &mut scratch, &mut counters, 50);
         assert_eq!(refused, Err(Refusal::NotListed));
         assert_eq!(counters, full);
         assert_eq!(check(&Fast, &tabulation, &words, &mut scratch), Ok(()));

@@ -16,7 +16,7 @@ use reference::samples::{
 };
 use reference::set::{members, set, Member, Set};
 
-use crate::common::{many_keys, numbered_ends, on_cycle, Harness, Tally};
+use crate::common::{many_keys, numbered_ends, on_cycle, other_issues, Harness, Tally};
 
 /// Compares the engines for one set and says what kinds of board it was.
 fn compare(
@@ -33,6 +33,9 @@ fn compare(
     tally.add("boards");
     if members.iter().any(|&(_, tier)| tier != 0) {
         tally.add("with tiers");
+    }
+    if members.iter().any(|&(key, _)| key % 10 != 0) {
+        tally.add("with issues");
     }
     match image {
         None => tally.add("without image"),
@@ -66,6 +69,7 @@ fn fast_and_slow_agree_on_random_small_boards() {
     let wanted = [
         "boards",
         "with tiers",
+        "with issues",
         "without image",
         "with stash",
         "without stash",
@@ -84,15 +88,18 @@ fn fast_and_slow_agree_under_all_hashes() {
             for number in 0..(r * r).pow(count as u32) {
                 let ends = numbered_ends(number, r, count);
                 let s = (number % 5) as u32;
-                // The tiers change with the board and from key to key.
-                let tier = |key: u32| (number as u32 + 3 * key) % 8;
-                let members: Vec<Member> = (1..=count as u32).map(|key| (key, tier(key))).collect();
+                // Issues and tiers change with the board and from key to key.
+                let key = |first: u32| 10 * first + (number as u32 + 7 * first) % 10;
+                let tier = |first: u32| (number as u32 + 3 * first) % 8;
+                let members: Vec<Member> =
+                    (1..=count as u32).map(|first| (key(first), tier(first))).collect();
                 let station = (number % 256) as u32;
                 compare(&chosen_tabulation(&ends), r as u32, s, station, &members, &mut tally);
             }
         }
     }
-    let wanted = ["boards", "with tiers", "without image", "with stash", "without stash"];
+    let wanted =
+        ["boards", "with tiers", "with issues", "without image", "with stash", "without stash"];
     tally.report("all hashes", &wanted);
 }
 
@@ -115,30 +122,41 @@ fn engines_give_no_image_where_no_list_is() {
     let tabulation = vec![0; 2_560];
     for engine in [&Slow as &dyn Engine, &Fast] {
         for (len, r, s, station, members) in [
-            (2_559, 1, 1, 0, &[(1, 0)][..]),
-            (2_048, 1, 1, 0, &[(1, 0)]),
-            (2_560, 0, 1, 0, &[(1, 0)]),
-            (2_560, 1_025, 1, 0, &[(1, 0)]),
-            (2_560, 1, 65, 0, &[(1, 0)]),
-            (2_560, 1, 1, 256, &[(1, 0)]),
+            (2_559, 1, 1, 0, &[(10, 0)][..]),
+            (2_048, 1, 1, 0, &[(10, 0)]),
+            (2_560, 0, 1, 0, &[(10, 0)]),
+            (2_560, 1_025, 1, 0, &[(10, 0)]),
+            (2_560, 1, 65, 0, &[(10, 0)]),
+            (2_560, 1, 1, 256, &[(10, 0)]),
             (2_560, 1, 1, 256, &[]),
-            (2_560, 1, 1, u32::MAX, &[(1, 0)]),
+            (2_560, 1, 1, u32::MAX, &[(10, 0)]),
             (2_560, 1, 1, u32::MAX, &[]),
-            (2_560, 1, 1, 9, &[(0, 0), (1, 0)]),
-            (2_560, 1, 1, 9, &[(1, 1), (0, 5)]),
-            (2_560, 1, 1, 9, &[(1, 0), (2, 0), (3, 0), (4, 0)]),
-            (2_560, 1, 1, 9, &[(1, 8)]),
-            (2_560, 1, 1, 9, &[(1, 0), (2, u32::MAX)]),
-            (2_560, 1, 1, 9, &[(1, 0), (1, 1)]),
-            (2_560, 1, 1, 9, &[(1, 5), (2, 5), (1, 4)]),
+            (2_560, 1, 1, 9, &[(0, 0), (10, 0)]),
+            (2_560, 1, 1, 9, &[(10, 1), (0, 5)]),
+            (2_560, 1, 1, 9, &[(1, 0)]),
+            (2_560, 1, 1, 9, &[(9, 0)]),
+            (2_560, 1, 1, 9, &[(10, 0), (9, 0)]),
+            (2_560, 1, 1, 9, &[(5, 2), (10, 0)]),
+            (2_560, 1, 1, 9, &[(10, 0), (20, 0), (30, 0), (40, 0)]),
+            (2_560, 1, 1, 9, &[(10, 8)]),
+            (2_560, 1, 1, 9, &[(10, 0), (20, u32::MAX)]),
+            (2_560, 1, 1, 9, &[(10, 0), (10, 1)]),
+            (2_560, 1, 1, 9, &[(10, 5), (20, 5), (10, 4)]),
+            (2_560, 1, 1, 9, &[(10, 5), (11, 5)]),
+            (2_560, 1, 1, 9, &[(10, 5), (19, 4)]),
+            (2_560, 1, 1, 9, &[(19, 5), (10, 5)]),
+            (2_560, 1, 1, 9, &[(19, 5), (30, 5), (18, 5)]),
+            (2_560, 1, 64, 9, &[(11, 0), (20, 0), (30, 0), (33, 0), (40, 0)]),
+            (2_560, 1, 1, 9, &[(u32::MAX, 0), (u32::MAX - 5, 0)]),
+            (2_560, 1, 1, 9, &[(u32::MAX - 1, 0), (u32::MAX, 0)]),
         ] {
             let image = engine.image(&tabulation[..len], r, s, station, members);
             assert_eq!(image, None, "station {station}, {members:?}");
         }
-        let ordered = engine.image(&tabulation, 1, 1, 255, &[(1, 7), (2, 0), (3, 6)]);
+        let ordered = engine.image(&tabulation, 1, 1, 255, &[(19, 7), (20, 0), (30, 6)]);
         assert!(ordered.is_some());
         assert_eq!(
-            engine.image(&tabulation, 1, 1, 255, &[(3, 6), (1, 7), (2, 0), (3, 6), (1, 7)]),
+            engine.image(&tabulation, 1, 1, 255, &[(30, 6), (19, 7), (20, 0), (30, 6), (19, 7)]),
             ordered,
             "any order, each member once"
         );
@@ -270,8 +288,12 @@ fn full_size_lists_hold_together() {
         for (&key, &tier) in &listed {
             assert_eq!(lookup(tabulation, &list.words, key), Ok(Found::Listed(tier)));
             assert_eq!(fast::lookup(tabulation, &list.words, key), Ok(Found::Listed(tier)));
-            let other = rng.next_u32().max(1);
+            let other = rng.next_u32().max(10);
             assert_eq!(fast::lookup(tabulation, &list.words, other), Ok(found(other)));
+            let issues = other_issues(key);
+            let issue = rng.pick(&issues);
+            assert_eq!(fast::lookup(tabulation, &list.words, issue), Ok(Found::Absent));
+            assert_eq!(lookup(tabulation, &list.words, issue), Ok(Found::Absent));
         }
         tally.add_many("stash keys", list.words[3] as usize);
         let listed = members(&listed);

@@ -7,14 +7,16 @@ use reference::answer::Refusal;
 use reference::image::{Engine, Slow};
 use reference::rng::Rng;
 use reference::samples::{
-    chosen_tabulation, random_keys, random_station, random_tabulation, random_tier, random_tiers,
+    chosen_tabulation, random_issue, random_keys, random_station, random_tabulation, random_tier,
+    random_tiers,
 };
 use reference::set::{members, Member, Set};
 
-use crate::common::{all_sets, engines, subset, Harness, Tally};
+use crate::common::{all_sets, engines, same_first_part, subset, Harness, Tally};
 
 /// One step of a history: takes the key out if it is listed, else puts it in. Before it is taken
-/// out, it is now and then put in once more, which must be refused and change nothing.
+/// out, it is now and then put in once more, which must be refused and change nothing. While
+/// another issue is listed, it can be neither taken out nor put in.
 fn step(list: &mut Harness, now: &mut Set, (key, tier): Member, rng: &mut Rng, tally: &mut Tally) {
     if let Some(&listed) = now.get(&key) {
         if rng.one_in(3) {
@@ -24,6 +26,10 @@ fn step(list: &mut Harness, now: &mut Set, (key, tier): Member, rng: &mut Rng, t
         }
         assert_eq!(list.remove(key), Ok(()));
         now.remove(&key);
+    } else if now.keys().any(|&listed| same_first_part(listed, key)) {
+        assert_eq!(list.remove(key), Err(Refusal::NotListed));
+        assert_eq!(list.insert(key, tier), Err(Refusal::OtherIssue));
+        tally.add("another issue, 13");
     } else if list.insert(key, tier).is_ok() {
         now.insert(key, tier);
     } else {
@@ -32,7 +38,7 @@ fn step(list: &mut Harness, now: &mut Set, (key, tier): Member, rng: &mut Rng, t
 }
 
 /// Brings the list to a set by inserts in random order, with detours over other keys and over the
-/// set's keys with other tiers.
+/// set's keys with other tiers and other issues.
 fn random_history(
     list: &mut Harness,
     target: &[Member],
@@ -49,7 +55,9 @@ fn random_history(
         steps += 1;
         assert!(steps < 2_000, "a set that has an image can be reached");
         let member = if detours > 0 {
-            (rng.pick(&everything), random_tier(rng))
+            let key = rng.pick(&everything);
+            let key = if rng.one_in(3) { random_issue(rng, key) } else { key };
+            (key, random_tier(rng))
         } else {
             let wrong =
                 members(&now).into_iter().filter(|(key, tier)| target.get(key) != Some(tier));
@@ -98,6 +106,7 @@ fn two_histories_of_one_set_leave_one_list() {
         "refused on the way",
         "put in once more, 6",
         "put in once more, 10",
+        "another issue, 13",
         "ends with stash",
         "ends without stash",
     ];
@@ -108,10 +117,12 @@ fn two_histories_of_one_set_leave_one_list() {
 fn different_sets_have_different_images() {
     let mut rng = Rng::new(52);
     let mut tally = Tally::default();
-    // Sets of many keys, and sets of few keys that differ in their tiers.
-    let keys: Vec<u32> = (1..=7).collect();
+    // Sets of many keys, sets of few keys that differ in their tiers, and sets of few first parts
+    // that differ in their issues.
+    let keys: Vec<u32> = (1..=7).map(|first| 10 * first).collect();
     let mut sets = all_sets(&keys, &[0]);
     sets.extend(all_sets(&keys[..4], &[1, 5, 7]));
+    sets.extend(all_sets(&[10, 11, 19, 20, 25, 30, 31, 39], &[0, 5]));
     sets.sort();
     sets.dedup();
     for _ in 0..12 {

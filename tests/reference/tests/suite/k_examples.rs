@@ -1,7 +1,8 @@
 //! Document 01's "Cards on a test board": K1 to K12, each as the image of its set and as the result
 //! of inserts in every order, with both engines. Request One: "Document 01's board has tier 0
-//! throughout." Request Five: "The test board runs with station 0". Then some of the boards with
-//! other tiers, T2 to T12.
+//! throughout." Request Five: "The test board runs with station 0". Request Six: "The test board
+//! [..] run[s] with every card multiplied by ten, but for the edge 4,294,967,295." Then some of the
+//! boards with other tiers, T2 to T12, and with other issues, I2 to I12.
 
 use reference::answer::Refusal;
 use reference::samples::test_tabulation;
@@ -9,8 +10,8 @@ use reference::set::Member;
 
 use crate::common::{engines, hand_words, permutations, HandEntry, Harness, Tally};
 
-/// A board of the paper, or one with other tiers. Next numbers the paper does not write out follow
-/// from its rule.
+/// A board of the paper, or one with other tiers or issues. Next numbers the paper does not write
+/// out follow from its rule.
 struct Board {
     name: &'static str,
     r: u32,
@@ -31,88 +32,93 @@ const K2: Board = Board {
     name: "K2",
     r: 4,
     s: 1,
-    members: &[(17, 0)],
-    entries: &[(0, 1, 17, 17, 0), (1, 1, 17, 17, 0)],
+    members: &[(170, 0)],
+    entries: &[(0, 1, 170, 170, 0), (1, 1, 170, 170, 0)],
     stash: &[],
 };
 const K3: Board = Board {
     name: "K3",
     r: 4,
     s: 1,
-    members: &[(1, 0), (17, 0)],
-    entries: &[(0, 1, 1, 17, 0), (1, 0, 1, 17, 0), (1, 1, 17, 1, 0)],
+    members: &[(10, 0), (170, 0)],
+    entries: &[(0, 1, 10, 170, 0), (1, 0, 10, 170, 0), (1, 1, 170, 10, 0)],
     stash: &[],
 };
 const K4: Board = Board {
     name: "K4",
     r: 4,
     s: 1,
-    members: &[(1, 0), (65, 0)],
-    entries: &[(0, 1, 1, 65, 0), (1, 0, 65, 1, 0)],
+    members: &[(10, 0), (650, 0)],
+    entries: &[(0, 1, 10, 650, 0), (1, 0, 650, 10, 0)],
     stash: &[],
 };
 const K5: Board = Board {
     name: "K5",
     r: 4,
     s: 1,
-    members: &[(1, 0), (65, 0), (129, 0)],
-    entries: &[(0, 1, 1, 65, 0), (1, 0, 65, 1, 0)],
-    stash: &[(129, 0)],
+    members: &[(10, 0), (650, 0), (1_290, 0)],
+    entries: &[(0, 1, 10, 650, 0), (1, 0, 650, 10, 0)],
+    stash: &[(1_290, 0)],
 };
 const K6_TWO_PLACES: Board = Board {
     name: "K6 with s = 2",
     r: 4,
     s: 2,
-    members: &[(1, 0), (65, 0), (129, 0), (193, 0)],
-    entries: &[(0, 1, 1, 65, 0), (1, 0, 65, 1, 0)],
-    stash: &[(129, 0), (193, 0)],
+    members: &[(10, 0), (650, 0), (1_290, 0), (1_930, 0)],
+    entries: &[(0, 1, 10, 650, 0), (1, 0, 650, 10, 0)],
+    stash: &[(1_290, 0), (1_930, 0)],
 };
 const K7: Board = Board {
     name: "K7",
     r: 4,
     s: 1,
-    members: &[(1, 0), (129, 0)],
-    entries: &[(0, 1, 1, 129, 0), (1, 0, 129, 1, 0)],
+    members: &[(10, 0), (1_290, 0)],
+    entries: &[(0, 1, 10, 1_290, 0), (1, 0, 1_290, 10, 0)],
     stash: &[],
 };
 const K8: Board = Board {
     name: "K8",
     r: 4,
     s: 1,
-    members: &[(17, 0), (65, 0), (129, 0)],
-    entries: &[(0, 1, 65, 129, 0), (1, 0, 129, 17, 0), (1, 1, 17, 65, 0)],
+    members: &[(170, 0), (650, 0), (1_290, 0)],
+    entries: &[(0, 1, 650, 1_290, 0), (1, 0, 1_290, 170, 0), (1, 1, 170, 650, 0)],
     stash: &[],
 };
 const K9: Board = Board {
     name: "K9",
     r: 4,
     s: 1,
-    members: &[(1, 0), (33, 0), (34, 0), (65, 0), (98, 0)],
-    entries: &[(0, 1, 1, 33, 0), (1, 0, 65, 1, 0), (1, 2, 33, 34, 0), (0, 2, 34, 65, 0)],
-    stash: &[(98, 0)],
+    members: &[(10, 0), (330, 0), (340, 0), (650, 0), (980, 0)],
+    entries: &[(0, 1, 10, 330, 0), (1, 0, 650, 10, 0), (1, 2, 330, 340, 0), (0, 2, 340, 650, 0)],
+    stash: &[(980, 0)],
 };
 const K10: Board = Board {
     name: "K10",
     r: 4,
     s: 1,
-    members: &[(1, 0), (34, 0), (65, 0), (98, 0)],
-    entries: &[(0, 1, 1, 65, 0), (1, 0, 65, 1, 0), (0, 2, 34, 98, 0), (1, 2, 98, 34, 0)],
+    members: &[(10, 0), (340, 0), (650, 0), (980, 0)],
+    entries: &[(0, 1, 10, 650, 0), (1, 0, 650, 10, 0), (0, 2, 340, 980, 0), (1, 2, 980, 340, 0)],
     stash: &[],
 };
 const K11: Board = Board {
     name: "K11",
     r: 4,
     s: 1,
-    members: &[(1, 0), (34, 0), (65, 0), (98, 0), (225, 0)],
-    entries: &[(0, 1, 1, 34, 0), (1, 0, 65, 225, 0), (0, 2, 34, 65, 0), (1, 2, 225, 1, 0)],
-    stash: &[(98, 0)],
+    members: &[(10, 0), (340, 0), (650, 0), (980, 0), (2_250, 0)],
+    entries: &[
+        (0, 1, 10, 340, 0),
+        (1, 0, 650, 2_250, 0),
+        (0, 2, 340, 650, 0),
+        (1, 2, 2_250, 10, 0),
+    ],
+    stash: &[(980, 0)],
 };
 const K12: Board = Board {
     name: "K12",
     r: 1,
     s: 0,
-    members: &[(3, 0), (200, 0)],
-    entries: &[(0, 0, 3, 200, 0), (1, 0, 200, 3, 0)],
+    members: &[(30, 0), (2_000, 0)],
+    entries: &[(0, 0, 30, 2_000, 0), (1, 0, 2_000, 30, 0)],
     stash: &[],
 };
 
@@ -120,77 +126,151 @@ const T2: Board = Board {
     name: "T2",
     r: 4,
     s: 1,
-    members: &[(17, 5)],
-    entries: &[(0, 1, 17, 17, 5), (1, 1, 17, 17, 5)],
+    members: &[(170, 5)],
+    entries: &[(0, 1, 170, 170, 5), (1, 1, 170, 170, 5)],
     stash: &[],
 };
 const T3: Board = Board {
     name: "T3",
     r: 4,
     s: 1,
-    members: &[(1, 7), (17, 2)],
-    entries: &[(0, 1, 1, 17, 7), (1, 0, 1, 17, 7), (1, 1, 17, 1, 2)],
+    members: &[(10, 7), (170, 2)],
+    entries: &[(0, 1, 10, 170, 7), (1, 0, 10, 170, 7), (1, 1, 170, 10, 2)],
     stash: &[],
 };
 const T5: Board = Board {
     name: "T5",
     r: 4,
     s: 1,
-    members: &[(1, 3), (65, 0), (129, 6)],
-    entries: &[(0, 1, 1, 65, 3), (1, 0, 65, 1, 0)],
-    stash: &[(129, 6)],
+    members: &[(10, 3), (650, 0), (1_290, 6)],
+    entries: &[(0, 1, 10, 650, 3), (1, 0, 650, 10, 0)],
+    stash: &[(1_290, 6)],
 };
 /// The larger stash key has the smaller tier: the stash is ascending by key.
 const T6_TWO_PLACES: Board = Board {
     name: "T6 with s = 2",
     r: 4,
     s: 2,
-    members: &[(1, 1), (65, 2), (129, 7), (193, 0)],
-    entries: &[(0, 1, 1, 65, 1), (1, 0, 65, 1, 2)],
-    stash: &[(129, 7), (193, 0)],
+    members: &[(10, 1), (650, 2), (1_290, 7), (1_930, 0)],
+    entries: &[(0, 1, 10, 650, 1), (1, 0, 650, 10, 2)],
+    stash: &[(1_290, 7), (1_930, 0)],
 };
 const T7: Board = Board {
     name: "T7",
     r: 4,
     s: 1,
-    members: &[(1, 3), (129, 6)],
-    entries: &[(0, 1, 1, 129, 3), (1, 0, 129, 1, 6)],
+    members: &[(10, 3), (1_290, 6)],
+    entries: &[(0, 1, 10, 1_290, 3), (1, 0, 1_290, 10, 6)],
     stash: &[],
 };
 const T9: Board = Board {
     name: "T9",
     r: 4,
     s: 1,
-    members: &[(1, 1), (33, 2), (34, 3), (65, 4), (98, 5)],
-    entries: &[(0, 1, 1, 33, 1), (1, 0, 65, 1, 4), (1, 2, 33, 34, 2), (0, 2, 34, 65, 3)],
-    stash: &[(98, 5)],
+    members: &[(10, 1), (330, 2), (340, 3), (650, 4), (980, 5)],
+    entries: &[(0, 1, 10, 330, 1), (1, 0, 650, 10, 4), (1, 2, 330, 340, 2), (0, 2, 340, 650, 3)],
+    stash: &[(980, 5)],
 };
 const T10: Board = Board {
     name: "T10",
     r: 4,
     s: 1,
-    members: &[(1, 1), (34, 3), (65, 4), (98, 5)],
-    entries: &[(0, 1, 1, 65, 1), (1, 0, 65, 1, 4), (0, 2, 34, 98, 3), (1, 2, 98, 34, 5)],
+    members: &[(10, 1), (340, 3), (650, 4), (980, 5)],
+    entries: &[(0, 1, 10, 650, 1), (1, 0, 650, 10, 4), (0, 2, 340, 980, 3), (1, 2, 980, 340, 5)],
     stash: &[],
 };
 const T11: Board = Board {
     name: "T11",
     r: 4,
     s: 1,
-    members: &[(1, 6), (34, 0), (65, 7), (98, 7), (225, 1)],
-    entries: &[(0, 1, 1, 34, 6), (1, 0, 65, 225, 7), (0, 2, 34, 65, 0), (1, 2, 225, 1, 1)],
-    stash: &[(98, 7)],
+    members: &[(10, 6), (340, 0), (650, 7), (980, 7), (2_250, 1)],
+    entries: &[
+        (0, 1, 10, 340, 6),
+        (1, 0, 650, 2_250, 7),
+        (0, 2, 340, 650, 0),
+        (1, 2, 2_250, 10, 1),
+    ],
+    stash: &[(980, 7)],
 };
 const T12: Board = Board {
     name: "T12",
     r: 1,
     s: 0,
-    members: &[(3, 7), (200, 1)],
-    entries: &[(0, 0, 3, 200, 7), (1, 0, 200, 3, 1)],
+    members: &[(30, 7), (2_000, 1)],
+    entries: &[(0, 0, 30, 2_000, 7), (1, 0, 2_000, 30, 1)],
     stash: &[],
 };
 
-const BOARDS: [&Board; 21] = [
+/// The edge, which is not multiplied by ten. Its first part, 429,496,729, has the lowest byte 153.
+const EDGE: Board = Board {
+    name: "4,294,967,295",
+    r: 4,
+    s: 1,
+    members: &[(u32::MAX, 0)],
+    entries: &[(0, 1, u32::MAX, u32::MAX, 0), (1, 1, u32::MAX, u32::MAX, 0)],
+    stash: &[],
+};
+/// The edge beside 170, which has the same places.
+const EDGE_LOOP: Board = Board {
+    name: "4,294,967,295 on a loop",
+    r: 4,
+    s: 1,
+    members: &[(170, 2), (u32::MAX, 7)],
+    entries: &[(0, 1, 170, u32::MAX, 2), (1, 1, u32::MAX, 170, 7)],
+    stash: &[],
+};
+
+const I2: Board = Board {
+    name: "I2",
+    r: 4,
+    s: 1,
+    members: &[(179, 0)],
+    entries: &[(0, 1, 179, 179, 0), (1, 1, 179, 179, 0)],
+    stash: &[],
+};
+const I5: Board = Board {
+    name: "I5",
+    r: 4,
+    s: 1,
+    members: &[(19, 3), (650, 0), (1_295, 6)],
+    entries: &[(0, 1, 19, 650, 3), (1, 0, 650, 19, 0)],
+    stash: &[(1_295, 6)],
+};
+const I8: Board = Board {
+    name: "I8",
+    r: 4,
+    s: 1,
+    members: &[(171, 0), (659, 1), (1_290, 2)],
+    entries: &[(0, 1, 659, 1_290, 1), (1, 0, 1_290, 171, 2), (1, 1, 171, 659, 0)],
+    stash: &[],
+};
+/// 339 and 340 follow one another, with first parts 33 and 34.
+const I9: Board = Board {
+    name: "I9",
+    r: 4,
+    s: 1,
+    members: &[(11, 0), (339, 0), (340, 0), (658, 0), (987, 0)],
+    entries: &[(0, 1, 11, 339, 0), (1, 0, 658, 11, 0), (1, 2, 339, 340, 0), (0, 2, 340, 658, 0)],
+    stash: &[(987, 0)],
+};
+const I10: Board = Board {
+    name: "I10",
+    r: 4,
+    s: 1,
+    members: &[(11, 0), (340, 0), (658, 0), (987, 0)],
+    entries: &[(0, 1, 11, 658, 0), (1, 0, 658, 11, 0), (0, 2, 340, 987, 0), (1, 2, 987, 340, 0)],
+    stash: &[],
+};
+const I12: Board = Board {
+    name: "I12",
+    r: 1,
+    s: 0,
+    members: &[(39, 7), (40, 1)],
+    entries: &[(0, 0, 39, 40, 7), (1, 0, 40, 39, 1)],
+    stash: &[],
+};
+
+const BOARDS: [&Board; 29] = [
     &K1,
     &K2,
     &K3,
@@ -212,6 +292,14 @@ const BOARDS: [&Board; 21] = [
     &T10,
     &T11,
     &T12,
+    &EDGE,
+    &EDGE_LOOP,
+    &I2,
+    &I5,
+    &I8,
+    &I9,
+    &I10,
+    &I12,
 ];
 
 #[test]
@@ -261,13 +349,18 @@ fn filled(engine: &'static dyn reference::image::Engine, board: &Board) -> Harne
 fn k6_is_refused_with_one_stash_place() {
     for (_, engine) in engines() {
         let mut list = filled(engine, &K5);
-        assert_eq!(list.insert(193, 0), Err(Refusal::FullStash));
+        assert_eq!(list.insert(1_930, 0), Err(Refusal::FullStash));
         assert_eq!(list.words, K5.words());
         let mut list = filled(engine, &T5);
         for tier in 0..=7 {
-            assert_eq!(list.insert(193, tier), Err(Refusal::FullStash));
+            assert_eq!(list.insert(1_930, tier), Err(Refusal::FullStash));
         }
         assert_eq!(list.words, T5.words());
+        let mut list = filled(engine, &I5);
+        for key in 1_930..=1_939 {
+            assert_eq!(list.insert(key, 0), Err(Refusal::FullStash));
+        }
+        assert_eq!(list.words, I5.words());
     }
 }
 
@@ -275,7 +368,7 @@ fn k6_is_refused_with_one_stash_place() {
 fn k7_and_k10_bring_the_stash_key_back() {
     for (_, engine) in engines() {
         for (before, key, after) in
-            [(&K5, 65, &K7), (&K9, 33, &K10), (&T5, 65, &T7), (&T9, 33, &T10)]
+            [(&K5, 650, &K7), (&K9, 330, &K10), (&T5, 650, &T7), (&T9, 330, &T10), (&I9, 339, &I10)]
         {
             let mut list = filled(engine, before);
             assert_eq!(list.remove(key), Ok(()));
@@ -287,14 +380,14 @@ fn k7_and_k10_bring_the_stash_key_back() {
 #[test]
 fn k12_takes_two_keys_and_refuses_a_third() {
     for (_, engine) in engines() {
-        for board in [K12, T12] {
+        for board in [K12, T12, I12] {
             for order in permutations(board.members) {
                 let mut list = Harness::new(engine, &test_tabulation(), 1, 0, 0);
                 for (key, tier) in order {
                     assert_eq!(list.insert(key, tier), Ok(()));
                 }
                 assert_eq!(list.words, board.words());
-                for third in [1, 100, 201] {
+                for third in [10, 1_000, 2_010, u32::MAX] {
                     assert_eq!(list.insert(third, 0), Err(Refusal::FullStash));
                     assert_eq!(list.insert(third, 7), Err(Refusal::FullStash));
                 }

@@ -1,5 +1,5 @@
 //! The tests of the reference implementation, as one binary: document 01's boards and listings, its
-//! rules and those of requests One, Two, Four and Five on random boards, and the fast engine
+//! rules and those of requests One, Two, Four, Five and Six on random boards, and the fast engine
 //! against the slow one. Fixed seeds; nothing is timed. Run with `-- --nocapture` to see how many
 //! boards, sequences and lines were tried.
 
@@ -11,6 +11,7 @@ mod engines;
 mod graph;
 mod hashes;
 mod histories;
+mod issues;
 mod k_examples;
 mod placements;
 mod refusals;

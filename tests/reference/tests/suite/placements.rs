@@ -13,7 +13,7 @@ use reference::rng::Rng;
 use reference::samples::{random_keys, random_station, random_tabulation, random_tiers};
 use reference::set::set;
 
-use crate::common::Tally;
+use crate::common::{other_issues, Tally};
 
 /// Whether the edges can all be placed, by trying every way.
 fn placeable(rest: &[Edge], taken: &BTreeSet<Place>, s: u32) -> bool {
@@ -103,9 +103,10 @@ fn images_are_placements_that_lookup_reads() {
         let set = set(&members).unwrap();
         for (&key, &tier) in &set {
             assert_eq!(lookup(&tabulation, &words, key), Ok(Found::Listed(tier)));
-            let near = key.wrapping_add(1).max(1);
-            let near_found = set.get(&near).map_or(Found::Absent, |&tier| Found::Listed(tier));
-            assert_eq!(lookup(&tabulation, &words, near), Ok(near_found));
+            for near in other_issues(key).into_iter().chain([key.wrapping_add(10).max(10)]) {
+                let near_found = set.get(&near).map_or(Found::Absent, |&tier| Found::Listed(tier));
+                assert_eq!(lookup(&tabulation, &words, near), Ok(near_found));
+            }
         }
         tally.add("boards");
         tally.add_many("keys", keys.len());

@@ -1,7 +1,7 @@
 //! The order of refusals. An input is built with each combination of defects, and the first in the
 //! paper's order must be the answer. Some pairs cannot both apply by their nature: a blank key is
-//! in no set (5 with 6, 7, 8 or 10), and a listed key leaves the set as it is (6 or 10 with 8).
-//! Opening a sale has an order of its own.
+//! in no set (5 with 6, 7, 8, 10 or 13), a listed key leaves the set as it is (6 or 10 with 8), and
+//! no other issue of it is listed (6 or 10 with 13). Opening a sale has an order of its own.
 
 use reference::answer::{number, Answer, Found};
 use reference::calls::{check, insert, lookup, remove, stash, stash_answer, trail};
@@ -36,11 +36,14 @@ impl Defects {
     }
 }
 
-/// K5, whose stash is full, with other tiers: {1, 65, 129} with 129 in the stash. The station is 5,
-/// which changes no slot: the test tabulation has zeros in its fifth stretches.
+/// K5, whose stash is full, with other tiers and issues: {14, 650, 1295} with 1295 in the stash.
+/// The station is 5, which changes no slot: the test tabulation has zeros in its fifth stretches.
 fn k5() -> Vec<u32> {
-    hand_words(4, 1, 5, 3, &[(0, 1, 1, 65, 3), (1, 0, 65, 1, 0)], &[(129, 6)])
+    hand_words(4, 1, 5, 3, &[(0, 1, 14, 650, 3), (1, 0, 650, 14, 0)], &[(1_295, 6)])
 }
+
+/// Other issues than those in K5.
+const OTHER_ISSUES: [u32; 8] = [10, 13, 15, 19, 651, 659, 1_294, 1_296];
 
 /// The ways in which words can have a wrong shape; all keep their defect 4 if they have it.
 const WRONG_SHAPES: usize = 8;
@@ -84,24 +87,36 @@ fn input_scratch(defects: Defects) -> Vec<u32> {
     vec![4; len]
 }
 
-/// The key for an insert or remove; of several defects of the key, the first decides it.
-fn input_key(defects: Defects) -> u32 {
+/// The key for an insert or remove; of several defects of the key, the first decides it. A key that
+/// is not listed (7) is half of the time another issue of one that is.
+fn input_key(defects: Defects, way: usize) -> u32 {
     match () {
-        _ if defects.has(5) => 0,
-        _ if defects.has(10) => 1,
-        _ if defects.has(6) => 1,
-        _ if defects.has(7) => 193,
-        _ if defects.has(8) => 193,
-        _ => 2,
+        _ if defects.has(5) => [0, 1, 2, 4, 5, 6, 8, 9][way],
+        _ if defects.has(13) => OTHER_ISSUES[way],
+        _ if defects.has(10) => 14,
+        _ if defects.has(6) => 14,
+        _ if defects.has(7) && way % 2 == 1 => 1_930,
+        _ if defects.has(7) => OTHER_ISSUES[way],
+        _ if defects.has(8) => 1_939,
+        _ => 20,
     }
 }
 
-/// The tier for an insert: above 7 (9), or not the one of key 1 (10), or its own.
+/// The tier for an insert: above 7 (9), or not the one of key 14 (10), or its own.
 fn input_tier(defects: Defects, way: usize) -> u32 {
     match () {
         _ if defects.has(9) => [8, 9, 11, u32::MAX][way % 4],
         _ if defects.has(10) => [0, 2, 4, 7][way % 4],
         _ => 3,
+    }
+}
+
+/// The key for a call on a listed key: this one, unless the key has a defect.
+fn listed_unless_defect(defects: Defects, way: usize, listed: u32) -> u32 {
+    if defects.has(5) || defects.has(7) {
+        input_key(defects, way)
+    } else {
+        listed
     }
 }
 
@@ -111,11 +126,11 @@ fn change(engine: &dyn Engine, is_insert: bool, defects: Defects, way: usize) ->
         (input_tabulation(defects, way), input_words(defects, way), input_scratch(defects));
     let (words_before, mut counters) = (words.clone(), Counters { done: 10, refused: 20 });
     let answer = if is_insert {
-        let (key, tier) = (input_key(defects), input_tier(defects, way));
+        let (key, tier) = (input_key(defects, way), input_tier(defects, way));
         insert(&engine, &tabulation, &mut words, &mut scratch, &mut counters, key, tier)
     } else {
         // Without a defect of the key, a listed one is taken out.
-        let key = if input_key(defects) == 2 { 65 } else { input_key(defects) };
+        let key = listed_unless_defect(defects, way, 650);
         remove(&engine, &tabulation, &mut words, &mut scratch, &mut counters, key)
     };
     assert!(scratch.iter().all(|&word| word == 0));
@@ -129,8 +144,9 @@ fn change(engine: &dyn Engine, is_insert: bool, defects: Defects, way: usize) ->
 fn insert_refuses_in_order() {
     // Request One: "9 (tier above 7) after 5; 10 (add of a listed card with another tier) just
     // before 6". A listed key cannot fill the stash any further; with the stash full already, 10
-    // and 6 go before 8.
-    const POSSIBLE: &[u32] = &[1, 2, 3, 4, 5, 9, 10, 6, 8];
+    // and 6 go before 8. Request Six: "13 (another issue is listed) just before 10". In the full
+    // stash of K5 there would be no place for another issue either.
+    const POSSIBLE: &[u32] = &[1, 2, 3, 4, 5, 9, 13, 10, 6, 8];
     let mut tally = Tally::default();
     for (_, engine) in engines() {
         for defects in Defects::all(POSSIBLE) {
@@ -152,6 +168,7 @@ fn insert_refuses_in_order() {
         "insert 8",
         "insert 9",
         "insert 10",
+        "insert 13",
     ];
     tally.report("order of refusals", &wanted);
 }
@@ -176,12 +193,12 @@ fn remove_refuses_in_order() {
 
 /// Makes a trail and checks that a refusal leaves everything as it should.
 ///
-/// Without a defect of the key, it is 65, whose trail is 65, 1; a trail sheet of one word is too
+/// Without a defect of the key, it is 650, whose trail is 650, 14; a trail sheet of one word is too
 /// short for it (11), and one of no word for any key in a slot.
 fn trail_answer(engine: &dyn Engine, defects: Defects, way: usize) -> Answer {
     let (tabulation, words, mut scratch) =
         (input_tabulation(defects, way), input_words(defects, way), input_scratch(defects));
-    let key = if input_key(defects) == 2 { 65 } else { input_key(defects) };
+    let key = listed_unless_defect(defects, way, 650);
     let before = if defects.has(11) { vec![8; way % 2] } else { vec![8; 2 + way] };
     let mut trail_sheet = before.clone();
     let count = trail(&engine, &tabulation, &words, &mut scratch, key, &mut trail_sheet);
@@ -189,7 +206,7 @@ fn trail_answer(engine: &dyn Engine, defects: Defects, way: usize) -> Answer {
     match count {
         Err(_) => assert_eq!(trail_sheet, before),
         Ok(count) => {
-            assert_eq!((count, &trail_sheet[..2]), (2, &[65, 1][..]));
+            assert_eq!((count, &trail_sheet[..2]), (2, &[650, 14][..]));
             assert!(trail_sheet[2..].iter().all(|&word| word == 0));
         }
     }
@@ -216,7 +233,7 @@ fn trail_refuses_in_order() {
     tally.report("order of refusals", &wanted);
 }
 
-/// Opens a sale for key 129, which is in the stash with tier 6, or for a key with a defect.
+/// Opens a sale for key 1295, which is in the stash with tier 6, or for a key with a defect.
 ///
 /// Request Four takes 4 from the tier found alone. As a defect all keys of the words have a tier
 /// above 7, and so the words are no image whether the key is listed or not (7).
@@ -227,7 +244,7 @@ fn opened(defects: Defects, way: usize) -> Answer {
             *tier = [8, 9, u32::MAX][way % 3];
         }
     }
-    let key = if input_key(defects) == 2 { 129 } else { input_key(defects) };
+    let key = listed_unless_defect(defects, way, 1_295);
     let (mut base, mut steps) = (500, vec![1, 2, 3, 4, 5, 6, -499, 8]);
     if defects.has(12) {
         match way {
@@ -240,7 +257,7 @@ fn opened(defects: Defects, way: usize) -> Answer {
         }
     }
     let sale = open(&tabulation, &words, key, base, &steps)?;
-    assert_eq!(sale, Sale { key: 129, tier: 6, price: 1 });
+    assert_eq!(sale, Sale { key: 1_295, tier: 6, price: 1 });
     Ok(())
 }
 
@@ -292,7 +309,7 @@ fn lookup_refuses_in_order() {
     for defects in Defects::all(&[1, 2, 4, 5]) {
         for way in 0..WRONG_SHAPES {
             let (tabulation, words) = (input_tabulation(defects, way), input_words(defects, way));
-            let key = if defects.has(5) { 0 } else { 129 };
+            let key = listed_unless_defect(defects, way, 1_295);
             let found = lookup(&tabulation, &words, key);
             assert_eq!(found, fast::lookup(&tabulation, &words, key));
             let answer = found.map(|found| assert_eq!(found, Found::Listed(6)));
@@ -312,7 +329,7 @@ fn the_stash_view_refuses_in_order() {
             let words = input_words(defects, way);
             let answer = number(stash_answer(&words));
             assert_eq!(answer, defects.first(POSSIBLE), "{:b}", defects.0);
-            assert_eq!(stash(&words), if answer == 0 { &[129, 6][..] } else { &[] });
+            assert_eq!(stash(&words), if answer == 0 { &[1_295, 6][..] } else { &[] });
             tally.add(format!("stash {answer}"));
         }
     }

@@ -10,10 +10,12 @@ use reference::image::{Engine, Slow};
 use reference::model::{Call, Model, Reply};
 use reference::rng::Rng;
 use reference::sale::{close, open, Sale};
-use reference::samples::{random_keys, random_station, random_tabulation, random_tiers};
+use reference::samples::{
+    random_issue, random_keys, random_station, random_tabulation, random_tiers,
+};
 use reference::set::Set;
 
-use crate::common::{engines, hand_price, random_prices, Tally};
+use crate::common::{engines, hand_price, other_issues, random_prices, small_key, Tally};
 
 /// A tier for an insert: mostly one of three, so that a listed key comes again with its own tier
 /// and with another; now and then one above 7.
@@ -103,7 +105,7 @@ impl<'a> Sequence<'a> {
     fn call(&mut self, rng: &mut Rng) -> (Call, Reply) {
         let (tabulation, mut scratch) = (self.input_tabulation(rng), self.input_scratch(rng));
         let (tabulation_len, scratch_len) = (tabulation.len(), scratch.len());
-        let (key, trail_sheet) = (rng.below(10) as u32, self.input_trail_sheet(rng));
+        let (key, trail_sheet) = (small_key(rng, 7), self.input_trail_sheet(rng));
         let (words, counters) = (&mut self.words, &mut self.counters);
         let (call, reply) = match rng.below(18) {
             0..=4 => {
@@ -182,8 +184,26 @@ impl<'a> Sequence<'a> {
     }
 }
 
-/// A name for a call and its reply in the tally; the set is the one after the call.
+/// A name for a call and its reply in the tally, which says so where a key is not listed but
+/// another issue is; the set is the one after the call.
 fn label(call: &Call, reply: &Reply, set: &Set) -> String {
+    let label = plain_label(call, reply, set);
+    let (Call::Remove { key, .. }
+    | Call::Lookup { key, .. }
+    | Call::Trail { key, .. }
+    | Call::Open { key, .. }) = call
+    else {
+        return label;
+    };
+    let is_other_issue = other_issues(*key).iter().any(|other| set.contains_key(other));
+    if is_other_issue && (label.ends_with(" 7") || label.ends_with(" absent")) {
+        label + ", another issue"
+    } else {
+        label
+    }
+}
+
+fn plain_label(call: &Call, reply: &Reply, set: &Set) -> String {
     let kind = match call {
         Call::Insert { .. } => "insert",
         Call::Remove { .. } => "remove",
@@ -252,15 +272,18 @@ fn sequences_answer_as_the_reference_model() {
         "insert 8",
         "insert 9",
         "insert 10",
+        "insert 13",
         "remove 0",
         "remove 1",
         "remove 3",
         "remove 5",
         "remove 7",
+        "remove 7, another issue",
         "lookup listed 0",
         "lookup listed 1",
         "lookup listed 7",
         "lookup absent",
+        "lookup absent, another issue",
         "lookup 1",
         "lookup 5",
         "check 0",
@@ -276,11 +299,13 @@ fn sequences_answer_as_the_reference_model() {
         "trail 3",
         "trail 5",
         "trail 7",
+        "trail 7, another issue",
         "trail 11",
         "open 0",
         "open 1",
         "open 5",
         "open 7",
+        "open 7, another issue",
         "open 12",
         "close, as listed",
         "close, other tier",
@@ -309,14 +334,14 @@ fn the_model_starts_only_where_init_is_accepted() {
     }
 }
 
-/// Words of any length and content; often of a right shape, and with small numbers so that keys
-/// repeat.
+/// Words of any length and content; often of a right shape, and with small numbers, blank keys and
+/// small keys, so that keys and first parts repeat.
 fn any_words(rng: &mut Rng) -> Vec<u32> {
     let (r, s) = (1 + rng.below(3) as u32, rng.below(3) as u32);
     let right_len = (5 + 6 * r + 2 * s) as usize;
     let len = if rng.one_in(4) { rng.below(28) } else { right_len };
     let mut words: Vec<u32> =
-        (0..len).map(|_| if rng.one_in(3) { rng.below(7) as u32 } else { 0 }).collect();
+        (0..len).map(|_| if rng.one_in(3) { small_word(rng) } else { 0 }).collect();
     for (at, value) in [(0, r), (1, s), (4, random_station(rng))] {
         let value = match rng.below(20) {
             0 => rng.next_u32(),
@@ -330,21 +355,30 @@ fn any_words(rng: &mut Rng) -> Vec<u32> {
     words
 }
 
+/// A tier, a count or a key, which can be blank.
+fn small_word(rng: &mut Rng) -> u32 {
+    if rng.one_in(2) {
+        rng.below(9) as u32
+    } else {
+        small_key(rng, 7)
+    }
+}
+
 /// The words of an image, half of the time with one word changed, now and then the station.
 fn almost_image(tabulation: &[u16], rng: &mut Rng) -> Option<Vec<u32>> {
     let (r, s) = (1 + rng.below(3) as u32, rng.below(3) as u32);
     let count = rng.below(5);
     let mut keys = random_keys(rng, count);
-    keys.iter_mut().for_each(|key| *key = 1 + *key % 7);
+    keys.iter_mut().for_each(|key| *key = 10 + *key % 70);
     keys.sort_unstable();
-    keys.dedup();
+    keys.dedup_by_key(|key| *key / 10);
     let station = random_station(rng);
     let mut words = Slow.image(tabulation, r, s, station, &random_tiers(rng, &keys))?;
     match rng.below(12) {
         0 => words[4] = rng.below(512) as u32,
         1..=5 => {
             let at = rng.below(words.len());
-            words[at] = rng.below(9) as u32;
+            words[at] = small_word(rng);
         }
         _ => {}
     }
@@ -381,7 +415,18 @@ fn calls_are_total_and_the_engines_agree_on_any_memory() {
         let image = if rng.one_in(2) { almost_image(&tabulation, &mut rng) } else { None };
         let words = image.unwrap_or_else(|| any_words(&mut rng));
         let scratch: Vec<u32> = vec![6; rng.below(90)];
-        let (key, tier) = (rng.below(8) as u32, input_tier(&mut rng));
+        // Mostly a number that stands in the words, or another issue of it.
+        let key = if words.is_empty() || rng.one_in(4) {
+            small_key(&mut rng, 7)
+        } else {
+            let word = rng.pick(&words);
+            if rng.one_in(2) {
+                random_issue(&mut rng, word)
+            } else {
+                word
+            }
+        };
+        let tier = input_tier(&mut rng);
         let outcome = |engine: &dyn Engine, kind: usize| -> Outcome {
             let (mut words, mut scratch) = (words.clone(), scratch.clone());
             let mut counters = Counters::default();
@@ -417,7 +462,7 @@ fn calls_are_total_and_the_engines_agree_on_any_memory() {
         assert!(checked.is_ok() || answer == checked, "1 to 4 as a check gives them");
         tally.add(format!("trail {}", number(answer)));
         assert_eq!(lookup(&tabulation, &words, key), fast::lookup(&tabulation, &words, key));
-        for key in 0..8 {
+        for key in (0..8).map(|first| 10 * first).chain([key]) {
             let (base, steps) = random_prices(&mut rng);
             let opened = open(&tabulation, &words, key, base, &steps);
             assert_eq!(opened, opening_after(lookup(&tabulation, &words, key), key, base, &steps));
@@ -437,6 +482,7 @@ fn calls_are_total_and_the_engines_agree_on_any_memory() {
         "insert 8",
         "insert 9",
         "insert 10",
+        "insert 13",
         "remove 0",
         "remove 1",
         "remove 2",

@@ -46,7 +46,7 @@ fn hashes_at_stations_by_hand() {
         tabulation[1_024 + v] = v as u16;
         tabulation[2_304 + v] = v as u16 / 16;
     }
-    for (key, station, places) in [
+    for (first, station, places) in [
         (1, 0, [1 + 1, 0]),
         (1, 15, [1 + 16, 1]),
         (1, 254, [1 + 255, 15]),
@@ -64,13 +64,23 @@ fn hashes_at_stations_by_hand() {
         (256, 255, [255, 15]),
         (511, 1, [255, 15]),
         (65_281, 255, [1, 0]),
-        (u32::MAX - 255, 7, [7, 0]),
-        (u32::MAX, 1, [255, 15]),
-        (u32::MAX, 17, [255 + 16, 15 + 1]),
+        // The bytes of 429,496,575 and 429,496,576 are 255 and 0 (lowest), 152 and 153, 153, 25.
+        (429_496_575, 1, [255, 15]),
+        (429_496_575, 17, [255 + 16, 15 + 1]),
+        (429_496_576, 7, [7, 0]),
     ] {
-        assert_eq!(hashes(&tabulation, 1_024, station, key), Ok(places), "{key}, {station}");
-        let modulo_4 = places.map(|place| place % 4);
-        assert_eq!(hashes(&tabulation, 4, station, key), Ok(modulo_4), "{key}, {station}");
+        for issue in 0..10 {
+            let key = 10 * first + issue;
+            assert_eq!(hashes(&tabulation, 1_024, station, key), Ok(places), "{key}, {station}");
+            let modulo_4 = places.map(|place| place % 4);
+            assert_eq!(hashes(&tabulation, 4, station, key), Ok(modulo_4), "{key}, {station}");
+        }
+    }
+    // The largest first part, 429,496,729, has the lowest byte 153.
+    for key in u32::MAX - 5..=u32::MAX {
+        assert_eq!(hashes(&tabulation, 1_024, 0, key), Ok([153 + 153, 9 + 9]), "{key}");
+        assert_eq!(hashes(&tabulation, 1_024, 102, key), Ok([153 + 255, 9 + 15]), "{key}");
+        assert_eq!(hashes(&tabulation, 1_024, 103, key), Ok([153, 9]), "{key}");
     }
 }
 
@@ -92,8 +102,9 @@ fn the_fifth_entry_is_at_the_lowest_byte_plus_the_station_modulo_256() {
     for station in 0..256 {
         let mut at = station;
         for b0 in 0..256 {
-            for others in [0x100, 0x0100_0000, 0x00ff_0000, 0xffff_ff00, 0x8180_7f00] {
-                let place = hashes(&tabulation, 1_024, station, others | b0);
+            for others in [0x100, 0x0100_0000, 0x00ff_0000, 0x1999_9800, 0x1180_7f00u32] {
+                let key = 10 * (others | b0) + station % 10;
+                let place = hashes(&tabulation, 1_024, station, key);
                 assert_eq!(place, Ok([at, 255 - at]), "{b0}, {station}");
             }
             at = if at == 255 { 0 } else { at + 1 };
@@ -107,9 +118,9 @@ fn the_fifth_entry_is_at_the_lowest_byte_plus_the_station_modulo_256() {
 fn a_lone_key_sits_where_its_station_says() {
     let tabulation = telling_tabulation();
     for (_, engine) in engines() {
-        for key in [1, 2, 17, 128, 254, 255, 256, 511, u32::MAX - 255, u32::MAX] {
+        for key in [10, 29, 170, 1_281, 2_549, 2_550, 2_559, 2_560, 5_115, u32::MAX - 6, u32::MAX] {
             for station in 0..256 {
-                let at = ((key % 256 + station) % 256) as usize;
+                let at = ((key / 10 % 256 + station) % 256) as usize;
                 let entries = [(0, at, key, key, 3), (1, 255 - at, key, key, 3)];
                 let words = hand_words(256, 0, station, 1, &entries, &[]);
                 let image = engine.image(&tabulation, 256, 0, station, &[(key, 3)]);
@@ -122,13 +133,13 @@ fn a_lone_key_sits_where_its_station_says() {
 }
 
 /// Document 01: "Its place in rack k is the sum over i = 0 to 3 of book entry 1,024k + 256i + bi,
-/// taken modulo r."
-fn hashes_of_document_01(book: &[u16], r: u32, key: u32) -> [u32; 2] {
+/// taken modulo r." With request Six its cards are our first parts.
+fn hashes_of_document_01(book: &[u16], r: u32, card: u32) -> [u32; 2] {
     assert_eq!(book.len(), 2_048);
     let mut sums = [0; 2];
     for (k, sum) in sums.iter_mut().enumerate() {
         for i in 0..4 {
-            let byte = key >> (8 * i) & 255;
+            let byte = card >> (8 * i) & 255;
             *sum += u32::from(book[1_024 * k + 256 * i + byte as usize]);
         }
     }
@@ -147,8 +158,8 @@ fn with_zeros_in_the_fifth_stretches_the_hashes_are_document_01s() {
         let book: Vec<u16> = (0..2_048).map(|_| rng.next_u32() as u16).collect();
         let tabulation = with_zero_stretches(&book);
         let r = 1 + rng.below(1_024) as u32;
-        for key in many_keys(&mut rng, 8).into_iter().chain(1..=8) {
-            let places = hashes_of_document_01(&book, r, key);
+        for key in many_keys(&mut rng, 8).into_iter().chain(10..=28) {
+            let places = hashes_of_document_01(&book, r, key / 10);
             assert_eq!(hashes(&tabulation, r, 0, key), Ok(places), "{r}, {key}");
             let station = random_station(&mut rng);
             assert_eq!(hashes(&tabulation, r, station, key), Ok(places), "{r}, {station}, {key}");
@@ -209,8 +220,9 @@ fn a_station_turns_the_fifth_stretches_and_changes_nothing_else() {
 }
 
 /// The test tabulation with two more entries: entry 16 of table 0's fifth stretch and entry 0 of
-/// table 1's are 1. A key at a station sits where the test board has it; but where key and station
-/// come to 16 modulo 256, one slot on in table 0, and where they come to 0, one slot on in table 1.
+/// table 1's are 1. A key at a station sits where the test board has it; but where first part and
+/// station come to 16 modulo 256, one slot on in table 0, and where they come to 0, one slot on in
+/// table 1.
 fn station_tabulation() -> Vec<u16> {
     let mut tabulation = test_tabulation();
     tabulation[1_024 + 16] = 1;
@@ -219,83 +231,83 @@ fn station_tabulation() -> Vec<u16> {
 }
 
 /// The tiers of K5's keys on the boards below.
-const MEMBERS: [Member; 3] = [(1, 5), (65, 0), (129, 7)];
+const MEMBERS: [Member; 3] = [(10, 5), (650, 0), (1_290, 7)];
 
 /// K5's keys at a station, r = 4 and s = 1.
 struct Board {
     station: u32,
     entries: &'static [HandEntry],
     stash: &'static [Member],
-    /// The trails of keys 1, 65 and 129.
+    /// The trails of keys 10, 650 and 1290.
     trails: [&'static [u32]; 3],
-    /// What an insert of key 193 answers.
-    answer_193: u32,
+    /// What an insert of key 1930 answers.
+    answer_1930: u32,
 }
 
 /// K5, where all three keys have 0.1 and 1.0.
-const K5_ENTRIES: &[HandEntry] = &[(0, 1, 1, 65, 5), (1, 0, 65, 1, 0)];
-const K5_STASH: &[Member] = &[(129, 7)];
+const K5_ENTRIES: &[HandEntry] = &[(0, 1, 10, 650, 5), (1, 0, 650, 10, 0)];
+const K5_STASH: &[Member] = &[(1_290, 7)];
 
 /// At most stations no key comes to 16 or 0. At the others one of the keys leaves the other two,
-/// which form a loop of two in 0.1 and 1.0, and all are seated. Key 193, which comes to 0 at
+/// which form a loop of two in 0.1 and 1.0, and all are seated. Key 1930, which comes to 0 at
 /// station 63 and to 16 at station 79, has 0.1 and 1.0 at all others; on K5 there is no place for
 /// it then.
 const BOARDS: [Board; 11] = [
     board_k5(0),
     board_k5(1),
     board_k5(240),
-    // 1 + 15 is 16: key 1 has 0.2 and 1.0, and 65 is the smaller on the loop.
+    // 1 + 15 is 16: key 10 has 0.2 and 1.0, and 650 is the smaller on the loop.
     Board {
         station: 15,
-        entries: &[(0, 1, 65, 129, 0), (0, 2, 1, 65, 5), (1, 0, 129, 1, 7)],
+        entries: &[(0, 1, 650, 1_290, 0), (0, 2, 10, 650, 5), (1, 0, 1_290, 10, 7)],
         stash: &[],
-        trails: [&[1, 129, 65], &[65], &[129, 65]],
-        answer_193: 0,
+        trails: [&[10, 1_290, 650], &[650], &[1_290, 650]],
+        answer_1930: 0,
     },
-    // 1 + 255 is 256: key 1 has 0.1 and 1.1.
+    // 1 + 255 is 256: key 10 has 0.1 and 1.1.
     Board {
         station: 255,
-        entries: &[(0, 1, 65, 129, 0), (1, 0, 129, 1, 7), (1, 1, 1, 65, 5)],
+        entries: &[(0, 1, 650, 1_290, 0), (1, 0, 1_290, 10, 7), (1, 1, 10, 650, 5)],
         stash: &[],
-        trails: [&[1, 65], &[65], &[129, 65]],
-        answer_193: 0,
+        trails: [&[10, 650], &[650], &[1_290, 650]],
+        answer_1930: 0,
     },
-    // 65 + 207 is 272: key 65 has 0.2 and 1.0.
+    // 65 + 207 is 272: key 650 has 0.2 and 1.0.
     Board {
         station: 207,
-        entries: &[(0, 1, 1, 65, 5), (0, 2, 65, 129, 0), (1, 0, 129, 1, 7)],
+        entries: &[(0, 1, 10, 650, 5), (0, 2, 650, 1_290, 0), (1, 0, 1_290, 10, 7)],
         stash: &[],
-        trails: [&[1], &[65, 129, 1], &[129, 1]],
-        answer_193: 0,
+        trails: [&[10], &[650, 1_290, 10], &[1_290, 10]],
+        answer_1930: 0,
     },
-    // 65 + 191 is 256: key 65 has 0.1 and 1.1.
+    // 65 + 191 is 256: key 650 has 0.1 and 1.1.
     Board {
         station: 191,
-        entries: &[(0, 1, 1, 65, 5), (1, 0, 129, 1, 7), (1, 1, 65, 129, 0)],
+        entries: &[(0, 1, 10, 650, 5), (1, 0, 1_290, 10, 7), (1, 1, 650, 1_290, 0)],
         stash: &[],
-        trails: [&[1], &[65, 1], &[129, 1]],
-        answer_193: 0,
+        trails: [&[10], &[650, 10], &[1_290, 10]],
+        answer_1930: 0,
     },
-    // 129 + 143 is 272: key 129 has 0.2 and 1.0.
+    // 129 + 143 is 272: key 1290 has 0.2 and 1.0.
     Board {
         station: 143,
-        entries: &[(0, 1, 1, 65, 5), (0, 2, 129, 1, 7), (1, 0, 65, 129, 0)],
+        entries: &[(0, 1, 10, 650, 5), (0, 2, 1_290, 10, 7), (1, 0, 650, 1_290, 0)],
         stash: &[],
-        trails: [&[1], &[65, 1], &[129, 65, 1]],
-        answer_193: 0,
+        trails: [&[10], &[650, 10], &[1_290, 650, 10]],
+        answer_1930: 0,
     },
-    // 129 + 127 is 256: key 129 has 0.1 and 1.1.
+    // 129 + 127 is 256: key 1290 has 0.1 and 1.1.
     Board {
         station: 127,
-        entries: &[(0, 1, 1, 65, 5), (1, 0, 65, 129, 0), (1, 1, 129, 1, 7)],
+        entries: &[(0, 1, 10, 650, 5), (1, 0, 650, 1_290, 0), (1, 1, 1_290, 10, 7)],
         stash: &[],
-        trails: [&[1], &[65, 1], &[129, 1]],
-        answer_193: 0,
+        trails: [&[10], &[650, 10], &[1_290, 10]],
+        answer_1930: 0,
     },
-    // 193 + 63 is 256: K5 for the three, but key 193 has 0.1 and 1.1.
-    Board { answer_193: 0, ..board_k5(63) },
-    // 193 + 79 is 272: K5 for the three, but key 193 has 0.2 and 1.0.
-    Board { answer_193: 0, ..board_k5(79) },
+    // 193 + 63 is 256: K5 for the three, but key 1930 has 0.1 and 1.1.
+    Board { answer_1930: 0, ..board_k5(63) },
+    // 193 + 79 is 272: K5 for the three, but key 1930 has 0.2 and 1.0.
+    Board { answer_1930: 0, ..board_k5(79) },
 ];
 
 const fn board_k5(station: u32) -> Board {
@@ -303,8 +315,8 @@ const fn board_k5(station: u32) -> Board {
         station,
         entries: K5_ENTRIES,
         stash: K5_STASH,
-        trails: [&[1], &[65, 1], &[]],
-        answer_193: 8,
+        trails: [&[10], &[650, 10], &[]],
+        answer_1930: 8,
     }
 }
 
@@ -338,9 +350,9 @@ fn boards_at_stations_by_hand() {
                     let sale = list.open(key, price, &[0; 8]);
                     assert_eq!(sale, Ok(Sale { key, tier, price }), "station {station}");
                 }
-                assert_eq!(number(list.insert(193, 0)), board.answer_193, "station {station}");
-                if board.answer_193 == 0 {
-                    assert_eq!(list.remove(193), Ok(()));
+                assert_eq!(number(list.insert(1_930, 0)), board.answer_1930, "station {station}");
+                if board.answer_1930 == 0 {
+                    assert_eq!(list.remove(1_930), Ok(()));
                 }
                 assert_eq!(list.words, board.words(), "station {station}, {name}");
                 for (key, _) in order {
@@ -371,9 +383,9 @@ fn the_model_answers_by_its_station() {
             let call = Call::Trail { tabulation_len, scratch_len, key, trail_sheet_len };
             assert_eq!(model.feed(&call), Reply::Trail(Ok(trail.to_vec())));
         }
-        let call = Call::Insert { tabulation_len, scratch_len, key: 193, tier: 0 };
+        let call = Call::Insert { tabulation_len, scratch_len, key: 1_930, tier: 0 };
         let Reply::Answer(answer) = model.feed(&call) else { unreachable!("an insert") };
-        assert_eq!(number(answer), board.answer_193, "station {}", board.station);
+        assert_eq!(number(answer), board.answer_1930, "station {}", board.station);
     }
 }
 
@@ -433,7 +445,7 @@ fn every_station_to_255_is_accepted_and_none_above() {
         let mut words = vec![9; 13];
         let mut counters = Counters::default();
         let answer = init(1, 1, station, &mut words, &mut counters);
-        let places = hashes(&vec![0; 2_560], 1, station, 5);
+        let places = hashes(&vec![0; 2_560], 1, station, 50);
         if station <= 255 {
             assert_eq!((answer, places), (Ok(()), Ok([0, 0])));
             assert_eq!(words, hand_words(1, 1, station, 0, &[], &[]));
@@ -471,7 +483,7 @@ fn a_station_above_255_in_word_4_is_a_2_in_every_call() {
                     list.scratch_len = scratch_len;
                     list.tabulation.resize(len, 0);
                     assert_eq!(list.check(), Err(refusal));
-                    for key in [0, 1, 2, 129, 193] {
+                    for key in [0, 9, 10, 19, 20, 1_290, 1_930] {
                         assert_eq!(list.insert(key, 8), Err(refusal));
                         assert_eq!(list.insert(key, 5), Err(refusal));
                         assert_eq!(list.remove(key), Err(refusal));
@@ -506,20 +518,20 @@ fn words_without_a_station_are_refused() {
         for (_, engine) in engines() {
             let (tabulation, mut scratch) = (station_tabulation(), vec![1; 56]);
             assert_eq!(check(&engine, &tabulation, &words, &mut scratch), refused);
-            let trail = calls::trail(&engine, &tabulation, &words, &mut scratch, 1, &mut [0; 8]);
+            let trail = calls::trail(&engine, &tabulation, &words, &mut scratch, 10, &mut [0; 8]);
             assert_eq!(trail.map(|_| ()), refused);
             let mut words = words.clone();
             let inserted =
-                calls::insert(&engine, &tabulation, &mut words, &mut scratch, &mut counters, 2, 0);
+                calls::insert(&engine, &tabulation, &mut words, &mut scratch, &mut counters, 20, 0);
             assert_eq!(inserted, refused);
             let removed =
-                calls::remove(&engine, &tabulation, &mut words, &mut scratch, &mut counters, 1);
+                calls::remove(&engine, &tabulation, &mut words, &mut scratch, &mut counters, 10);
             assert_eq!(removed, refused);
         }
         assert_eq!(counters, Counters { done: 0, refused: 4 });
-        assert_eq!(lookup(&station_tabulation(), &words, 1).map(|_| ()), refused);
-        assert_eq!(fast::lookup(&station_tabulation(), &words, 1).map(|_| ()), refused);
-        assert_eq!(open(&station_tabulation(), &words, 1, 1, &[0; 8]).map(|_| ()), refused);
+        assert_eq!(lookup(&station_tabulation(), &words, 10).map(|_| ()), refused);
+        assert_eq!(fast::lookup(&station_tabulation(), &words, 10).map(|_| ()), refused);
+        assert_eq!(open(&station_tabulation(), &words, 10, 1, &[0; 8]).map(|_| ()), refused);
         assert_eq!(stash_answer(&words), refused);
     }
 }
@@ -563,7 +575,7 @@ fn two_stations_give_different_words() {
 /// slots for a few keys.
 #[test]
 fn the_house_table_spreads_keys_by_station() {
-    let keys: Vec<u32> = (1..=40).collect();
+    let keys: Vec<u32> = (1..=40).map(|first| 10 * first).collect();
     let places = |station: u32| -> Vec<[u32; 2]> {
         keys.iter().map(|&key| hashes(&HOUSE, 1_024, station, key).unwrap()).collect()
     };

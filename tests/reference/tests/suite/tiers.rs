@@ -30,32 +30,39 @@ fn found(words: &[u32], key: u32) -> Result<Found, Refusal> {
     found
 }
 
-/// Each pair of refusals that one insert can deserve: the earlier in the order 5, 9, 10, 6, 8 wins.
+/// Each pair of refusals that one insert can deserve: the earlier in the order 5, 9, 13, 10, 6, 8
+/// wins.
 #[test]
 fn nine_and_ten_come_in_their_order() {
     for (_, engine) in engines() {
         // K5 with other tiers: the stash is full.
         let mut list = Harness::new(engine, &test_tabulation(), 4, 1, 0);
-        for (key, tier) in [(1, 3), (65, 0), (129, 6)] {
+        for (key, tier) in [(10, 3), (650, 0), (1_290, 6)] {
             assert_eq!(list.insert(key, tier), Ok(()));
         }
         for (key, tier, answer, why) in [
             (0, 8, 5, "5 before 9"),
             (0, 0, 5, "5 alone"),
-            (2, 8, 9, "9 alone"),
-            (2, u32::MAX, 9, "9 alone"),
-            (193, 8, 9, "9 before 8"),
-            (1, 8, 9, "9 before 10 and 6"),
-            (129, u32::MAX, 9, "9 before 10 and 6"),
-            (1, 2, 10, "10, smaller tier"),
-            (1, 4, 10, "10, larger tier"),
-            (65, 7, 10, "10, a slot of table 1"),
-            (129, 0, 10, "10, in the stash"),
-            (1, 3, 6, "6 with its own tier"),
-            (65, 0, 6, "6 with its own tier"),
-            (129, 6, 6, "6 with its own tier"),
-            (193, 7, 8, "8 with a right tier"),
-            (2, 7, 0, "accepted"),
+            (20, 8, 9, "9 alone"),
+            (20, u32::MAX, 9, "9 alone"),
+            (1_930, 8, 9, "9 before 8"),
+            (10, 8, 9, "9 before 10 and 6"),
+            (1_290, u32::MAX, 9, "9 before 10 and 6"),
+            (19, 8, 9, "9 before 13"),
+            (1_291, 8, 9, "9 before 13"),
+            (9, 8, 5, "5 before 9"),
+            (9, 0, 5, "5 alone"),
+            (19, 3, 13, "13 with the listed issue's tier"),
+            (1_291, 0, 13, "13 with another tier, before 8"),
+            (10, 2, 10, "10, smaller tier"),
+            (10, 4, 10, "10, larger tier"),
+            (650, 7, 10, "10, a slot of table 1"),
+            (1_290, 0, 10, "10, in the stash"),
+            (10, 3, 6, "6 with its own tier"),
+            (650, 0, 6, "6 with its own tier"),
+            (1_290, 6, 6, "6 with its own tier"),
+            (1_930, 7, 8, "8 with a right tier"),
+            (20, 7, 0, "accepted"),
         ] {
             assert_eq!(number(list.insert(key, tier)), answer, "{key}, {tier}: {why}");
         }
@@ -67,15 +74,15 @@ fn every_tier_to_7_is_accepted_and_none_above() {
     for (_, engine) in engines() {
         for tier in 0..=300 {
             let mut list = Harness::new(engine, &test_tabulation(), 4, 1, 0);
-            let answer = list.insert(17, tier);
+            let answer = list.insert(170, tier);
             if tier <= 7 {
                 assert_eq!(answer, Ok(()));
-                let entries = [(0, 1, 17, 17, tier), (1, 1, 17, 17, tier)];
+                let entries = [(0, 1, 170, 170, tier), (1, 1, 170, 170, tier)];
                 assert_eq!(list.words, hand_words(4, 1, 0, 1, &entries, &[]));
-                assert_eq!(found(&list.words, 17), Ok(Found::Listed(tier)));
+                assert_eq!(found(&list.words, 170), Ok(Found::Listed(tier)));
             } else {
                 assert_eq!(answer, Err(Refusal::WrongTier));
-                assert_eq!(found(&list.words, 17), Ok(Found::Absent));
+                assert_eq!(found(&list.words, 170), Ok(Found::Absent));
             }
         }
     }
@@ -129,16 +136,16 @@ fn an_insert_of_a_listed_key_never_changes_its_tier() {
 fn two_copies_with_unlike_tiers_are_tampering() {
     for tier0 in 0..=8 {
         for tier1 in 0..=8 {
-            let k2 = [(0, 1, 17, 17, tier0), (1, 1, 17, 17, tier1)];
-            let k3 = [(0, 1, 1, 17, tier0), (1, 0, 1, 17, tier1), (1, 1, 17, 1, 5)];
+            let k2 = [(0, 1, 170, 170, tier0), (1, 1, 170, 170, tier1)];
+            let k3 = [(0, 1, 10, 170, tier0), (1, 0, 10, 170, tier1), (1, 1, 170, 10, 5)];
             let expected =
                 if tier0 == tier1 && tier0 <= 7 { Ok(()) } else { Err(Refusal::NotCanonical) };
             let k2 = hand_words(4, 1, 0, 1, &k2, &[]);
             assert_eq!(checked(&k2), expected, "{tier0}, {tier1}");
-            assert_eq!(found(&k2, 17), Ok(Found::Listed(tier0)), "the first counts");
+            assert_eq!(found(&k2, 170), Ok(Found::Listed(tier0)), "the first counts");
             let k3 = hand_words(4, 1, 0, 2, &k3, &[]);
             assert_eq!(checked(&k3), expected, "{tier0}, {tier1}");
-            assert_eq!(found(&k3, 1), Ok(Found::Listed(tier0)), "the first counts");
+            assert_eq!(found(&k3, 10), Ok(Found::Listed(tier0)), "the first counts");
         }
     }
 }
@@ -149,7 +156,7 @@ fn two_copies_with_unlike_tiers_are_tampering() {
 fn a_wrong_tier_anywhere_stops_inserts_and_removes() {
     for (_, engine) in engines() {
         let mut list = Harness::new(engine, &test_tabulation(), 4, 2, 0);
-        for (key, tier) in [(1, 3), (65, 0), (129, 6), (17, 2)] {
+        for (key, tier) in [(10, 3), (650, 0), (1_290, 6), (170, 2)] {
             assert_eq!(list.insert(key, tier), Ok(()));
         }
         let words = list.words.clone();
@@ -162,7 +169,9 @@ fn a_wrong_tier_anywhere_stops_inserts_and_removes() {
                 list.words = words.clone();
                 list.words[at] = tier;
                 assert_eq!(list.check(), Err(Refusal::NotCanonical));
-                for (key, tier) in [(0, 0), (2, 9), (2, 0), (1, 3), (1, 0), (129, 6)] {
+                for (key, tier) in
+                    [(0, 0), (9, 0), (20, 9), (20, 0), (10, 3), (10, 0), (19, 3), (1_290, 6)]
+                {
                     assert_eq!(list.insert(key, tier), Err(Refusal::NotCanonical));
                     assert_eq!(list.remove(key), Err(Refusal::NotCanonical));
                 }
@@ -177,22 +186,22 @@ fn a_wrong_tier_anywhere_stops_inserts_and_removes() {
 /// counts". In this order: the slot in table 0, the slot in table 1, the stash places.
 #[test]
 fn a_lookup_on_a_tampered_list_takes_the_first() {
-    // Key 17 belongs into slot 1 of each table; each copy has a tier of its own.
-    let at_01 = (0, 1, 17, 17, 4);
-    let at_11 = (1, 1, 17, 17, 9);
-    let elsewhere = (0, 0, 17, 17, 1);
+    // Key 170 belongs into slot 1 of each table; each copy has a tier of its own.
+    let at_01 = (0, 1, 170, 170, 4);
+    let at_11 = (1, 1, 170, 170, 9);
+    let elsewhere = (0, 0, 170, 170, 1);
     for mask in 0..32 {
         let has = |bit: usize| mask >> bit & 1 == 1;
         let mut entries = vec![elsewhere];
         entries.extend(has(0).then_some(at_01));
         entries.extend(has(1).then_some(at_11));
-        let place = |bit: usize, tier: u32| if has(bit) { (17, tier) } else { (3, 17) };
+        let place = |bit: usize, tier: u32| if has(bit) { (170, tier) } else { (30, 170) };
         let stash = [place(2, 7), place(3, 0), place(4, u32::MAX)];
         let words = hand_words(4, 3, 0, 1, &entries, &stash);
         let first = (0..5).find(|&bit| has(bit));
         let expected =
             first.map_or(Found::Absent, |bit| Found::Listed([4, 9, 7, 0, u32::MAX][bit]));
-        assert_eq!(found(&words, 17), Ok(expected), "{mask:05b}");
+        assert_eq!(found(&words, 170), Ok(expected), "{mask:05b}");
         assert_eq!(checked(&words), Err(Refusal::NotCanonical));
     }
 }
@@ -202,15 +211,15 @@ fn a_lookup_on_a_tampered_list_takes_the_first() {
 fn a_lookup_gives_the_tier_word_as_it_stands() {
     for tier in [0, 7, 8, 255, 1 << 31, u32::MAX] {
         let expected = Ok(Found::Listed(tier));
-        assert_eq!(found(&hand_words(4, 1, 0, 1, &[(0, 1, 17, 17, tier)], &[]), 17), expected);
-        assert_eq!(found(&hand_words(4, 1, 0, 1, &[(1, 1, 17, 17, tier)], &[]), 17), expected);
-        assert_eq!(found(&hand_words(4, 1, 0, 1, &[], &[(17, tier)]), 17), expected);
+        assert_eq!(found(&hand_words(4, 1, 0, 1, &[(0, 1, 170, 170, tier)], &[]), 170), expected);
+        assert_eq!(found(&hand_words(4, 1, 0, 1, &[(1, 1, 170, 170, tier)], &[]), 170), expected);
+        assert_eq!(found(&hand_words(4, 1, 0, 1, &[], &[(170, tier)]), 170), expected);
     }
 }
 
 #[test]
 fn the_same_keys_with_different_tiers_give_different_words() {
-    let keys = [1, 33, 34, 65, 98];
+    let keys = [10, 330, 340, 650, 980];
     let sets = all_sets(&keys, &[0, 4, 7]);
     assert_eq!(sets.len(), 4usize.pow(5));
     let sets: Vec<&Vec<Member>> = sets.iter().filter(|set| set.len() == keys.len()).collect();
@@ -271,32 +280,40 @@ fn the_model_keeps_tiers() {
     };
     for (key, tier, answer) in [
         (0, 8, 5),
-        (1, 8, 9),
-        (1, 3, 0),
-        (1, 3, 6),
-        (1, 4, 10),
-        (1, 8, 9),
-        (65, 0, 0),
-        (129, 6, 0),
-        (193, 0, 8),
-        (193, 8, 9),
-        (129, 5, 10),
-        (129, 6, 6),
+        (10, 8, 9),
+        (10, 3, 0),
+        (10, 3, 6),
+        (10, 4, 10),
+        (10, 8, 9),
+        (650, 0, 0),
+        (1_290, 6, 0),
+        (1_930, 0, 8),
+        (1_930, 8, 9),
+        (1_290, 5, 10),
+        (1_290, 6, 6),
+        (9, 0, 5),
+        (9, 8, 5),
+        (1_299, 8, 9),
+        (1_299, 6, 13),
+        (11, 4, 13),
     ] {
         assert_eq!(insert(key, tier), answer, "{key}, {tier}");
     }
-    assert_eq!(members(model.set()), [(1, 3), (65, 0), (129, 6)]);
-    assert_eq!(model.feed(&Call::Stash), Reply::Stash(vec![129, 6]));
-    for (key, found) in
-        [(1, Found::Listed(3)), (65, Found::Listed(0)), (129, Found::Listed(6)), (2, Found::Absent)]
-    {
+    assert_eq!(members(model.set()), [(10, 3), (650, 0), (1_290, 6)]);
+    assert_eq!(model.feed(&Call::Stash), Reply::Stash(vec![1_290, 6]));
+    for (key, found) in [
+        (10, Found::Listed(3)),
+        (650, Found::Listed(0)),
+        (1_290, Found::Listed(6)),
+        (20, Found::Absent),
+    ] {
         let reply = model.feed(&Call::Lookup { tabulation_len, key });
         assert_eq!(reply, Reply::Lookup(Ok(found)));
     }
-    let removed = model.feed(&Call::Remove { tabulation_len, scratch_len, key: 129 });
+    let removed = model.feed(&Call::Remove { tabulation_len, scratch_len, key: 1_290 });
     assert_eq!(removed, Reply::Answer(Ok(())));
-    let back = Call::Insert { tabulation_len, scratch_len, key: 129, tier: 0 };
+    let back = Call::Insert { tabulation_len, scratch_len, key: 1_290, tier: 0 };
     assert_eq!(model.feed(&back), Reply::Answer(Ok(())));
     // A stash key with tier 0 has both its words in the view, too.
-    assert_eq!(model.feed(&Call::Stash), Reply::Stash(vec![129, 0]));
+    assert_eq!(model.feed(&Call::Stash), Reply::Stash(vec![1_290, 0]));
 }

@@ -19,7 +19,9 @@ use reference::samples::{
 };
 use reference::set::Member;
 
-use crate::common::{engines, many_keys, numbered_ends, on_cycle, subset, Harness, Tally};
+use crate::common::{
+    engines, many_keys, numbered_ends, on_cycle, other_issues, subset, Harness, Tally,
+};
 
 /// A board of the paper, or one of ours, on the test tabulation.
 struct Board {
@@ -48,48 +50,72 @@ impl Board {
 }
 
 /// The trails read off the paper's boards by hand: the pocket where a card sits stands there, its
-/// other pocket is (card modulo 4) in rack 0 or (card/16 rounded down, modulo 4) in rack 1.
-const BOARDS: [Board; 14] = [
+/// other pocket is (card modulo 4) in rack 0 or (card/16 rounded down, modulo 4) in rack 1. Request
+/// Six: "with every card multiplied by ten".
+const BOARDS: [Board; 16] = [
     Board { name: "K1", r: 4, s: 1, trails: &[], stash: &[] },
-    Board { name: "K2", r: 4, s: 1, trails: &[&[17]], stash: &[] },
-    // No loop: 1 sits in 0.1 and 1.0. 17 sits in 1.1, its other pocket is 0.1.
-    Board { name: "K3", r: 4, s: 1, trails: &[&[1], &[17, 1]], stash: &[] },
-    Board { name: "K4", r: 4, s: 1, trails: &[&[1], &[65, 1]], stash: &[] },
-    Board { name: "K5", r: 4, s: 1, trails: &[&[1], &[65, 1]], stash: &[129] },
-    Board { name: "K6 with s = 2", r: 4, s: 2, trails: &[&[1], &[65, 1]], stash: &[129, 193] },
-    Board { name: "K7", r: 4, s: 1, trails: &[&[1], &[129, 1]], stash: &[] },
-    // The root is 65, which is not the smallest of the group.
-    Board { name: "K8", r: 4, s: 1, trails: &[&[17, 65], &[65], &[129, 65]], stash: &[] },
-    // 34 sits in 0.2; 1.2 holds 33, and 0.1 holds 1, the smaller one of the loop 1, 65.
+    Board { name: "K2", r: 4, s: 1, trails: &[&[170]], stash: &[] },
+    // No loop: 10 sits in 0.1 and 1.0. 170 sits in 1.1, its other pocket is 0.1.
+    Board { name: "K3", r: 4, s: 1, trails: &[&[10], &[170, 10]], stash: &[] },
+    Board { name: "K4", r: 4, s: 1, trails: &[&[10], &[650, 10]], stash: &[] },
+    Board { name: "K5", r: 4, s: 1, trails: &[&[10], &[650, 10]], stash: &[1_290] },
+    Board {
+        name: "K6 with s = 2",
+        r: 4,
+        s: 2,
+        trails: &[&[10], &[650, 10]],
+        stash: &[1_290, 1_930],
+    },
+    Board { name: "K7", r: 4, s: 1, trails: &[&[10], &[1_290, 10]], stash: &[] },
+    // The root is 650, which is not the smallest of the group.
+    Board { name: "K8", r: 4, s: 1, trails: &[&[170, 650], &[650], &[1_290, 650]], stash: &[] },
+    // 340 sits in 0.2; 1.2 holds 330, and 0.1 holds 10, the smaller one of the loop 10, 650.
     Board {
         name: "K9",
         r: 4,
         s: 1,
-        trails: &[&[1], &[33, 1], &[34, 33, 1], &[65, 1]],
-        stash: &[98],
+        trails: &[&[10], &[330, 10], &[340, 330, 10], &[650, 10]],
+        stash: &[980],
     },
     // Two groups, a loop each.
-    Board { name: "K10", r: 4, s: 1, trails: &[&[1], &[34], &[65, 1], &[98, 34]], stash: &[] },
+    Board {
+        name: "K10",
+        r: 4,
+        s: 1,
+        trails: &[&[10], &[340], &[650, 10], &[980, 340]],
+        stash: &[],
+    },
     Board {
         name: "K11",
         r: 4,
         s: 1,
-        trails: &[&[1], &[34, 225, 1], &[65, 1], &[225, 1]],
-        stash: &[98],
+        trails: &[&[10], &[340, 2_250, 10], &[650, 10], &[2_250, 10]],
+        stash: &[980],
     },
-    Board { name: "K12", r: 1, s: 0, trails: &[&[3], &[200, 3]], stash: &[] },
-    // No loop, and the root is reached from both its sides: 2 sits in 0.2, its other pocket is 1.0.
-    Board { name: "both sides", r: 4, s: 1, trails: &[&[1], &[2, 1], &[17, 1]], stash: &[] },
-    // Loops 1, 193 and 34, 98 with 33 between them. 193 goes to the drawer, so 34, 98 is the loop
-    // that the seated cards form: 34 sits in 0.2, 98 in 1.2, 33 in 0.1 and 1 in 1.0. The root is
-    // 34, though 1 is on a loop of the group.
+    Board { name: "K12", r: 1, s: 0, trails: &[&[30], &[2_000, 30]], stash: &[] },
+    // No loop, and the root is reached from both its sides: 20 sits in 0.2, its other pocket is
+    // 1.0.
+    Board { name: "both sides", r: 4, s: 1, trails: &[&[10], &[20, 10], &[170, 10]], stash: &[] },
+    // Loops 10, 1930 and 340, 980 with 330 between them. 1930 goes to the drawer, so 340, 980 is
+    // the loop that the seated cards form: 340 sits in 0.2, 980 in 1.2, 330 in 0.1 and 10 in 1.0.
+    // The root is 340, though 10 is on a loop of the group.
     Board {
         name: "loop of seated cards",
         r: 4,
         s: 1,
-        trails: &[&[1, 33, 98, 34], &[33, 98, 34], &[34], &[98, 34]],
-        stash: &[193],
+        trails: &[&[10, 330, 980, 340], &[330, 980, 340], &[340], &[980, 340]],
+        stash: &[1_930],
     },
+    // K9 with other issues.
+    Board {
+        name: "I9",
+        r: 4,
+        s: 1,
+        trails: &[&[11], &[339, 11], &[340, 339, 11], &[658, 11]],
+        stash: &[987],
+    },
+    // The edge, on a loop of two with 175.
+    Board { name: "4,294,967,295", r: 4, s: 0, trails: &[&[175], &[u32::MAX, 175]], stash: &[] },
 ];
 
 #[test]
@@ -105,12 +131,16 @@ fn boards_have_their_trails() {
             for &key in board.stash {
                 assert_eq!(list.trail(key, 2 * board.r as usize), Ok(vec![]), "{}", board.name);
             }
-            for key in [5, 97, 255, u32::MAX] {
+            let others = board.keys().into_iter().flat_map(other_issues);
+            for key in others.chain([50, 970, 2_555, u32::MAX - 10]) {
                 let refused = Err(Refusal::NotListed);
                 assert_eq!(list.trail(key, 0), refused, "{}", board.name);
                 assert_eq!(list.trail(key, 8), refused, "{}", board.name);
             }
-            assert_eq!(list.trail(0, 0), Err(Refusal::BlankKey), "{}", board.name);
+            for key in 0..10 {
+                assert_eq!(list.trail(key, 0), Err(Refusal::BlankKey), "{}", board.name);
+                assert_eq!(list.trail(key, 8), Err(Refusal::BlankKey), "{}", board.name);
+            }
             assert_eq!(list.words, words);
         }
     }
@@ -146,17 +176,20 @@ fn the_words_of_the_trail_sheet_by_hand() {
         // K9.
         let list = BOARDS[8].list(engine);
         for (key, before, count, after) in [
-            (34, &[7, 7, 7][..], Ok(3), &[34, 33, 1][..]),
-            (34, &[7, 7], Err(Refusal::ShortTrailSheet), &[7, 7]),
-            (34, &[], Err(Refusal::ShortTrailSheet), &[]),
-            (34, &[98, 98, 98, 98, 0, 98], Ok(3), &[34, 33, 1, 0, 0, 0]),
-            (1, &[u32::MAX, 34], Ok(1), &[1, 0]),
-            (1, &[7], Ok(1), &[1]),
-            (1, &[], Err(Refusal::ShortTrailSheet), &[]),
-            (98, &[1, 2, 3], Ok(0), &[0, 0, 0]),
-            (98, &[], Ok(0), &[]),
-            (97, &[1, 2, 3], Err(Refusal::NotListed), &[1, 2, 3]),
+            (340, &[7, 7, 7][..], Ok(3), &[340, 330, 10][..]),
+            (340, &[7, 7], Err(Refusal::ShortTrailSheet), &[7, 7]),
+            (340, &[], Err(Refusal::ShortTrailSheet), &[]),
+            (340, &[980, 980, 980, 980, 0, 980], Ok(3), &[340, 330, 10, 0, 0, 0]),
+            (10, &[u32::MAX, 340], Ok(1), &[10, 0]),
+            (10, &[7], Ok(1), &[10]),
+            (10, &[], Err(Refusal::ShortTrailSheet), &[]),
+            (980, &[1, 2, 3], Ok(0), &[0, 0, 0]),
+            (980, &[], Ok(0), &[]),
+            (970, &[1, 2, 3], Err(Refusal::NotListed), &[1, 2, 3]),
+            (341, &[1, 2, 3], Err(Refusal::NotListed), &[1, 2, 3]),
+            (981, &[], Err(Refusal::NotListed), &[]),
             (0, &[1, 2, 3], Err(Refusal::BlankKey), &[1, 2, 3]),
+            (9, &[1, 2, 3], Err(Refusal::BlankKey), &[1, 2, 3]),
         ] {
             let (mut scratch, mut trail_sheet) = (vec![5; 59], before.to_vec());
             let found = calls::trail(
@@ -181,13 +214,13 @@ fn short_scratch_and_damaged_words_are_refused() {
             let mut list = board.list(engine);
             let (keys, words) = (board.keys(), list.words.clone());
             list.scratch_len -= 1;
-            for &key in keys.iter().chain(&[0, 5]) {
+            for &key in keys.iter().chain(&[0, 9, 50]) {
                 assert_eq!(list.trail(key, 8), Err(Refusal::ShortScratch));
                 assert_eq!(list.trail(key, 0), Err(Refusal::ShortScratch));
             }
             list.scratch_len += 1;
             list.tabulation.push(0);
-            assert_eq!(list.trail(17, 8), Err(Refusal::WrongTabulation));
+            assert_eq!(list.trail(170, 8), Err(Refusal::WrongTabulation));
             list.tabulation.pop();
             for at in 0..words.len() {
                 list.words = words.clone();
@@ -202,7 +235,7 @@ fn short_scratch_and_damaged_words_are_refused() {
                     assert!(list.check().is_ok() && at >= 5 + 6 * board.r as usize);
                     continue;
                 }
-                for &key in keys.iter().chain(&[0, 5]) {
+                for &key in keys.iter().chain(&[0, 9, 50]) {
                     assert_eq!(list.trail(key, 8), Err(refusal), "{}, {at}", board.name);
                     assert_eq!(list.trail(key, 0), Err(refusal), "{}, {at}", board.name);
                 }
@@ -273,7 +306,7 @@ fn check_board(
 ) {
     let Some(words) = Fast.image(tabulation, r, s, station, members) else {
         for (_, engine) in engines() {
-            for key in (0..9).chain(members.iter().map(|&(key, _)| key)) {
+            for key in (0..12).chain(members.iter().map(|&(key, _)| key)) {
                 assert_eq!(engine.trail(tabulation, r, s, station, members, key), None, "no image");
             }
         }
@@ -342,7 +375,9 @@ fn trails_under_all_hashes() {
         for count in 0..=most_keys {
             for number in 0..(r * r).pow(count as u32) {
                 let ends = numbered_ends(number, r, count);
-                let keys: Vec<u32> = (1..=count as u32).collect();
+                let issue = |first: u32| (number as u32 + 3 * first) % 10;
+                let keys: Vec<u32> =
+                    (1..=count as u32).map(|first| 10 * first + issue(first)).collect();
                 let (s, station) = ((number % 4) as u32, (number % 256) as u32);
                 let tabulation = chosen_tabulation(&ends);
                 check_board(&tabulation, r as u32, s, station, &tier_0(&keys), &mut tally);
@@ -352,31 +387,38 @@ fn trails_under_all_hashes() {
     tally.report("trails, all hashes", &["boards", "no image", "trail of 0", "trail of 4"]);
 }
 
-/// A key of another set, key 0, or what no list has: no trail to work out, by either engine.
+/// A key of another set, a blank key, another issue, or what no list has: no trail to work out, by
+/// either engine.
 #[test]
 fn engines_give_no_trail_outside_the_set() {
     let tabulation = vec![0; TABULATION_LEN];
     for (_, engine) in engines() {
         for (len, r, s, station, members, key) in [
-            (2_560, 1, 1, 9, &[(1, 0)][..], 2),
-            (2_560, 1, 1, 9, &[(1, 0)], 0),
-            (2_560, 1, 1, 9, &[], 1),
-            (2_559, 1, 1, 0, &[(1, 0)], 1),
-            (2_048, 1, 1, 0, &[(1, 0)], 1),
-            (2_560, 0, 1, 0, &[(1, 0)], 1),
-            (2_560, 1, 65, 0, &[(1, 0)], 1),
-            (2_560, 1, 1, 256, &[(1, 0)], 1),
-            (2_560, 1, 1, u32::MAX, &[(1, 0)], 1),
+            (2_560, 1, 1, 9, &[(10, 0)][..], 20),
+            (2_560, 1, 1, 9, &[(10, 0)], 0),
+            (2_560, 1, 1, 9, &[(10, 0)], 11),
+            (2_560, 1, 1, 9, &[(11, 0)], 10),
+            (2_560, 1, 1, 9, &[(10, 0)], 1),
+            (2_560, 1, 1, 9, &[], 10),
+            (2_559, 1, 1, 0, &[(10, 0)], 10),
+            (2_048, 1, 1, 0, &[(10, 0)], 10),
+            (2_560, 0, 1, 0, &[(10, 0)], 10),
+            (2_560, 1, 65, 0, &[(10, 0)], 10),
+            (2_560, 1, 1, 256, &[(10, 0)], 10),
+            (2_560, 1, 1, u32::MAX, &[(10, 0)], 10),
             (2_560, 1, 1, 9, &[(0, 0)], 0),
-            (2_560, 1, 1, 9, &[(1, 8)], 1),
-            (2_560, 1, 1, 9, &[(1, 0), (1, 1)], 1),
-            (2_560, 1, 0, 9, &[(1, 0), (2, 0), (3, 0)], 1),
+            (2_560, 1, 1, 9, &[(9, 0)], 9),
+            (2_560, 1, 1, 9, &[(10, 8)], 10),
+            (2_560, 1, 1, 9, &[(10, 0), (10, 1)], 10),
+            (2_560, 1, 1, 9, &[(10, 0), (11, 0)], 10),
+            (2_560, 1, 1, 9, &[(10, 0), (11, 0)], 11),
+            (2_560, 1, 0, 9, &[(10, 0), (20, 0), (30, 0)], 10),
         ] {
             let trail = engine.trail(&tabulation[..len], r, s, station, members, key);
             assert_eq!(trail, None, "station {station}, {members:?}");
         }
-        let any_order = [(3, 6), (1, 7), (2, 0), (3, 6), (1, 7)];
-        for (key, trail) in [(1, vec![1]), (2, vec![2, 1]), (3, vec![])] {
+        let any_order = [(30, 6), (19, 7), (20, 0), (30, 6), (19, 7)];
+        for (key, trail) in [(19, vec![19]), (20, vec![20, 19]), (30, vec![])] {
             assert_eq!(engine.trail(&tabulation, 1, 1, 255, &any_order, key), Some(trail));
         }
     }
@@ -405,9 +447,9 @@ fn tiers_and_free_stash_places_change_no_trail() {
     tally.report("trails with tiers", &["keys"]);
 }
 
-/// A tabulation under which keys 1 to 2r form one cycle, for each r: key k has the hashes k/2 and
-/// (k + 1)/2 rounded down, so each key has one slot in common with the key before it. The fifth
-/// stretches are zero, so any station will do.
+/// A tabulation under which first parts 1 to 2r form one cycle, for each r: first part k has the
+/// hashes k/2 and (k + 1)/2 rounded down, so each has one slot in common with the one before it.
+/// The fifth stretches are zero, so any station will do.
 fn cycle_tabulation() -> Vec<u16> {
     let mut tabulation = vec![0; TABULATION_LEN];
     for byte in 0..256 {
@@ -419,13 +461,19 @@ fn cycle_tabulation() -> Vec<u16> {
     tabulation
 }
 
-/// The longest trails. On the cycle key 1, the root, sits in table 0, in slot 0, which it has in
-/// common with key 2r. So key 2 sits in table 1, in the slot that it has in common with key 1, and
-/// each key k in the slot in common with k - 1; key k's other slot is held by k + 1. Without key 2r
-/// there is a path, key 1 sits in both its slots, and each key's other slot leads down to it.
+/// The key with first part k in the longest trails; the issues go from 1 to 9 and to 0 again.
+fn kth(k: u32) -> u32 {
+    10 * k + k % 10
+}
+
+/// The longest trails, keys by their first parts. On the cycle key 1, the root, sits in table 0, in
+/// slot 0, which it has in common with key 2r. So key 2 sits in table 1, in the slot that it has in
+/// common with key 1, and each key k in the slot in common with k - 1; key k's other slot is held
+/// by k + 1. Without key 2r there is a path, key 1 sits in both its slots, and each key's other
+/// slot leads down to it.
 fn check_longest(engine: &dyn Engine, r: u32, tally: &mut Tally) {
     let (tabulation, station) = (cycle_tabulation(), r % 256);
-    let keys: Vec<u32> = (1..=2 * r).collect();
+    let keys: Vec<u32> = (1..=2 * r).map(kth).collect();
     let image = |keys: &[u32]| engine.image(&tabulation, r, 0, station, &tier_0(keys));
     let mut list = Harness {
         engine,
@@ -434,21 +482,21 @@ fn check_longest(engine: &dyn Engine, r: u32, tally: &mut Tally) {
         scratch_len: 12 * r as usize,
         counters: Default::default(),
     };
-    let longest: Vec<u32> = (2..=2 * r).chain([1]).collect();
+    let longest: Vec<u32> = (2..=2 * r).chain([1]).map(kth).collect();
     assert_eq!(longest.len(), 2 * r as usize);
-    assert_eq!(list.trail(2, 2 * r as usize), Ok(longest.clone()), "2r is reached");
-    assert_eq!(list.trail(2, 2 * r as usize + 3), Ok(longest.clone()));
-    assert_eq!(list.trail(2, 2 * r as usize - 1), Err(Refusal::ShortTrailSheet));
+    assert_eq!(list.trail(kth(2), 2 * r as usize), Ok(longest.clone()), "2r is reached");
+    assert_eq!(list.trail(kth(2), 2 * r as usize + 3), Ok(longest.clone()));
+    assert_eq!(list.trail(kth(2), 2 * r as usize - 1), Err(Refusal::ShortTrailSheet));
     let middle = r as usize;
     assert_eq!(list.trail(longest[middle], 2 * r as usize), Ok(longest[middle..].to_vec()));
-    assert_eq!(list.trail(1, 1), Ok(vec![1]));
+    assert_eq!(list.trail(kth(1), 1), Ok(vec![kth(1)]));
     let path = &keys[..keys.len() - 1];
     list.words = image(path).expect("a path needs no stash");
     let down: Vec<u32> = path.iter().rev().copied().collect();
-    assert_eq!(list.trail(2 * r - 1, path.len()), Ok(down.clone()), "a tree gives 2r - 1");
-    assert_eq!(list.trail(1, 1), Ok(vec![1]));
+    assert_eq!(list.trail(kth(2 * r - 1), path.len()), Ok(down.clone()), "a tree gives 2r - 1");
+    assert_eq!(list.trail(kth(1), 1), Ok(vec![kth(1)]));
     if path.len() > 1 {
-        assert_eq!(list.trail(2 * r - 1, path.len() - 1), Err(Refusal::ShortTrailSheet));
+        assert_eq!(list.trail(kth(2 * r - 1), path.len() - 1), Err(Refusal::ShortTrailSheet));
     }
     tally.add("longest trails");
 }
@@ -561,23 +609,26 @@ fn the_model_answers_trails() {
     let (tabulation_len, scratch_len) = (2_560, 56);
     let mut model = Model::new(Slow, &test_tabulation(), 4, 1, 0).unwrap();
     // K11.
-    for key in [98, 225, 1, 34, 65] {
+    for key in [980, 2_250, 10, 340, 650] {
         let call = Call::Insert { tabulation_len, scratch_len, key, tier: 2 };
         assert_eq!(model.feed(&call), Reply::Answer(Ok(())));
     }
     let words = model.words();
     for (tabulation_len, scratch_len, key, trail_sheet_len, trail) in [
-        (2_560, 56, 34, 3, Ok(vec![34, 225, 1])),
-        (2_560, 99, 34, 9, Ok(vec![34, 225, 1])),
-        (2_560, 56, 1, 1, Ok(vec![1])),
-        (2_560, 56, 98, 0, Ok(vec![])),
-        (2_560, 56, 34, 2, Err(Refusal::ShortTrailSheet)),
-        (2_560, 56, 1, 0, Err(Refusal::ShortTrailSheet)),
-        (2_560, 56, 33, 0, Err(Refusal::NotListed)),
+        (2_560, 56, 340, 3, Ok(vec![340, 2_250, 10])),
+        (2_560, 99, 340, 9, Ok(vec![340, 2_250, 10])),
+        (2_560, 56, 10, 1, Ok(vec![10])),
+        (2_560, 56, 980, 0, Ok(vec![])),
+        (2_560, 56, 340, 2, Err(Refusal::ShortTrailSheet)),
+        (2_560, 56, 10, 0, Err(Refusal::ShortTrailSheet)),
+        (2_560, 56, 330, 0, Err(Refusal::NotListed)),
+        (2_560, 56, 349, 3, Err(Refusal::NotListed)),
+        (2_560, 56, 981, 0, Err(Refusal::NotListed)),
         (2_560, 56, 0, 0, Err(Refusal::BlankKey)),
+        (2_560, 56, 9, 3, Err(Refusal::BlankKey)),
         (2_560, 55, 0, 0, Err(Refusal::ShortScratch)),
         (2_559, 55, 0, 0, Err(Refusal::WrongTabulation)),
-        (2_048, 56, 34, 3, Err(Refusal::WrongTabulation)),
+        (2_048, 56, 340, 3, Err(Refusal::WrongTabulation)),
     ] {
         let call = Call::Trail { tabulation_len, scratch_len, key, trail_sheet_len };
         assert_eq!(model.feed(&call), Reply::Trail(trail), "{call:?}");
