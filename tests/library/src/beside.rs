@@ -1,14 +1,16 @@
-//! One call of the library beside the same call of the program by another hand: answer, every word, scratch, tabulation, steps, counters and out-parameters, on
-//! memory with guards around every lent slice and every record of a sale. The answers are counted, call by call.
+//! One call of the library beside the same call of the program by another hand: answer, every word, scratch,
+//! tabulation, steps, counters and out-parameters, on memory with guards around every lent slice and every record of a
+//! sale. The answers are counted, call by call.
 
 use reference::answer::{number, Found};
 use reference::counters::Counters as Meter;
 use reference::fast::Fast;
 use reference::hash::{MAX_R, MAX_STATION};
-use reference::layout::MAX_S;
+use reference::key::first_part;
 
 use crate::guarded::Guarded;
-use crate::{words_length, Change, Counters, Sale, HEADER_LENGTH};
+use crate::issues::Issues;
+use crate::{are_sizes, Change, Counters, Sale, HEADER_LENGTH};
 
 /// The calls that answer with a number. The closing of a sale gives a price, and is never refused.
 #[derive(Clone, Copy, Debug, PartialEq, Eq)]
@@ -28,7 +30,7 @@ pub enum Kind {
 /// The answers that each call can give, refusals in the order in which they are tried. Specification, "What a call gives back".
 pub const ANSWERS: &[(Kind, &[u32])] = &[
     (Kind::Init, &[0, 2]),
-    (Kind::Insert, &[0, 1, 2, 3, 4, 5, 9, 10, 6, 8]),
+    (Kind::Insert, &[0, 1, 2, 3, 4, 5, 9, 13, 10, 6, 8]),
     (Kind::Remove, &[0, 1, 2, 3, 4, 5, 7]),
     (Kind::Check, &[0, 1, 2, 3, 4]),
     (Kind::Lookup, &[0, 1, 2, 5]),
@@ -40,10 +42,13 @@ pub const ANSWERS: &[(Kind, &[u32])] = &[
 ];
 
 /// The largest number that is an answer.
-const LARGEST: usize = 12;
+const LARGEST: usize = 13;
 
 /// The answer that a station above 255 gets, among others.
 const WRONG_SHAPE: u32 = 2;
+
+/// The answer of an insert that another issue keeps out.
+const OTHER_ISSUE: u32 = 13;
 
 /// Marks an out-parameter that a refused call must leave.
 const OLD: u32 = 0xDEAD_BEEF;
@@ -61,7 +66,8 @@ pub struct Beside {
     seen: [[u64; LARGEST + 1]; ANSWERS.len()],
     /// Of the calls that were refused with 2, kind by kind: how many for a station above 255 alone.
     for_station: [u64; ANSWERS.len()],
-    /// Of the hashes that were not refused: how many with a sum of lowest byte and station up to 255, and how many above, where it wraps.
+    /// Of the hashes that were not refused: how many with a sum of lowest byte and station up to 255, and how many
+    /// above, where it wraps.
     wrapped: [u64; 2],
     /// Of the lookups that were not refused: how many did not find their key, and how many did.
     found: [u64; 2],
@@ -71,6 +77,8 @@ pub struct Beside {
     steps: [u64; 3],
     /// How many sales were closed.
     closed: u64,
+    /// What the issues of the keys had to do with it.
+    issues: Issues,
 }
 
 impl Beside {
@@ -89,6 +97,12 @@ impl Beside {
             self.count_station(kind, are_sizes(r, s, words.len()), station, answer);
         }
         self.count(kind, answer)
+    }
+
+    /// Counts a call on words with a key.
+    fn count_of(&mut self, kind: Kind, words: &[u32], key: u32, answer: u32) -> u32 {
+        self.issues.refusal(kind, words, key, answer);
+        self.count_on(kind, words, answer)
     }
 
     /// Counts a refusal with 2 where nothing but the station calls for it.
@@ -112,9 +126,11 @@ impl Beside {
         self.for_station[kind as usize]
     }
 
-    /// Prints how often each call gave each answer. Fails where one of these calls never gave an answer that it can give, or never a 2 for the station alone;
-    /// of hashes also where no sum of lowest byte and station wrapped, or each did, of lookups where all found their key, or none did, of trails where none was
-    /// empty, or none longer than one key, and of openings where no step was below 0, none 0, or none above.
+    /// Prints how often each call gave each answer. Fails where one of these calls never gave an answer that it can
+    /// give, or never a 2 for the station alone; where an issue never had a part in an answer that it can have a part
+    /// in; of hashes also where no sum of lowest byte and station wrapped, or each did, of lookups where all found
+    /// their key, or none did, of trails where none was empty, or none longer than one key, and of openings where no
+    /// step was below 0, none 0, or none above.
     pub fn report(&self, kinds: &[Kind]) {
         for (kind, answers) in ANSWERS.iter().filter(|(kind, _)| kinds.contains(kind)) {
             let seen = &self.seen[*kind as usize];
@@ -131,6 +147,7 @@ impl Beside {
                 println!("{kind:?}: {times} of the 2s for a station above 255 alone");
                 assert!(times > 0, "{kind:?} never refused a station");
             }
+            self.issues.report(*kind, answers);
             self.report_done(*kind);
         }
     }
@@ -215,8 +232,11 @@ impl Beside {
         assert!(sheet.content().iter().all(|w| *w == 0), "the scratch is not zero");
         assert_eq!(book.content(), tabulation, "the tabulation changed");
         assert_eq!(meter_of(counters), meter, "{change:?}");
+        if let (Change::Insert(tier), OTHER_ISSUE) = (change, got) {
+            self.issues.other(words, key, tier);
+        }
         words.copy_from_slice(&expected);
-        self.count_on(kind, words, got)
+        self.count_of(kind, words, key, got)
     }
 
     pub fn check(&mut self, tabulation: &[u16], words: &[u32], scratch: &[u32]) -> u32 {
@@ -249,7 +269,10 @@ impl Beside {
         if got == 0 {
             self.found[listed as usize] += 1;
         }
-        (self.count_on(Kind::Lookup, words, got), (listed == 1).then_some(tier))
+        if (got, listed) == (0, 0) {
+            self.issues.absent(Kind::Lookup, words, key);
+        }
+        (self.count_of(Kind::Lookup, words, key, got), (listed == 1).then_some(tier))
     }
 
     /// The stash view: its number. Offset and length name a part of the caller's own words, or nothing.
@@ -303,7 +326,7 @@ impl Beside {
         } else {
             expected.clear();
         }
-        (self.count_on(Kind::Trail, words, got), expected)
+        (self.count_of(Kind::Trail, words, key, got), expected)
     }
 
     /// An opening, over a record with marks: its answer, and the record, if a sale is opened. Refused, the record stays as it was.
@@ -331,7 +354,7 @@ impl Beside {
         if let Ok(sale) = opened {
             self.steps[(sale.price.cmp(&base) as i8 + 1) as usize] += 1;
         }
-        (self.count_on(Kind::Open, words, got), opened.ok())
+        (self.count_of(Kind::Open, words, key, got), opened.ok())
     }
 
     /// The closing of a sale, or of any other record, which stays as it was: its price.
@@ -354,8 +377,9 @@ impl Beside {
         assert_eq!(book.content(), tabulation, "hashing changed the tabulation");
         assert_eq!(got, (answer, both), "hashes of {key} with r = {r} at station {station}");
         if answer == 0 {
-            self.wrapped[usize::from(key % 256 + station > 255)] += 1;
+            self.wrapped[usize::from(first_part(key) % 256 + station > 255)] += 1;
         }
+        self.issues.refusal(Kind::Hashes, &[], key, answer);
         self.count_station(Kind::Hashes, (1..=MAX_R).contains(&r), station, answer);
         self.count(Kind::Hashes, answer)
     }
@@ -382,11 +406,6 @@ impl From<Sale> for reference::sale::Sale {
     fn from(sale: Sale) -> reference::sale::Sale {
         reference::sale::Sale { key: sale.key, tier: sale.tier, price: sale.price }
     }
-}
-
-/// Whether r and s are in their ranges, and this is how many words go with them.
-fn are_sizes(r: u32, s: u32, length: usize) -> bool {
-    (1..=MAX_R).contains(&r) && s <= MAX_S && length == words_length(r, s)
 }
 
 fn meter_of(counters: &Counters) -> Meter {

@@ -3,6 +3,10 @@
 
 pub mod beside;
 pub mod guarded;
+mod issues;
+
+use reference::hash::MAX_R;
+use reference::layout::MAX_S;
 
 /// The counters, as they cross: the paper's "meter".
 #[repr(C)]
@@ -194,6 +198,24 @@ pub const HEADER_LENGTH: usize = 5;
 /// How many words a dictionary has.
 pub fn words_length(r: u32, s: u32) -> usize {
     HEADER_LENGTH + 6 * r as usize + 2 * s as usize
+}
+
+/// What stands in the slots and in the stash places of words of the right shape: key, tier, and whether it is in the
+/// stash. An empty slot or place has key 0. Of other words, nothing.
+pub fn entries(words: &[u32]) -> impl Iterator<Item = (u32, u32, bool)> + '_ {
+    let (slots, places) = match *words {
+        [r, s, ..] if are_sizes(r, s, words.len()) => {
+            words[HEADER_LENGTH..].split_at(6 * r as usize)
+        }
+        _ => (&words[..0], &words[..0]),
+    };
+    let seated = slots.chunks_exact(3).map(|slot| (slot[0], slot[2], false));
+    seated.chain(places.chunks_exact(2).map(|place| (place[0], place[1], true)))
+}
+
+/// Whether r and s are in their ranges, and this is how many words go with them.
+pub fn are_sizes(r: u32, s: u32, length: usize) -> bool {
+    (1..=MAX_R).contains(&r) && s <= MAX_S && length == words_length(r, s)
 }
 
 /// How many words of scratch a change, a check or a trail borrows.

@@ -8,7 +8,7 @@ use std::process::{Command, Stdio};
 
 use reference::fast::Fast;
 use reference::rng::Rng;
-use reference::samples::{random_station, random_tabulation, test_tabulation};
+use reference::samples::{random_issue, random_station, random_tabulation, test_tabulation};
 
 const PROGRAM: &str = concat!(env!("CARGO_MANIFEST_DIR"), "/../../target/bin/console");
 
@@ -78,85 +78,135 @@ fn the_worked_listing() {
     let got = compare(
         &folder,
         Some(&book_of(&test_tabulation())),
-        b"2,1,0\nA,65,0\nA,1,0\nA,33,0\nA,97,0\nL,65\n",
+        b"2,1,0\nA,650,0\nA,10,0\nA,330,0\nA,970,0\nL,650\n",
     );
     assert_eq!(
         String::from_utf8_lossy(&got),
-        "A,65,0,0\nA,1,0,0\nA,33,0,0\nA,97,0,8\nL,65,0\nP,0,1,1,33,0\nP,1,0,33,1,0\nD,65,0\n"
+        "A,650,0,0\nA,10,0,0\nA,330,0,0\nA,970,0,8\nL,650,0\n\
+         P,0,1,10,330,0\nP,1,0,330,10,0\nD,650,0\n"
     );
 }
 
-/// The keys of the worked listing at station 31. In the stretches for stations the book has a 1 where key 1 comes to in table 0, and one where key 97 does in
-/// table 1: so 1 is moved from 0.1 to 0.0, and 97 from 1.0 to 1.1, and all four find room in pockets. The same lines at station 30 have the pockets of station 0,
-/// where 97 has no place.
+/// The keys of the worked listing at station 31. In the stretches for stations the book has a 1 where first part 1
+/// comes to in table 0, and one where first part 97 does in table 1: so 10 is moved from 0.1 to 0.0, and 970 from 1.0
+/// to 1.1, and all four find room in pockets. The same lines at station 30 have the pockets of station 0, where 970 has
+/// no place.
 #[test]
 fn a_listing_at_another_station() {
     let folder = Folder::new("station");
     let mut tabulation = test_tabulation();
     (tabulation[1_024 + 32], tabulation[2_304 + 128]) = (1, 1);
     let book = book_of(&tabulation);
-    let lines = "A,65,7\nA,1,2\nA,33,5\nA,97,3\nL,1\nL,97\n";
+    let lines = "A,650,7\nA,10,2\nA,330,5\nA,970,3\nL,10\nL,970\n";
     let got = compare(&folder, Some(&book), format!("2,1,31\n{lines}").as_bytes());
     assert_eq!(
         String::from_utf8_lossy(&got),
-        "A,65,7,0\nA,1,2,0\nA,33,5,0\nA,97,3,0\nL,1,2\nL,97,3\n\
-         P,0,0,1,33,2\nP,0,1,33,65,5\nP,1,0,65,97,7\nP,1,1,97,1,3\n"
+        "A,650,7,0\nA,10,2,0\nA,330,5,0\nA,970,3,0\nL,10,2\nL,970,3\n\
+         P,0,0,10,330,2\nP,0,1,330,650,5\nP,1,0,650,970,7\nP,1,1,970,10,3\n"
     );
     let got = compare(&folder, Some(&book), format!("2,1,30\n{lines}").as_bytes());
     assert_eq!(
         String::from_utf8_lossy(&got),
-        "A,65,7,0\nA,1,2,0\nA,33,5,0\nA,97,3,8\nL,1,2\nL,97,N\n\
-         P,0,1,1,33,2\nP,1,0,33,1,5\nD,65,7\n"
+        "A,650,7,0\nA,10,2,0\nA,330,5,0\nA,970,3,8\nL,10,2\nL,970,N\n\
+         P,0,1,10,330,2\nP,1,0,330,10,5\nD,650,7\n"
     );
 }
 
-/// A session with tiers, line by line with what is printed for it: A lines with every answer that they can get, L lines, and lines that are of another form because
-/// a tier is missing, is no number, or is one too many. Then the listing, in which a lone card has its tier in both pockets.
+/// Runs a session on the test book, each line with what must be printed for it, line 1 aside; then the listing.
+fn expect(folder: &Folder, session: &[(&str, &str)], listing: &str) {
+    let input: Vec<&str> = session.iter().map(|(line, _)| *line).collect();
+    let printed: Vec<&str> = session[1..].iter().map(|(_, printed)| *printed).collect();
+    let book = book_of(&test_tabulation());
+    let got = compare(folder, Some(&book), input.join("\n").as_bytes());
+    let expected = format!("{}\n{listing}", printed.join("\n"));
+    assert_eq!(String::from_utf8_lossy(&got), expected);
+}
+
+/// A session with tiers: A lines with every answer that they can get but 13, L lines, and lines that are of another
+/// form because a tier is missing, is no number, or is one too many. Then the listing, in which a lone card has its
+/// tier in both pockets.
 #[test]
 fn a_session_with_tiers() {
     let folder = Folder::new("tiers");
     let session = [
         ("4,1,0", ""),
-        ("A,129,6", "A,129,6,0"),
-        ("A,65,0", "A,65,0,0"),
-        ("A,1,3", "A,1,3,0"),
-        ("A,34,7", "A,34,7,0"),
-        ("A,193,7", "A,193,7,8"),
-        ("A,193,8", "A,193,8,9"),
-        ("A,1,3", "A,1,3,6"),
-        ("A,1,4", "A,1,4,10"),
-        ("A,129,0", "A,129,0,10"),
-        ("A,1,8", "A,1,8,9"),
-        ("A,1,4294967295", "A,1,4294967295,9"),
+        ("A,1290,6", "A,1290,6,0"),
+        ("A,650,0", "A,650,0,0"),
+        ("A,10,3", "A,10,3,0"),
+        ("A,340,7", "A,340,7,0"),
+        ("A,1930,7", "A,1930,7,8"),
+        ("A,1930,8", "A,1930,8,9"),
+        ("A,10,3", "A,10,3,6"),
+        ("A,10,4", "A,10,4,10"),
+        ("A,1290,0", "A,1290,0,10"),
+        ("A,10,8", "A,10,8,9"),
+        ("A,10,4294967295", "A,10,4294967295,9"),
         ("A,0,8", "A,0,8,5"),
         ("A,0,0", "A,0,0,5"),
-        ("A,1,4294967296", "E,15"),
-        ("A,1,03", "E,16"),
-        ("A,1,00", "E,17"),
-        ("A,1", "E,18"),
-        ("A,1,", "E,19"),
+        ("A,10,4294967296", "E,15"),
+        ("A,10,03", "E,16"),
+        ("A,10,00", "E,17"),
+        ("A,10", "E,18"),
+        ("A,10,", "E,19"),
         ("A,,3", "E,20"),
-        ("A,1,3,3", "E,21"),
-        ("W,1,3", "E,22"),
-        ("L,1,3", "E,23"),
-        ("L,1", "L,1,3"),
-        ("L,65", "L,65,0"),
-        ("L,129", "L,129,6"),
-        ("L,193", "L,193,N"),
+        ("A,10,3,3", "E,21"),
+        ("W,10,3", "E,22"),
+        ("L,10,3", "E,23"),
+        ("L,10", "L,10,3"),
+        ("L,650", "L,650,0"),
+        ("L,1290", "L,1290,6"),
+        ("L,1930", "L,1930,N"),
         ("L,0", "L,0,R5"),
-        ("W,65", "W,65,0"),
-        ("W,65", "W,65,7"),
+        ("W,650", "W,650,0"),
+        ("W,650", "W,650,7"),
         ("W,0", "W,0,5"),
-        ("L,65", "L,65,N"),
-        ("A,193,5", "A,193,5,0"),
+        ("L,650", "L,650,N"),
+        ("A,1930,5", "A,1930,5,0"),
     ];
-    let listing = "P,0,1,1,129,3\nP,0,2,34,34,7\nP,1,0,129,1,6\nP,1,2,34,34,7\nD,193,5\n";
-    let input: Vec<&str> = session.iter().map(|(line, _)| *line).collect();
-    let printed: Vec<&str> = session[1..].iter().map(|(_, printed)| *printed).collect();
-    let book = book_of(&test_tabulation());
-    let got = compare(&folder, Some(&book), input.join("\n").as_bytes());
-    let expected = format!("{}\n{listing}", printed.join("\n"));
-    assert_eq!(String::from_utf8_lossy(&got), expected);
+    let listing = "P,0,1,10,1290,3\nP,0,2,340,340,7\nP,1,0,1290,10,6\nP,1,2,340,340,7\nD,1930,5\n";
+    expect(&folder, &session, listing);
+}
+
+/// A session with issues: cards below 10, which are right forms of every line; other issues of cards in a pocket and in
+/// the drawer, which are not listed and cannot be added or withdrawn, though the drawer is full; a card that is
+/// replaced; and the six issues of the largest first part.
+#[test]
+fn a_session_with_issues() {
+    let folder = Folder::new("issues");
+    let session = [
+        ("4,1,0", ""),
+        ("A,9,0", "A,9,0,5"),
+        ("A,1,8", "A,1,8,5"),
+        ("L,9", "L,9,R5"),
+        ("L,1", "L,1,R5"),
+        ("W,9", "W,9,5"),
+        ("A,09,0", "E,7"),
+        ("L,09", "E,8"),
+        ("A,10,0", "A,10,0,0"),
+        ("A,11,0", "A,11,0,13"),
+        ("A,11,8", "A,11,8,9"),
+        ("A,652,1", "A,652,1,0"),
+        ("A,1290,6", "A,1290,6,0"),
+        ("A,650,1", "A,650,1,13"),
+        ("A,659,7", "A,659,7,13"),
+        ("A,1291,6", "A,1291,6,13"),
+        ("A,1930,0", "A,1930,0,8"),
+        ("W,11", "W,11,7"),
+        ("W,1291", "W,1291,7"),
+        ("L,11", "L,11,N"),
+        ("L,1291", "L,1291,N"),
+        ("L,1290", "L,1290,6"),
+        ("W,652", "W,652,0"),
+        ("A,650,1", "A,650,1,0"),
+        ("L,652", "L,652,N"),
+        ("L,650", "L,650,1"),
+        ("A,4294967295,7", "A,4294967295,7,0"),
+        ("A,4294967290,7", "A,4294967290,7,13"),
+        ("L,4294967294", "L,4294967294,N"),
+    ];
+    // The largest first part has the pockets 0.1 and 1.1.
+    let listing = "P,0,1,10,650,0\nP,1,0,650,4294967295,1\nP,1,1,4294967295,10,7\nD,1290,6\n";
+    expect(&folder, &session, listing);
 }
 
 /// K1 to K12 of the specification, each set from its largest card down, with a withdrawal for K7 and K10: with tier 0, and with tiers that differ.
@@ -166,18 +216,18 @@ fn the_test_board() {
     let book = book_of(&test_tabulation());
     for session in [
         "4,1,0",
-        "4,1,0 A,17",
-        "4,1,0 A,17 A,1",
-        "4,1,0 A,65 A,1",
-        "4,1,0 A,129 A,65 A,1",
-        "4,1,0 A,129 A,65 A,1 A,193",
-        "4,2,0 A,193 A,129 A,65 A,1",
-        "4,1,0 A,129 A,65 A,1 W,65",
-        "4,1,0 A,129 A,65 A,17",
-        "4,1,0 A,98 A,65 A,34 A,33 A,1",
-        "4,1,0 A,98 A,65 A,34 A,33 A,1 W,33",
-        "4,1,0 A,225 A,98 A,65 A,34 A,1",
-        "1,0,0 A,9 A,7 A,8",
+        "4,1,0 A,170",
+        "4,1,0 A,170 A,10",
+        "4,1,0 A,650 A,10",
+        "4,1,0 A,1290 A,650 A,10",
+        "4,1,0 A,1290 A,650 A,10 A,1930",
+        "4,2,0 A,1930 A,1290 A,650 A,10",
+        "4,1,0 A,1290 A,650 A,10 W,650",
+        "4,1,0 A,1290 A,650 A,170",
+        "4,1,0 A,980 A,650 A,340 A,330 A,10",
+        "4,1,0 A,980 A,650 A,340 A,330 A,10 W,330",
+        "4,1,0 A,2250 A,980 A,650 A,340 A,10",
+        "1,0,0 A,90 A,70 A,80",
     ] {
         for step in [0, 3] {
             let with_tier = |(at, line): (usize, &str)| match line.starts_with('A') {
@@ -220,21 +270,21 @@ const OTHER_FORMS: &[&str] = &[
 fn the_grammar() {
     let folder = Folder::new("grammar");
     let book = book_of(&test_tabulation());
-    let long = "A,1,2".repeat(30_000);
-    let long_tier = format!("A,1,{}", "7".repeat(70_000));
+    let long = "A,10,2".repeat(30_000);
+    let long_tier = format!("A,10,{}", "7".repeat(70_000));
     let lines = [
         "",
         "A",
         "A,",
         "A,,",
-        "A,1",
-        "A,1,",
+        "A,10",
+        "A,10,",
         "A,,1",
-        "A,1,0",
-        "A,01,0",
-        "A,1,01",
+        "A,10,0",
+        "A,010,0",
+        "A,10,01",
         "A,00,0",
-        "A,1,00",
+        "A,10,00",
         "A,0,0",
         "A,0,8",
         "L,0",
@@ -244,44 +294,51 @@ fn the_grammar() {
         "A,4294967295,8",
         "A,4294967296,0",
         "A,99999999999,0",
-        "A,2,4294967295",
-        "A,2,4294967296",
-        "A,2,99999999999",
+        "A,20,4294967295",
+        "A,20,4294967296",
+        "A,20,99999999999",
         "A,4294967296,4294967296",
-        "a,1,0",
-        "A;1,0",
-        "A,1;0",
-        " A,1,0",
-        "A, 1,0",
-        "A,1 ,0",
-        "A,1, 0",
-        "A,1,0 ",
-        "A,+1,0",
-        "A,1,+0",
-        "A,-1,0",
-        "A,1,-0",
-        "A,1,0\r",
-        "A,1,x",
-        "A,1,N",
+        "a,10,0",
+        "A;10,0",
+        "A,10;0",
+        " A,10,0",
+        "A, 10,0",
+        "A,10 ,0",
+        "A,10, 0",
+        "A,10,0 ",
+        "A,+10,0",
+        "A,10,+0",
+        "A,-10,0",
+        "A,10,-0",
+        "A,10,0\r",
+        "A,10,x",
+        "A,10,N",
         "L,4294967295",
         "L,04294967295",
         "W,4294967295",
         "L,4294967295",
-        "X,1",
-        "X,1,0",
-        "AA,1,0",
-        "A,1,2,3",
-        "A,1,2,",
-        "W,1,2",
-        "L,1,2",
-        "W,1,",
-        "L,1,",
+        "X,10",
+        "X,10,0",
+        "AA,10,0",
+        "A,10,2,3",
+        "A,10,2,",
+        "W,10,2",
+        "L,10,2",
+        "W,10,",
+        "L,10,",
         "4,1",
         "4,1,0",
         "4,1,0,0",
-        "\"A\",1,0",
-        "A,1,0\0",
-        "L,17",
+        "\"A\",10,0",
+        "A,10,0\0",
+        "L,170",
+        "A,9,0",
+        "A,09,0",
+        "W,9",
+        "L,9",
+        "A,11,0",
+        "W,11",
+        "L,11",
         &long,
         &long_tier,
         "E,1",
@@ -298,7 +355,8 @@ fn the_grammar() {
     compare(&folder, Some(&book), b"");
 }
 
-/// Books that are missing or of another length: among them one of 4,096 bytes, as it was without stations, and one as long as it has numbers.
+/// Books that are missing or of another length: among them one of 4,096 bytes, as it was without stations, and one as
+/// long as it has numbers.
 #[test]
 fn the_book() {
     let folder = Folder::new("books");
@@ -308,26 +366,28 @@ fn the_book() {
     let wrong = [0, 1, 2_048, 2_560, 4_096, 5_118, 5_119, 5_121, 5_122, 10_240];
     let books = wrong.iter().map(|length| Some(&longer[..*length])).chain([None]);
     for bytes in books {
-        for input in ["4,1,0\nA,17,5\n", "4,1,255\n", "4,1\n", ""] {
+        for input in ["4,1,0\nA,170,5\n", "4,1,255\n", "4,1\n", ""] {
             assert_eq!(compare(&folder, bytes, input.as_bytes()), b"B\n", "{input}");
         }
     }
     assert_eq!(compare(&folder, Some(&book), b""), b"E,1\n");
-    let printed = compare(&folder, Some(&book), b"4,1,0\nA,17,5\n");
-    assert_eq!(String::from_utf8_lossy(&printed), "A,17,5,0\nP,0,1,17,17,5\nP,1,1,17,17,5\n");
+    let printed = compare(&folder, Some(&book), b"4,1,0\nA,170,5\n");
+    assert_eq!(String::from_utf8_lossy(&printed), "A,170,5,0\nP,0,1,170,170,5\nP,1,1,170,170,5\n");
 }
 
-/// The last entry of each stretch for stations, written high byte and low byte: key 9 meets them at station 246, and no key below 9 does.
+/// The last entry of each stretch for stations, written high byte and low byte: first part 9 meets them at station 246,
+/// and no first part below 9 does.
 #[test]
 fn the_last_entries_of_the_book() {
     let folder = Folder::new("last");
     let mut book = vec![0; 5_120];
     (book[2 * 1_279], book[2 * 1_279 + 1]) = (1, 2);
     (book[2 * 2_559], book[2 * 2_559 + 1]) = (3, 1);
-    let printed = compare(&folder, Some(&book), b"1000,0,246\nA,9,4\nA,8,1\n");
+    let printed = compare(&folder, Some(&book), b"1000,0,246\nA,90,4\nA,89,1\n");
     assert_eq!(
         String::from_utf8_lossy(&printed),
-        "A,9,4,0\nA,8,1,0\nP,0,0,8,8,1\nP,0,513,9,9,4\nP,1,0,8,8,1\nP,1,259,9,9,4\n"
+        "A,90,4,0\nA,89,1,0\n\
+         P,0,0,89,89,1\nP,0,513,90,90,4\nP,1,0,89,89,1\nP,1,259,90,90,4\n"
     );
 }
 
@@ -343,7 +403,12 @@ fn random_sessions() {
         let mut input = format!("{},{},{station}\n", 1 + rng.below(6), rng.below(4));
         for _ in 0..60 {
             let letter = rng.pick(&["A", "A", "W", "L", "Z"]);
-            let (card, tier) = (rng.below(14), rng.pick(&[0, 0, 0, 1, 2, 7, 8]));
+            // Three issues of each of ten first parts, and now and then a card without one.
+            let card = match rng.one_in(15) {
+                true => rng.below(10),
+                false => 10 * (1 + rng.below(10)) + rng.pick(&[0, 0, 4, 9]),
+            };
+            let tier = rng.pick(&[0, 0, 0, 1, 2, 7, 8]);
             // Now and then an A line without a tier, or another line with one.
             let line = match (letter == "A") != rng.one_in(20) {
                 true => format!("{letter},{card},{tier}\n"),
@@ -361,7 +426,7 @@ fn random_sessions() {
         }
     }
     eprintln!("{lines} lines; answers {ends:?}");
-    let inserts = ["A 0", "A 5", "A 6", "A 8", "A 9", "A 10"];
+    let inserts = ["A 0", "A 5", "A 6", "A 8", "A 9", "A 10", "A 13"];
     let removals_and_lookups = ["W 0", "W 5", "W 7", "L 0", "L 1", "L 2", "L 7", "L N", "L R5"];
     for end in inserts.iter().chain(&removals_and_lookups) {
         assert!(ends.get(*end).is_some_and(|times| *times > 3), "{end} is rare");
@@ -374,7 +439,11 @@ fn the_largest_session() {
     let mut rng = Rng::new(32);
     let mut input = String::from("1024,64,203\n");
     for _ in 0..1_500 {
-        input += &format!("A,{},{}\n", rng.next_u32(), rng.below(8));
+        let (card, tier) = (rng.next_u32(), rng.below(8));
+        input += &format!("A,{card},{tier}\n");
+        if rng.one_in(20) {
+            input += &format!("A,{0},{tier}\nL,{0}\n", random_issue(&mut rng, card));
+        }
     }
     compare(&folder, Some(&book_of(&reference::house::HOUSE)), input.as_bytes());
 }

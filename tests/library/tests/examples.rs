@@ -1,5 +1,6 @@
-//! Worked examples through the built library: the edges of the sizes and of the station, and the test board of the specification, with tier 0 throughout and with
-//! others, at station 0 and at others, and the trails and the sales of its keys.
+//! Worked examples through the built library: the edges of the sizes, of the station and of the keys, and the test
+//! board of the specification, with tier 0 throughout and with others, at station 0 and at others, with other issues,
+//! and the trails and the sales of its keys. The board's keys are document 01's times ten.
 
 use library::beside::{Beside, Kind};
 use library::Change::{Insert, Remove};
@@ -59,7 +60,7 @@ fn a_count_at_the_limit_stays() {
     let mut beside = Beside::new();
     let mut words = fresh(1, 0, 0);
     let mut counters = Counters { done: u32::MAX - 1, refused: u32::MAX };
-    for (key, tier) in [(1, 0), (2, 7), (3, 0), (0, 0), (1, 8), (1, 1)] {
+    for (key, tier) in [(10, 0), (20, 7), (30, 0), (9, 0), (10, 8), (11, 0), (10, 1)] {
         let scratch = [u32::MAX; 12];
         let way = Insert(tier);
         beside.change(way, &test_tabulation(), &mut words, &scratch, &mut counters, key);
@@ -76,7 +77,7 @@ fn the_smallest_dictionary() {
         assert_eq!(change(Insert(largest), &tabulation, &mut words, u32::MAX), 0);
         assert_eq!(change(Insert(tier), &tabulation, &mut words, 200), 0);
         assert_eq!(words, [1, 0, 2, 0, station, 200, u32::MAX, tier, u32::MAX, 200, largest]);
-        assert_eq!(change(Insert(0), &tabulation, &mut words, 7), 8);
+        assert_eq!(change(Insert(0), &tabulation, &mut words, 70), 8);
     }
 }
 
@@ -92,16 +93,16 @@ fn the_rows_of_the_test_board() {
     let tiers: [fn(u32) -> u32; 4] = [|_| 0, |_| 7, |place| 1 + place, |place| (5 * place + 3) % 8];
     for (s, keys, removed) in [
         (1, &[][..], None),
-        (1, &[17], None),
-        (1, &[1, 17], None),
-        (1, &[1, 65], None),
-        (1, &[1, 65, 129], None),
-        (2, &[1, 65, 129, 193], None),
-        (1, &[1, 65, 129], Some(65)),
-        (1, &[17, 65, 129], None),
-        (1, &[1, 33, 34, 65, 98], None),
-        (1, &[1, 33, 34, 65, 98], Some(33)),
-        (1, &[1, 34, 65, 98, 225], None),
+        (1, &[170], None),
+        (1, &[10, 170], None),
+        (1, &[10, 650], None),
+        (1, &[10, 650, 1290], None),
+        (2, &[10, 650, 1290, 1930], None),
+        (1, &[10, 650, 1290], Some(650)),
+        (1, &[170, 650, 1290], None),
+        (1, &[10, 330, 340, 650, 980], None),
+        (1, &[10, 330, 340, 650, 980], Some(330)),
+        (1, &[10, 340, 650, 980, 2250], None),
     ] {
         for tier in tiers {
             let members = with_tiers(keys, tier);
@@ -121,7 +122,7 @@ fn the_rows_of_the_test_board() {
     }
     // K6: the fourth key of one pair of slots has no place with s = 1.
     let mut words = fresh(4, 1, 0);
-    for (key, answer) in [(1, 0), (65, 0), (129, 0), (193, 8)] {
+    for (key, answer) in [(10, 0), (650, 0), (1290, 0), (1930, 8)] {
         assert_eq!(change(Insert(0), &tabulation, &mut words, key), answer);
     }
 }
@@ -131,11 +132,11 @@ fn the_rows_of_the_test_board() {
 fn the_test_board() {
     let tabulation = test_tabulation();
     for (keys, seats) in [
-        (&[1, 33, 34, 65, 98][..], &[(1, 1), (4, 65), (6, 33), (2, 34)][..]),
-        (&[1, 34, 65, 98], &[(1, 1), (4, 65), (2, 34), (6, 98)]),
-        (&[1, 34, 65, 98, 225], &[(1, 1), (4, 65), (2, 34), (6, 225)]),
-        (&[17, 65, 129], &[(1, 65), (4, 129), (5, 17)]),
-        (&[1, 17], &[(1, 1), (4, 1), (5, 17)]),
+        (&[10, 330, 340, 650, 980][..], &[(1, 10), (4, 650), (6, 330), (2, 340)][..]),
+        (&[10, 340, 650, 980], &[(1, 10), (4, 650), (2, 340), (6, 980)]),
+        (&[10, 340, 650, 980, 2250], &[(1, 10), (4, 650), (2, 340), (6, 2250)]),
+        (&[170, 650, 1290], &[(1, 650), (4, 1290), (5, 170)]),
+        (&[10, 170], &[(1, 10), (4, 10), (5, 170)]),
     ] {
         let mut words = fresh(4, 1, 0);
         for key in keys.iter().rev() {
@@ -147,13 +148,13 @@ fn the_test_board() {
         }
     }
     let mut words = fresh(2, 1, 0);
-    for (key, answer) in [(65, 0), (1, 0), (33, 0), (97, 8)] {
+    for (key, answer) in [(650, 0), (10, 0), (330, 0), (970, 8)] {
         assert_eq!(change(Insert(0), &tabulation, &mut words, key), answer);
     }
-    assert_eq!(words, [2, 1, 3, 1, 0, 0, 0, 0, 1, 33, 0, 33, 1, 0, 0, 0, 0, 65, 0]);
+    assert_eq!(words, [2, 1, 3, 1, 0, 0, 0, 0, 10, 330, 0, 330, 10, 0, 0, 0, 0, 650, 0]);
     assert_eq!(stash(&words), (0, 17, 2));
     let (mut listed, mut tier) = (9, 9);
-    let answer = lookup(&tabulation, &words, 65, &mut listed, &mut tier);
+    let answer = lookup(&tabulation, &words, 650, &mut listed, &mut tier);
     assert_eq!((answer, listed, tier), (0, 1, 0));
 }
 
@@ -168,57 +169,59 @@ fn tiers_on_the_test_board() {
         assert_eq!(words[29..], stash, "{way:?} of {key}");
     };
     const NONE: [u32; 3] = [0, 0, 0];
-    let [one, seventeen] = [[1, 17, 3], [17, 1, 5]];
-    let lone = [1, 1, 3];
-    call(Insert(3), 1, 0, &[NONE, lone, NONE, NONE, lone, NONE, NONE, NONE], [0, 0]);
+    let [one, seventeen] = [[10, 170, 3], [170, 10, 5]];
+    let lone = [10, 10, 3];
+    call(Insert(3), 10, 0, &[NONE, lone, NONE, NONE, lone, NONE, NONE, NONE], [0, 0]);
     // K3
     let tree = [NONE, one, NONE, NONE, one, seventeen, NONE, NONE];
-    call(Insert(5), 17, 0, &tree, [0, 0]);
-    call(Insert(4), 1, 10, &tree, [0, 0]);
-    call(Insert(5), 17, 6, &tree, [0, 0]);
-    // the cycle of 1 and 65, from which 17 hangs
-    let cycle = [NONE, [1, 17, 3], NONE, NONE, [65, 1, 7], [17, 65, 5], NONE, NONE];
-    call(Insert(7), 65, 0, &cycle, [0, 0]);
-    call(Insert(2), 129, 0, &cycle, [129, 2]);
-    call(Insert(6), 129, 10, &cycle, [129, 2]);
-    call(Insert(0), 193, 8, &cycle, [129, 2]);
-    // 129 leaves the stash with its tier
-    let other = [NONE, [1, 17, 3], NONE, NONE, [129, 1, 2], [17, 129, 5], NONE, NONE];
-    call(Remove, 65, 0, &other, [0, 0]);
-    call(Insert(0), 193, 0, &other, [193, 0]);
+    call(Insert(5), 170, 0, &tree, [0, 0]);
+    call(Insert(4), 10, 10, &tree, [0, 0]);
+    call(Insert(5), 170, 6, &tree, [0, 0]);
+    // the cycle of 10 and 650, from which 170 hangs
+    let cycle = [NONE, [10, 170, 3], NONE, NONE, [650, 10, 7], [170, 650, 5], NONE, NONE];
+    call(Insert(7), 650, 0, &cycle, [0, 0]);
+    call(Insert(2), 1290, 0, &cycle, [1290, 2]);
+    call(Insert(6), 1290, 10, &cycle, [1290, 2]);
+    call(Insert(0), 1930, 8, &cycle, [1290, 2]);
+    // 1290 leaves the stash with its tier
+    let other = [NONE, [10, 170, 3], NONE, NONE, [1290, 10, 2], [170, 1290, 5], NONE, NONE];
+    call(Remove, 650, 0, &other, [0, 0]);
+    call(Insert(0), 1930, 0, &other, [1930, 0]);
 }
 
-/// The test tabulation with two entries more: entry 16 of table 0's station stretch is 1, and entry 0 of table 1's. A key sits where the test board has it; but
-/// where its lowest byte and the station come to 16, one slot on in table 0, and where they come to 0 modulo 256, one slot on in table 1.
+/// The test tabulation with two entries more: entry 16 of table 0's station stretch is 1, and entry 0 of table 1's. A
+/// key sits where the test board has it; but where the lowest byte of its first part and the station come to 16, one
+/// slot on in table 0, and where they come to 0 modulo 256, one slot on in table 1.
 fn two_more_entries() -> Vec<u16> {
     let mut tabulation = test_tabulation();
     (tabulation[1_024 + 16], tabulation[2_304]) = (1, 1);
     tabulation
 }
 
-/// The keys 1, 65 and 129 at the tiers 5, 0 and 7, all words at six stations, written out by hand: all three have the slots 0.1 and 1.0, as in K5, but for the
-/// one that comes to 16 or to 0. Their trails, sales and stash; and the board emptied again, which keeps its station.
+/// The keys 10, 650 and 1290 at the tiers 5, 0 and 7, all words at six stations, written out by hand: all three have
+/// the slots 0.1 and 1.0, as in K5, but for the one that comes to 16 or to 0. Their trails, sales and stash; and the
+/// board emptied again, which keeps its station.
 #[test]
 #[rustfmt::skip]
 fn k5_at_six_stations() {
     let mut beside = Beside::new();
     let mut counters = Counters::default();
     let tabulation = two_more_entries();
-    let (scratch, members) = ([3; 56], [(1, 5), (65, 0), (129, 7)]);
+    let (scratch, members) = ([3; 56], [(10, 5), (650, 0), (1290, 7)]);
     const NONE: [u32; 3] = [0, 0, 0];
-    const K5: [[u32; 3]; 4] = [[1, 65, 5], NONE, [65, 1, 0], NONE];
+    const K5: [[u32; 3]; 4] = [[10, 650, 5], NONE, [650, 10, 0], NONE];
     // What stands in 0.1, 0.2, 1.0 and 1.1, in the stash, and the trails.
     for (station, [in_01, in_02, in_10, in_11], stash, trails) in [
-        (0, K5, [129, 7], [&[1][..], &[65, 1], &[]]),
-        // 1 has 0.2 and 1.0
-        (15, [[65, 129, 0], [1, 65, 5], [129, 1, 7], NONE], [0, 0], [&[1, 129, 65], &[65], &[129, 65]]),
-        // 129 has 0.1 and 1.1
-        (127, [[1, 65, 5], NONE, [65, 129, 0], [129, 1, 7]], [0, 0], [&[1], &[65, 1], &[129, 1]]),
-        // 65 has 0.2 and 1.0, by a sum of 272
-        (207, [[1, 65, 5], [65, 129, 0], [129, 1, 7], NONE], [0, 0], [&[1], &[65, 129, 1], &[129, 1]]),
-        (254, K5, [129, 7], [&[1], &[65, 1], &[]]),
-        // 1 has 0.1 and 1.1, by a sum of 256
-        (255, [[65, 129, 0], NONE, [129, 1, 7], [1, 65, 5]], [0, 0], [&[1, 65], &[65], &[129, 65]]),
+        (0, K5, [1290, 7], [&[10][..], &[650, 10], &[]]),
+        // 10 has 0.2 and 1.0
+        (15, [[650, 1290, 0], [10, 650, 5], [1290, 10, 7], NONE], [0, 0], [&[10, 1290, 650], &[650], &[1290, 650]]),
+        // 1290 has 0.1 and 1.1
+        (127, [[10, 650, 5], NONE, [650, 1290, 0], [1290, 10, 7]], [0, 0], [&[10], &[650, 10], &[1290, 10]]),
+        // 650 has 0.2 and 1.0, by a sum of 272
+        (207, [[10, 650, 5], [650, 1290, 0], [1290, 10, 7], NONE], [0, 0], [&[10], &[650, 1290, 10], &[1290, 10]]),
+        (254, K5, [1290, 7], [&[10], &[650, 10], &[]]),
+        // 10 has 0.1 and 1.1, by a sum of 256
+        (255, [[650, 1290, 0], NONE, [1290, 10, 7], [10, 650, 5]], [0, 0], [&[10, 650], &[650], &[1290, 650]]),
     ] {
         let slots = [NONE, in_01, in_02, NONE, in_10, in_11, NONE, NONE];
         let stashed = u32::from(stash != [0, 0]);
@@ -258,9 +261,10 @@ fn trail_of(tabulation: &[u16], words: &[u32], key: u32) -> (u32, u32, [u32; 8])
     (answer, count, sheet)
 }
 
-/// The rows of the test board at every station. The tabulation has the numbers of the test tabulation in the station's stretches, and zeros elsewhere; a key of a
-/// row is renamed so that its lowest byte and the station come to it, and so that the higher bytes keep the order. Words and trails are those of the row, with
-/// the keys renamed, and the station in word 4.
+/// The rows of the test board at every station. The tabulation has the numbers of the test tabulation in the station's
+/// stretches, and zeros elsewhere; a key of a row is renamed so that the lowest byte of its first part and the station
+/// come to the first part of the row's key, and so that the higher bytes keep the order. Words and trails are those of
+/// the row, with the keys renamed, and the station in word 4.
 #[test]
 fn the_rows_at_every_station() {
     let board = test_tabulation();
@@ -270,23 +274,23 @@ fn the_rows_at_every_station() {
     }
     for station in 0..=255 {
         for (s, keys) in [
-            (1, &[17][..]),
-            (1, &[1, 17]),
-            (1, &[1, 65, 129]),
-            (2, &[1, 65, 129, 193]),
-            (1, &[17, 65, 129]),
-            (1, &[1, 33, 34, 65, 98]),
-            (1, &[1, 34, 65, 98, 225]),
-            (1, &[1, 33, 34, 98, 193]),
+            (1, &[170][..]),
+            (1, &[10, 170]),
+            (1, &[10, 650, 1290]),
+            (2, &[10, 650, 1290, 1930]),
+            (1, &[170, 650, 1290]),
+            (1, &[10, 330, 340, 650, 980]),
+            (1, &[10, 340, 650, 980, 2250]),
+            (1, &[10, 330, 340, 980, 1930]),
         ] {
             let renamed = |key: u32| match keys.iter().position(|of_row| *of_row == key) {
-                Some(place) => 256 * (1 + place as u32) + (key + 256 - station) % 256,
+                Some(place) => 10 * (256 * (1 + place as u32) + (key / 10 + 256 - station) % 256),
                 None => key,
             };
             let row = board_of(4, s, keys);
             let mut words = fresh(4, s, station);
             for key in keys {
-                let way = Insert(key % 8);
+                let way = Insert(key / 10 % 8);
                 assert_eq!(change(way, &tabulation, &mut words, renamed(*key)), 0, "{keys:?}");
             }
             let slot = |slot: &[u32]| [renamed(slot[0]), renamed(slot[1]), slot[2]];
@@ -308,10 +312,11 @@ fn the_rows_at_every_station() {
     }
 }
 
-/// The words of K5 with tiers: 1 and 65 on a cycle, at the tiers 3 and 0, and 129 in the stash, at tier 6. That is full.
+/// The words of K5 with tiers: 10 and 650 on a cycle, at the tiers 3 and 0, and 1290 in the stash, at tier 6. That is
+/// full.
 fn k5_with_tiers() -> Vec<u32> {
     let mut words = fresh(4, 1, 0);
-    for (key, tier) in [(1, 3), (65, 0), (129, 6)] {
+    for (key, tier) in [(10, 3), (650, 0), (1290, 6)] {
         assert_eq!(change(Insert(tier), &test_tabulation(), &mut words, key), 0);
     }
     words
@@ -329,17 +334,18 @@ fn words_without_a_station() {
     let old = words.clone();
     let scratch = vec![3; scratch_length(4, 1)];
     for way in [Insert(0), Remove] {
-        assert_eq!(beside.change(way, &tabulation, &mut words, &scratch, &mut counters, 1), 2);
+        assert_eq!(beside.change(way, &tabulation, &mut words, &scratch, &mut counters, 10), 2);
     }
     assert_eq!((words, counters), (old.clone(), Counters { done: 0, refused: 2 }));
     assert_eq!(beside.check(&tabulation, &old, &scratch), 2);
-    assert_eq!(beside.lookup(&tabulation, &old, 1), (2, None));
+    assert_eq!(beside.lookup(&tabulation, &old, 10), (2, None));
     assert_eq!(beside.stash(&old), 2);
-    assert_eq!(beside.trail(&tabulation, &old, &scratch, 1, &[7; 8]), (2, vec![]));
-    assert_eq!(beside.open(&tabulation, &old, 1, 1_799, &STEPS), (2, None));
+    assert_eq!(beside.trail(&tabulation, &old, &scratch, 10, &[7; 8]), (2, vec![]));
+    assert_eq!(beside.open(&tabulation, &old, 10, 1_799, &STEPS), (2, None));
 }
 
-/// Of all refusals that one insert deserves, the first in the order 4, 5, 9, 10, 6, 8 is given. A key that is listed keeps its tier.
+/// Of all refusals that one insert deserves, the first in the order 4, 5, 9, 13, 10, 6, 8 is given. A key that is
+/// listed keeps its tier, and no other issue takes its place.
 #[test]
 fn nine_and_ten_in_their_order() {
     let mut beside = Beside::new();
@@ -354,19 +360,30 @@ fn nine_and_ten_in_their_order() {
     for (key, tier, answer) in [
         (0, 8, 5),
         (0, 0, 5),
-        (2, 8, 9),
-        (2, u32::MAX, 9),
-        (193, 8, 9),
-        (1, 8, 9),
-        (129, 256, 9),
-        (1, 2, 10),
-        (1, 4, 10),
-        (65, 7, 10),
-        (129, 0, 10),
-        (1, 3, 6),
-        (65, 0, 6),
-        (129, 6, 6),
-        (193, 7, 8),
+        (1, 8, 5),
+        (9, 0, 5),
+        (20, 8, 9),
+        (20, u32::MAX, 9),
+        (1930, 8, 9),
+        (10, 8, 9),
+        (11, 8, 9),
+        (1290, 256, 9),
+        (1299, 256, 9),
+        // 1930, of another first part, has no place
+        (11, 3, 13),
+        (19, 0, 13),
+        (651, 0, 13),
+        (1291, 6, 13),
+        (1299, 7, 13),
+        (10, 2, 10),
+        (10, 4, 10),
+        (650, 7, 10),
+        (1290, 0, 10),
+        (10, 3, 6),
+        (650, 0, 6),
+        (1290, 6, 6),
+        (1930, 7, 8),
+        (1939, 7, 8),
     ] {
         assert_eq!(insert(&mut words, key, tier), answer, "{key} with tier {tier}");
         assert_eq!(words, sound, "{key} with tier {tier}");
@@ -376,10 +393,10 @@ fn nine_and_ten_in_their_order() {
     }
     for tier in 0..=8 {
         let mut words = sound.clone();
-        assert_eq!(insert(&mut words, 2, tier), if tier > 7 { 9 } else { 0 });
+        assert_eq!(insert(&mut words, 20, tier), if tier > 7 { 9 } else { 0 });
     }
     // Another tier: taken out, put in again, also with a full stash.
-    for (key, tier) in [(1, 4), (65, 7), (129, 0)] {
+    for (key, tier) in [(10, 4), (650, 7), (1290, 0)] {
         assert_eq!(change(Remove, &tabulation, &mut words, key), 0);
         assert_eq!(change(Insert(tier), &tabulation, &mut words, key), 0);
         let (mut listed, mut found) = (9, 9);
@@ -388,11 +405,18 @@ fn nine_and_ten_in_their_order() {
     }
 }
 
+/// The keys of K9.
+const K9: [u32; 5] = [10, 330, 340, 650, 980];
+
 /// The words of a board on the test tabulation with these keys, each with a tier of its own.
 fn board_of(r: u32, s: u32, keys: &[u32]) -> Vec<u32> {
     let mut words = fresh(r, s, 0);
     for key in keys.iter().rev() {
-        assert_eq!(change(Insert(key % 8), &test_tabulation(), &mut words, *key), 0, "{keys:?}");
+        assert_eq!(
+            change(Insert(key / 10 % 8), &test_tabulation(), &mut words, *key),
+            0,
+            "{keys:?}"
+        );
     }
     words
 }
@@ -404,21 +428,22 @@ fn the_trails_of_the_test_board() {
     let mut beside = Beside::new();
     let tabulation = test_tabulation();
     for (row, r, s, trails, stashed) in [
-        ("K2", 4, 1, &[&[17][..]][..], &[][..]),
-        ("K3", 4, 1, &[&[1], &[17, 1]], &[]),
-        ("K4", 4, 1, &[&[1], &[65, 1]], &[]),
-        ("K5", 4, 1, &[&[1], &[65, 1]], &[129]),
-        ("K6", 4, 2, &[&[1], &[65, 1]], &[129, 193]),
-        ("K7", 4, 1, &[&[1], &[129, 1]], &[]),
-        // 65, the root, is not the smallest: 17 is on no cycle
-        ("K8", 4, 1, &[&[17, 65], &[65], &[129, 65]], &[]),
-        ("K9", 4, 1, &[&[1], &[33, 1], &[34, 33, 1], &[65, 1]], &[98]),
+        ("K2", 4, 1, &[&[170][..]][..], &[][..]),
+        ("K3", 4, 1, &[&[10], &[170, 10]], &[]),
+        ("K4", 4, 1, &[&[10], &[650, 10]], &[]),
+        ("K5", 4, 1, &[&[10], &[650, 10]], &[1290]),
+        ("K6", 4, 2, &[&[10], &[650, 10]], &[1290, 1930]),
+        ("K7", 4, 1, &[&[10], &[1290, 10]], &[]),
+        // 650, the root, is not the smallest: 170 is on no cycle
+        ("K8", 4, 1, &[&[170, 650], &[650], &[1290, 650]], &[]),
+        ("K9", 4, 1, &[&[10], &[330, 10], &[340, 330, 10], &[650, 10]], &[980]),
         // two components
-        ("K10", 4, 1, &[&[1], &[34], &[65, 1], &[98, 34]], &[]),
-        ("K11", 4, 1, &[&[1], &[34, 225, 1], &[65, 1], &[225, 1]], &[98]),
-        ("K12", 1, 0, &[&[5], &[200, 5]], &[]),
-        // the cycles 1, 193 and 34, 98, joined by 33: the stash takes 193, so that 1 is on no cycle any more, and 34 is the root
-        ("joined", 4, 1, &[&[1, 33, 98, 34], &[33, 98, 34], &[34], &[98, 34]], &[193]),
+        ("K10", 4, 1, &[&[10], &[340], &[650, 10], &[980, 340]], &[]),
+        ("K11", 4, 1, &[&[10], &[340, 2250, 10], &[650, 10], &[2250, 10]], &[980]),
+        ("K12", 1, 0, &[&[50], &[2000, 50]], &[]),
+        // the cycles 10, 1930 and 340, 980, joined by 330: the stash takes 1930, so that 10 is on no cycle any more,
+        // and 340 is the root
+        ("joined", 4, 1, &[&[10, 330, 980, 340], &[330, 980, 340], &[340], &[980, 340]], &[1930]),
     ] {
         let keys: Vec<u32> = trails.iter().map(|trail| trail[0]).chain(stashed.to_vec()).collect();
         let words = board_of(r, s, &keys);
@@ -441,17 +466,20 @@ fn the_trails_of_the_test_board() {
 /// Sheet and count of trails of K9, written out, before and after the call.
 #[test]
 fn sheets_of_trails_by_hand() {
-    let words = board_of(4, 1, &[1, 33, 34, 65, 98]);
+    let words = board_of(4, 1, &K9);
     for (key, before, answer, count, after) in [
-        (34, &[7, 7, 7, 7, 7][..], 0, 3, &[34, 33, 1, 0, 0][..]),
-        (34, &[0, 98, 1], 0, 3, &[34, 33, 1]),
-        (34, &[7, 8], 11, 77, &[7, 8]),
-        (34, &[], 11, 77, &[]),
-        (1, &[34], 0, 1, &[1]),
-        (1, &[34, 33, 1], 0, 1, &[1, 0, 0]),
-        (98, &[7, 8], 0, 0, &[0, 0]),
-        (98, &[], 0, 0, &[]),
-        (97, &[7, 8], 7, 77, &[7, 8]),
+        (340, &[7, 7, 7, 7, 7][..], 0, 3, &[340, 330, 10, 0, 0][..]),
+        (340, &[0, 980, 10], 0, 3, &[340, 330, 10]),
+        (340, &[7, 8], 11, 77, &[7, 8]),
+        (340, &[], 11, 77, &[]),
+        (10, &[340], 0, 1, &[10]),
+        (10, &[340, 330, 10], 0, 1, &[10, 0, 0]),
+        (980, &[7, 8], 0, 0, &[0, 0]),
+        (980, &[], 0, 0, &[]),
+        (970, &[7, 8], 7, 77, &[7, 8]),
+        (981, &[7, 8], 7, 77, &[7, 8]),
+        (19, &[7, 8], 7, 77, &[7, 8]),
+        (9, &[7, 8], 5, 77, &[7, 8]),
         (0, &[7, 8], 5, 77, &[7, 8]),
     ] {
         let (mut scratch, mut sheet, mut told) = (vec![9; 60], before.to_vec(), 77);
@@ -467,26 +495,29 @@ fn sheets_of_trails_by_hand() {
 fn the_refusals_of_a_trail_in_their_order() {
     let mut beside = Beside::new();
     let tabulation = test_tabulation();
-    // K9
-    let sound = board_of(4, 1, &[1, 33, 34, 65, 98]);
+    let sound = board_of(4, 1, &K9);
     let mut tampered = sound.clone();
     tampered[2] += 1;
     let mut elsewhere = tampered.clone();
     elsewhere[4] = 256;
     for (book, words, scratch, key, sheet, answer) in [
-        (&tabulation[1..], &tampered[1..], 55, 0, 0, 1),
+        (&tabulation[1..], &tampered[1..], 55, 9, 0, 1),
         (&tabulation[1..], &elsewhere, 55, 0, 0, 1),
-        (&tabulation, &tampered[1..], 55, 0, 0, 2),
+        (&tabulation, &tampered[1..], 55, 9, 0, 2),
         (&tabulation, &elsewhere, 55, 0, 0, 2),
-        (&tabulation, &tampered, 55, 0, 0, 3),
+        (&tabulation, &tampered, 55, 9, 0, 3),
         (&tabulation, &tampered, 56, 0, 0, 4),
-        (&tabulation, &tampered, 56, 34, 0, 4),
+        (&tabulation, &tampered, 56, 9, 0, 4),
+        (&tabulation, &tampered, 56, 340, 0, 4),
+        (&tabulation, &tampered, 56, 341, 0, 4),
         (&tabulation, &sound, 56, 0, 0, 5),
-        (&tabulation, &sound, 56, 2, 0, 7),
-        (&tabulation, &sound, 56, 34, 0, 11),
-        (&tabulation, &sound, 56, 34, 2, 11),
-        (&tabulation, &sound, 56, 34, 3, 0),
-        (&tabulation, &sound, 56, 98, 0, 0),
+        (&tabulation, &sound, 56, 9, 0, 5),
+        (&tabulation, &sound, 56, 20, 0, 7),
+        (&tabulation, &sound, 56, 341, 0, 7),
+        (&tabulation, &sound, 56, 340, 0, 11),
+        (&tabulation, &sound, 56, 340, 2, 11),
+        (&tabulation, &sound, 56, 340, 3, 0),
+        (&tabulation, &sound, 56, 980, 0, 0),
     ] {
         let got = beside.trail(book, words, &vec![3; scratch], key, &vec![7; sheet]);
         assert_eq!(got.0, answer, "{key} on {sheet} words");
@@ -503,17 +534,20 @@ fn records_of_sales_by_hand() {
     let words = k5_with_tiers();
     let old = [71, 72, 73];
     for (key, base, answer, after) in [
-        (1, 1_799, 0, [1, 3, 1_749]),
-        (65, 1_799, 0, [65, 0, 1_799]),
-        (129, 1_799, 0, [129, 6, 2_299]),
-        (129, 99_999, 0, [129, 6, 100_499]),
-        (1, 51, 0, [1, 3, 1]),
-        (1, 50, 12, old),
-        (1, 49, 12, old),
-        (65, 1, 0, [65, 0, 1]),
-        (65, 0, 12, old),
-        (129, 100_000, 12, old),
-        (193, 1_799, 7, old),
+        (10, 1_799, 0, [10, 3, 1_749]),
+        (650, 1_799, 0, [650, 0, 1_799]),
+        (1290, 1_799, 0, [1290, 6, 2_299]),
+        (1290, 99_999, 0, [1290, 6, 100_499]),
+        (10, 51, 0, [10, 3, 1]),
+        (10, 50, 12, old),
+        (10, 49, 12, old),
+        (650, 1, 0, [650, 0, 1]),
+        (650, 0, 12, old),
+        (1290, 100_000, 12, old),
+        (1930, 1_799, 7, old),
+        (11, 1_799, 7, old),
+        (1299, 1_799, 7, old),
+        (9, 1_799, 5, old),
         (0, 1_799, 5, old),
     ] {
         let mut sale = Sale { key: 71, tier: 72, price: 73 };
@@ -534,63 +568,77 @@ fn sales_that_stay_open() {
         let mut sale = Sale { key: 71, tier: 72, price: 73 };
         (open_sale(&tabulation, words, key, 1_799, &STEPS, &mut sale), sale)
     };
-    let [(_, of_1), (_, of_129)] = [1, 129].map(|key| open(&words, key));
-    for key in [1, 129] {
+    let [(_, of_10), (_, of_1290)] = [10, 1290].map(|key| open(&words, key));
+    for key in [10, 1290] {
         assert_eq!(change(Remove, &tabulation, &mut words, key), 0);
     }
-    assert_eq!(open(&words, 1), (7, Sale { key: 71, tier: 72, price: 73 }));
-    assert_eq!([close_sale(&of_1), close_sale(&of_129)], [1_749, 2_299]);
-    assert_eq!(change(Insert(7), &tabulation, &mut words, 1), 0);
-    let (answer, later) = open(&words, 1);
-    assert_eq!((answer, later), (0, Sale { key: 1, tier: 7, price: 1_299 }));
-    assert_eq!([close_sale(&of_1), close_sale(&later), close_sale(&of_129)], [1_749, 1_299, 2_299]);
+    assert_eq!(open(&words, 10), (7, Sale { key: 71, tier: 72, price: 73 }));
+    assert_eq!([close_sale(&of_10), close_sale(&of_1290)], [1_749, 2_299]);
+    assert_eq!(change(Insert(7), &tabulation, &mut words, 10), 0);
+    let (answer, later) = open(&words, 10);
+    assert_eq!((answer, later), (0, Sale { key: 10, tier: 7, price: 1_299 }));
+    assert_eq!(
+        [close_sale(&of_10), close_sale(&later), close_sale(&of_1290)],
+        [1_749, 1_299, 2_299]
+    );
     let mut others = fresh(4, 1, 0);
-    for (key, tier) in [(1, 7), (65, 0)] {
+    for (key, tier) in [(10, 7), (650, 0)] {
         assert_eq!(change(Insert(tier), &tabulation, &mut others, key), 0);
     }
     assert_eq!(words, others);
 }
 
-/// Of all refusals that one opening deserves, the first in the order 1, 2, 5, 7, 4, 12 is given: one cause after the other is mended. Key 0 stands nowhere in
-/// the tampered words, whose tiers are all above 7, so that 5 goes with 7; where it stands beside such a tier, 5 goes with 4.
+/// Of all refusals that one opening deserves, the first in the order 1, 2, 5, 7, 4, 12 is given: one cause after the
+/// other is mended. The keys 0 and 9 stand nowhere in the tampered words, whose tiers are all above 7, so that 5 goes
+/// with 7; where they stand beside such a tier, 5 goes with 4.
 #[test]
 fn the_refusals_of_a_sale_in_their_order() {
     let mut beside = Beside::new();
     let tabulation = test_tabulation();
     let sound = k5_with_tiers();
-    // Key 0 has the slots 0 and 4, of which 4 is taken, as the one stash place is; the tiers are those of slot 1, slot 4 and the stash place.
+    // A key below 10 has the slots 0 and 4, of which 4 is taken, as the one stash place is; the tiers are those of slot
+    // 1, slot 4 and the stash place.
     let mut tampered = sound.clone();
-    tampered[5] = 2;
+    tampered[5] = 20;
     for (at, tier) in [(10, 8), (19, 9), (30, u32::MAX)] {
         tampered[at] = tier;
     }
-    let mut blank = tampered.clone();
-    (blank[5], blank[7]) = (0, 8);
-    let mut elsewhere = blank.clone();
+    let [zero, nine] = [0, 9].map(|key| {
+        let mut words = tampered.clone();
+        (words[5], words[7]) = (key, 8);
+        words
+    });
+    let mut elsewhere = nine.clone();
     elsewhere[4] = 256;
     let mut miscounted = sound.clone();
     miscounted[2] += 1;
     for (book, words, key, base, steps, answer) in [
-        (&tabulation[1..], &tampered[1..], 0, 0, &[][..], 1),
+        (&tabulation[1..], &tampered[1..], 9, 0, &[][..], 1),
         (&tabulation[1..], &elsewhere, 0, 0, &[], 1),
-        (&tabulation, &tampered[1..], 0, 0, &[], 2),
+        (&tabulation, &tampered[1..], 9, 0, &[], 2),
         (&tabulation, &elsewhere, 0, 0, &[], 2),
-        (&tabulation, &elsewhere, 1, 1_799, &STEPS, 2),
+        (&tabulation, &elsewhere, 10, 1_799, &STEPS, 2),
         (&tabulation, &tampered, 0, 0, &[], 5),
-        (&tabulation, &blank, 0, 0, &[], 5),
-        (&tabulation, &tampered, 193, 0, &[], 7),
-        (&tabulation, &tampered, 1, 0, &[], 4),
-        (&tabulation, &tampered, 65, 0, &[], 4),
-        (&tabulation, &tampered, 129, 0, &[], 4),
-        (&tabulation, &tampered, 1, 1_799, &STEPS, 4),
-        (&tabulation, &sound, 193, 0, &[], 7),
-        (&tabulation, &sound, 1, 0, &[], 12),
-        (&tabulation, &sound, 1, 1_799, &STEPS[1..], 12),
-        (&tabulation, &sound, 1, 1_799, &STEPS, 0),
-        (&tabulation, &sound, 65, 1_799, &STEPS, 0),
-        (&tabulation, &sound, 129, 1_799, &STEPS, 0),
+        (&tabulation, &tampered, 9, 0, &[], 5),
+        (&tabulation, &zero, 0, 0, &[], 5),
+        (&tabulation, &nine, 9, 0, &[], 5),
+        (&tabulation, &nine, 9, 1_799, &STEPS, 5),
+        (&tabulation, &tampered, 1930, 0, &[], 7),
+        (&tabulation, &tampered, 11, 0, &[], 7),
+        (&tabulation, &tampered, 1299, 0, &[], 7),
+        (&tabulation, &tampered, 10, 0, &[], 4),
+        (&tabulation, &tampered, 650, 0, &[], 4),
+        (&tabulation, &tampered, 1290, 0, &[], 4),
+        (&tabulation, &tampered, 10, 1_799, &STEPS, 4),
+        (&tabulation, &sound, 1930, 0, &[], 7),
+        (&tabulation, &sound, 11, 0, &[], 7),
+        (&tabulation, &sound, 10, 0, &[], 12),
+        (&tabulation, &sound, 10, 1_799, &STEPS[1..], 12),
+        (&tabulation, &sound, 10, 1_799, &STEPS, 0),
+        (&tabulation, &sound, 650, 1_799, &STEPS, 0),
+        (&tabulation, &sound, 1290, 1_799, &STEPS, 0),
         // no image, but the tier found is right
-        (&tabulation, &miscounted, 1, 1_799, &STEPS, 0),
+        (&tabulation, &miscounted, 10, 1_799, &STEPS, 0),
     ] {
         let (got, _) = beside.open(book, words, key, base, steps);
         assert_eq!(got, answer, "{key} at {base} with {steps:?}");
@@ -598,8 +646,9 @@ fn the_refusals_of_a_sale_in_their_order() {
     beside.report(&[Kind::Open]);
 }
 
-/// Key 17 in each of its two slots, in each of three stash places, and in a slot that is not its own, with a tier of its own in each: a lookup gives the first
-/// of the five where it may stand, and a sale has its price, or is refused with 4. The words are no image.
+/// Key 170 in each of its two slots, in each of three stash places, and in a slot that is not its own, with a tier of
+/// its own in each; where it does not stand, another issue does. A lookup gives the first of the five where it may
+/// stand, and a sale has its price, or is refused with 4. The words are no image.
 #[test]
 fn the_first_of_several_copies() {
     let mut beside = Beside::new();
@@ -607,15 +656,15 @@ fn the_first_of_several_copies() {
     let tiers = [4, 9, 7, 0, u32::MAX];
     for mask in 0..32u32 {
         let mut words = fresh(4, 3, 0);
-        words[5..8].copy_from_slice(&[17, 17, 1]);
+        words[5..8].copy_from_slice(&[170, 170, 1]);
         for (bit, at) in [5 + 3, 5 + 3 * 5, 29, 31, 33].into_iter().enumerate() {
             let here = mask >> bit & 1 == 1;
-            words[at] = if here { 17 } else { 3 };
+            words[at] = if here { 170 } else { 171 };
             words[at + if bit < 2 { 2 } else { 1 }] = tiers[bit];
         }
         let first = (0..5).find(|bit| mask >> bit & 1 == 1).map(|bit| tiers[bit]);
-        assert_eq!(beside.lookup(&tabulation, &words, 17), (0, first), "{mask:05b}");
-        let (answer, sale) = beside.open(&tabulation, &words, 17, 1_799, &STEPS);
+        assert_eq!(beside.lookup(&tabulation, &words, 170), (0, first), "{mask:05b}");
+        let (answer, sale) = beside.open(&tabulation, &words, 170, 1_799, &STEPS);
         let expected = match first {
             None => (7, None),
             Some(4) => (0, Some(1_804)),
@@ -628,6 +677,180 @@ fn the_first_of_several_copies() {
     }
 }
 
+/// Keys without a first part, in every call that takes a key, whatever else is wrong with tier, sheet and price; and
+/// the smallest key that has one.
+#[test]
+fn keys_below_ten() {
+    let mut beside = Beside::new();
+    let mut counters = Counters::default();
+    let tabulation = test_tabulation();
+    let scratch = vec![3; scratch_length(4, 1)];
+    let mut words = k5_with_tiers();
+    for (key, [inserted, removed, traced, opened, rest]) in
+        (0..10).map(|key| (key, [5; 5])).chain([(10, [9, 0, 11, 12, 0])])
+    {
+        let mut change =
+            |way| beside.change(way, &tabulation, &mut words, &scratch, &mut counters, key);
+        assert_eq!([Insert(8), Remove].map(&mut change), [inserted, removed], "{key}");
+        let words = k5_with_tiers();
+        assert_eq!(beside.trail(&tabulation, &words, &scratch, key, &[]).0, traced, "{key}");
+        assert_eq!(beside.open(&tabulation, &words, key, 0, &[]).0, opened, "{key}");
+        assert_eq!(beside.lookup(&tabulation, &words, key).0, rest, "{key}");
+        assert_eq!(beside.hashes(&tabulation, 4, 0, key), rest, "{key}");
+    }
+    assert_eq!((counters.done, counters.refused), (1, 21));
+}
+
+/// 4,294,967,295 on the test board: its first part is 429,496,729, whose lowest byte is 153, so that it has the slots
+/// 0.1 and 1.1. Of that first part there are six issues.
+#[test]
+fn the_largest_key() {
+    let tabulation = test_tabulation();
+    let mut words = fresh(4, 0, 0);
+    assert_eq!(change(Insert(6), &tabulation, &mut words, u32::MAX), 0);
+    let [none, largest] = [[0; 3], [u32::MAX, u32::MAX, 6]];
+    let slots = [none, largest, none, none, none, largest, none, none];
+    assert_eq!(words, [&[4, 0, 1, 0, 0], slots.as_flattened()].concat());
+    for other in 4_294_967_290..u32::MAX {
+        assert_eq!(change(Insert(6), &tabulation, &mut words, other), 13, "{other}");
+        assert_eq!(change(Remove, &tabulation, &mut words, other), 7, "{other}");
+    }
+    assert_eq!(change(Insert(6), &tabulation, &mut words, 4_294_967_289), 0);
+    assert_eq!(change(Remove, &tabulation, &mut words, u32::MAX), 0);
+    assert_eq!(change(Insert(6), &tabulation, &mut words, 4_294_967_290), 0);
+}
+
+/// The keys of K9, each with each of its other issues.
+fn other_issues() -> Vec<(u32, u32)> {
+    K9.iter().flat_map(|key| (1..10).map(move |issue| (*key, key + issue))).collect()
+}
+
+/// The keys of K9, each with all its other issues: the same two slots, but no call takes one for the other. An insert
+/// is refused with 13 at every tier, though the stash is full, and the words stay.
+#[test]
+fn other_issues_in_every_call() {
+    let mut beside = Beside::new();
+    let mut counters = Counters::default();
+    let tabulation = test_tabulation();
+    let scratch = vec![3; scratch_length(4, 1)];
+    let words = board_of(4, 1, &K9);
+    for (key, issue) in other_issues() {
+        let mut copy = words.clone();
+        let mut change =
+            |way| beside.change(way, &tabulation, &mut copy, &scratch, &mut counters, issue);
+        for tier in 0..8 {
+            assert_eq!(change(Insert(tier)), 13, "{issue} with tier {tier}");
+        }
+        assert_eq!([Insert(8), Remove].map(change), [9, 7], "{issue}");
+        assert_eq!(copy, words, "{issue}");
+        assert_eq!(
+            beside.trail(&tabulation, &words, &scratch, issue, &[7; 8]),
+            (7, vec![]),
+            "{issue}"
+        );
+        assert_eq!(beside.open(&tabulation, &words, issue, 1_799, &STEPS), (7, None), "{issue}");
+        assert_eq!(beside.lookup(&tabulation, &words, issue), (0, None), "{issue}");
+        let slots = [key, issue].map(|key| library::hashes(&tabulation, 4, 0, key, [9, 9]));
+        assert_eq!(slots[0], slots[1], "{issue}");
+    }
+    assert_eq!((counters.done, counters.refused), (0, 450));
+}
+
+/// Each key of K9 replaced by each other issue of it: the words are those of the set with the other issue, and nothing
+/// tells which one was there before. With 13 in the place of 10 they are written out.
+#[test]
+fn a_key_that_is_made_again() {
+    let tabulation = test_tabulation();
+    let replaced = |from: u32, to: u32| {
+        let mut words = board_of(4, 1, &K9);
+        assert_eq!(change(Remove, &tabulation, &mut words, from), 0, "{from}");
+        assert_eq!(change(Insert(to / 10 % 8), &tabulation, &mut words, to), 0, "{to} for {from}");
+        words
+    };
+    for (key, issue) in other_issues() {
+        let others = K9.map(|of_set| if of_set == key { issue } else { of_set });
+        assert_eq!(replaced(key, issue), board_of(4, 1, &others), "{issue} for {key}");
+    }
+    let none = [0; 3];
+    let in_table_0 = [none, [13, 330, 1], [340, 650, 2], none];
+    let in_table_1 = [[650, 13, 1], none, [330, 340, 1], none];
+    let slots = [in_table_0, in_table_1];
+    let expected = [&[4, 1, 5, 1, 0], slots.as_flattened().as_flattened(), &[980, 2]].concat();
+    assert_eq!(replaced(10, 13), expected);
+}
+
+/// Words of a board with r = 4 and s = 2, all of whose keys have the same slot in table 0, this one, and the slot 1.0:
+/// two of them sit there, and the rest is stashed. All are at tier 5.
+fn crowd(slot: usize, [first, second]: [u32; 2], stash: [u32; 2]) -> Vec<u32> {
+    let stashed = stash.iter().filter(|key| **key != 0).count() as u32;
+    let mut words = vec![4, 2, 2 + stashed, stashed, 0];
+    words.resize(words_length(4, 2), 0);
+    words[5 + 3 * slot..][..3].copy_from_slice(&[first, second, 5]);
+    words[5 + 3 * 4..][..3].copy_from_slice(&[second, first, 5]);
+    for (place, key) in stash.into_iter().enumerate().filter(|(_, key)| *key != 0) {
+        words[5 + 6 * 4 + 2 * place..][..2].copy_from_slice(&[key, 5]);
+    }
+    words
+}
+
+/// Words that are neatly seated and stashed, but have two issues of one first part, or a key without one: no set has
+/// them, and every call that asks for an image answers 4. Beside each stand the words of a set that have the same form.
+#[test]
+fn neatly_seated_but_no_set() {
+    let mut beside = Beside::new();
+    let tabulation = test_tabulation();
+    for (slot, seats, stash, answer) in [
+        (1, [10, 650], [0, 0], 0),
+        (1, [10, 11], [0, 0], 4),
+        (1, [11, 10], [0, 0], 4),
+        (1, [10, 650], [1290, 0], 0),
+        (1, [10, 650], [651, 0], 4),
+        (1, [10, 650], [11, 0], 4),
+        (1, [10, 11], [650, 0], 4),
+        (1, [10, 650], [1290, 1930], 0),
+        (1, [10, 650], [1290, 1291], 4),
+        (1, [10, 650], [1291, 1290], 4),
+        (1, [10, 11], [12, 13], 4),
+        // 1 to 9 would have the slots of 640
+        (0, [640, 1280], [0, 0], 0),
+        (0, [1, 640], [0, 0], 4),
+        (0, [9, 640], [0, 0], 4),
+        (0, [5, 9], [0, 0], 4),
+        (0, [640, 1280], [1920, 0], 0),
+        (0, [5, 640], [1280, 0], 4),
+        (0, [640, 1280], [9, 0], 4),
+        (0, [640, 1280], [9, 1920], 4),
+        (0, [1, 2], [3, 4], 4),
+    ] {
+        let words = crowd(slot, seats, stash);
+        let scratch = vec![3; scratch_length(4, 2)];
+        let mut answers = vec![beside.check(&tabulation, &words, &scratch)];
+        for key in [seats[0], 19, 9, 20] {
+            for way in [Insert(5), Remove] {
+                let (mut copy, mut counters) = (words.clone(), Counters::default());
+                answers.push(beside.change(
+                    way,
+                    &tabulation,
+                    &mut copy,
+                    &scratch,
+                    &mut counters,
+                    key,
+                ));
+                assert!(answer == 0 || copy == words, "{way:?} of {key} changed {words:?}");
+            }
+            answers.push(beside.trail(&tabulation, &words, &scratch, key, &[7; 8]).0);
+        }
+        assert!(
+            answers.iter().all(|number| (*number == 4) == (answer == 4)),
+            "{answers:?}: {words:?}"
+        );
+        for key in seats.into_iter().chain(stash).filter(|key| *key != 0) {
+            let found = if key < 10 { (5, None) } else { (0, Some(5)) };
+            assert_eq!(beside.lookup(&tabulation, &words, key), found, "{key} in {words:?}");
+        }
+    }
+}
+
 #[test]
 fn the_house_tabulation() {
     let mut beside = Beside::new();
@@ -637,7 +860,8 @@ fn the_house_tabulation() {
     beside.report(&[Kind::House]);
 }
 
-/// Headings at the edges of their ranges and of 32 bits, with lengths that go with some: nothing wraps, and nothing is read outside.
+/// Headings at the edges of their ranges and of 32 bits, with lengths that go with some: nothing wraps, and nothing is
+/// read outside.
 #[test]
 fn huge_headings_and_wrong_lengths() {
     let mut beside = Beside::new();
@@ -649,21 +873,19 @@ fn huge_headings_and_wrong_lengths() {
         for r in headings.iter().copied() {
             for [s, station] in headings.iter().flat_map(|s| stations.map(|station| [*s, station]))
             {
-                let mut words: Vec<u32> = (0..length as u32).map(|i| i % 40).collect();
+                let mut words: Vec<u32> = (0..length as u32).map(|i| i % 40 * 10).collect();
                 for (at, value) in [(0, r), (1, s), (4, station)] {
                     if let Some(word) = words.get_mut(at) {
                         *word = value;
                     }
                 }
                 beside.stash(&words);
-                beside.lookup(&tabulation, &words, length as u32 % 3);
-                beside.lookup(&tabulation, &words, 4);
-                beside.lookup(&tabulation[1..], &words, 7);
                 beside.check(&tabulation, &words, &[1; 40]);
-                beside.trail(&tabulation, &words, &[1; 40], 4, &[2; 3]);
-                beside.open(&tabulation, &words, length as u32 % 3, 1_799, &STEPS);
-                beside.open(&tabulation, &words, 4, 1_799, &STEPS);
-                beside.open(&tabulation[1..], &words, 7, 1_799, &STEPS);
+                beside.trail(&tabulation, &words, &[1; 40], 40, &[2; 3]);
+                for (key, start) in [(0, 0), (9, 0), (40, 0), (50, 0), (51, 0), (70, 1)] {
+                    beside.lookup(&tabulation[start..], &words, key);
+                    beside.open(&tabulation[start..], &words, key, 1_799, &STEPS);
+                }
             }
         }
     }

@@ -1,22 +1,26 @@
-//! Tests at scale, against the program by another hand: random sequences of calls on small boards, where cycles and full stashes are common, and on the largest;
-//! extreme tabulations; two histories of one set; one set at two stations; the same keys with other tiers; trails on sheets of all lengths, and the longest;
-//! sales that stay open while keys come and go, and prices at their limits; damaged and random words. Dictionaries are laid at random stations. Every call is
-//! compared in answer, words, scratch, counters, out-parameters and guards, and every answer that a call can give must come up.
+//! Tests at scale, against the program by another hand: random sequences of calls on small boards, where cycles and
+//! full stashes are common, and on the largest; extreme tabulations; two histories of one set; one set at two stations;
+//! the same keys with other tiers, and other issues of the same keys; trails on sheets of all lengths, and the longest;
+//! sales that stay open while keys come and go, and prices at their limits; damaged and random words, two issues of one
+//! first part and keys without one among them. Dictionaries are laid at random stations. Every call is compared in
+//! answer, words, scratch, counters, out-parameters and guards, and every answer that a call can give must come up.
 
 use std::collections::{BTreeMap, BTreeSet};
 
 use library::beside::{Beside, Kind};
 use library::Change::{Insert, Remove};
-use library::{change, fresh, scratch_length, words_length, Change, Counters, Sale, HEADER_LENGTH};
+use library::{change, entries, fresh, scratch_length, words_length};
+use library::{Change, Counters, Sale, HEADER_LENGTH};
 use reference::answer::Refusal;
 use reference::fast::{image, Fast};
 use reference::hash::{hashes, HALF_LEN, MAX_STATION, TABULATION_LEN};
 use reference::house::HOUSE;
 use reference::image::Engine;
+use reference::key::{first_part, is_blank, issues};
 use reference::model::{Call, Model, Reply};
 use reference::rng::Rng;
 use reference::samples::{
-    random_keys, random_station, random_tabulation, random_tier, random_tiers, tier_0,
+    random_issue, random_keys, random_station, random_tabulation, random_tier, random_tiers, tier_0,
 };
 use reference::set::{members, Member};
 
@@ -47,6 +51,17 @@ fn any_tier(rng: &mut Rng) -> u32 {
         0 => rng.pick(&[8, 9, 15, 16, 256, 1 << 31, u32::MAX]),
         _ => rng.below(8) as u32,
     }
+}
+
+/// A key of any size.
+fn any_key(rng: &mut Rng) -> u32 {
+    rng.next_u32().max(10)
+}
+
+/// Another issue of a key.
+fn other_issue(rng: &mut Rng, key: u32) -> u32 {
+    let others: Vec<u32> = issues(key).filter(|issue| *issue != key).collect();
+    rng.pick(&others)
 }
 
 /// Another tier from 0 to 7.
@@ -179,19 +194,37 @@ impl Board {
             1 => enough + rng.below(9),
             _ => enough,
         };
-        let key = if rng.one_in(15) { 0 } else { rng.pick(&self.keys) };
-        (book, random_words(rng, length), key)
+        (book, random_words(rng, length), self.key(rng))
     }
 
-    /// A tier for an insert: of a key that stands in the words often the one that it has.
+    /// A key for a call: one of the board's, often another issue of it, or the issue that is listed; now and then one
+    /// that has no first part.
+    fn key(&self, rng: &mut Rng) -> u32 {
+        if rng.one_in(15) {
+            return rng.below(10) as u32;
+        }
+        let key = rng.pick(&self.keys);
+        match self.listed_issue(key) {
+            Some((listed, _)) if rng.one_in(3) => listed,
+            _ if rng.one_in(3) => random_issue(rng, key),
+            _ => key,
+        }
+    }
+
+    /// The issue of a key that is listed, with its tier.
+    fn listed_issue(&self, key: u32) -> Option<Member> {
+        self.register.set().range(issues(key)).next().map(|(key, tier)| (*key, *tier))
+    }
+
+    /// A tier for an insert: of a key of which an issue is listed often the one that it has.
     fn tier(&self, rng: &mut Rng, key: u32) -> u32 {
-        match self.register.set().get(&key) {
-            Some(tier) if rng.one_in(2) => *tier,
+        match self.listed_issue(key) {
+            Some((_, tier)) if rng.one_in(2) => tier,
             _ => any_tier(rng),
         }
     }
 
-    /// A key for a trail or a sale: half of the time one that is listed, where any is; else this one.
+    /// A key for a removal, a trail or a sale: half of the time one that is listed, where any is; else this one.
     fn listed_or(&self, rng: &mut Rng, key: u32) -> u32 {
         let listed: Vec<u32> = self.register.set().keys().copied().collect();
         if listed.is_empty() || rng.one_in(2) {
@@ -221,10 +254,12 @@ impl Board {
                 Call::Insert { tabulation_len, scratch_len, key, tier },
                 beside.change(Insert(tier), &book, &mut self.words, &scratch, counters, key),
             ),
-            5..=7 => (
-                Call::Remove { tabulation_len, scratch_len, key },
-                beside.change(Remove, &book, &mut self.words, &scratch, counters, key),
-            ),
+            5..=7 => {
+                let key = if rng.one_in(2) { key } else { self.listed_or(rng, key) };
+                let counters = &mut self.counters;
+                let answer = beside.change(Remove, &book, &mut self.words, &scratch, counters, key);
+                (Call::Remove { tabulation_len, scratch_len, key }, answer)
+            }
             8 => (
                 Call::Check { tabulation_len, scratch_len },
                 beside.check(&book, &self.words, &scratch),
@@ -314,6 +349,17 @@ impl Board {
         }
     }
 
+    /// What a damaged word holds: a key of the board, another issue of what stood there, one bit of it turned, or a
+    /// small number.
+    fn damaged(&self, rng: &mut Rng, word: u32) -> u32 {
+        match rng.below(5) {
+            0 => rng.pick(&self.keys),
+            1 => random_issue(rng, word),
+            2 => word ^ 1 << rng.below(32),
+            _ => rng.below(10) as u32,
+        }
+    }
+
     /// The end of a sequence: the sales that are still open are closed.
     fn close_all(&mut self, beside: &mut Beside) {
         for (sale, price) in std::mem::take(&mut self.sales) {
@@ -329,11 +375,7 @@ impl Board {
         let mut counters = self.counters;
         for _ in 0..=rng.below(3) {
             let at = rng.below(words.len());
-            words[at] = match rng.below(4) {
-                0 => rng.pick(&self.keys),
-                1 => words[at] ^ 1 << rng.below(32),
-                _ => rng.below(8) as u32,
-            };
+            words[at] = self.damaged(rng, words[at]);
         }
         if rng.one_in(6) {
             words[4] = any_station(rng);
@@ -362,7 +404,7 @@ fn sequences_on_small_boards() {
     let mut rng = Rng::new(41);
     let mut beside = Beside::new();
     let mut closed = [0; 3];
-    for _ in 0..7_000 {
+    for _ in 0..8_000 {
         let mut board = Board::random(&mut rng, &mut beside);
         for _ in 0..60 {
             match rng.below(16) {
@@ -372,7 +414,7 @@ fn sequences_on_small_boards() {
                 _ => board.call(&mut rng, &mut beside),
             }
             let r = rng.pick(&[0, 1, board.r, 1_024, 1_025]);
-            let key = if rng.one_in(9) { 0 } else { rng.next_u32() };
+            let key = if rng.one_in(9) { rng.below(10) as u32 } else { rng.next_u32() };
             let end = if rng.one_in(9) { rng.below(TABULATION_LEN) } else { TABULATION_LEN };
             beside.hashes(&board.tabulation[..end], r, any_station(&mut rng), key);
         }
@@ -380,7 +422,7 @@ fn sequences_on_small_boards() {
         closed = [0, 1, 2].map(|now| closed[now] + board.closed[now]);
     }
     println!("{} calls on small boards", beside.calls());
-    assert!(beside.calls() > 800_000);
+    assert!(beside.calls() > 900_000);
     beside.report(&[
         Kind::Init,
         Kind::Insert,
@@ -392,7 +434,7 @@ fn sequences_on_small_boards() {
         Kind::Open,
         Kind::Hashes,
     ]);
-    for refusal in [9, 10, 6] {
+    for refusal in [9, 13, 10, 6] {
         assert!(beside.given(Kind::Insert, refusal) > 5_000, "{refusal} is rare");
     }
     assert!(beside.given(Kind::Trail, 0) > 5_000 && beside.given(Kind::Trail, 11) > 2_000);
@@ -401,7 +443,8 @@ fn sequences_on_small_boards() {
     assert!(closed.iter().all(|times| *times > 300));
 }
 
-/// The hashes of every lowest byte at every station, with any other bytes, at any r and at the largest, where no entry is lost in the remainder.
+/// The hashes of every lowest byte of a first part at every station, with any other bytes and any issue, at any r and
+/// at the largest, where no entry is lost in the remainder.
 #[test]
 fn hashes_at_every_station() {
     let mut rng = Rng::new(55);
@@ -410,12 +453,13 @@ fn hashes_at_every_station() {
     for station in 0..=MAX_STATION {
         let random = random_tabulation(&mut rng, 65_536);
         for byte in 0..256 {
-            let key = (rng.next_u32() & !255 | byte).max(1);
+            let first_part = 256 * (1 + rng.below(1_677_720) as u32) + byte;
+            let key = 10 * first_part + rng.below(10) as u32;
             let r = 1 + rng.below(1_024) as u32;
             assert_eq!(beside.hashes(&random, r, station, key), 0);
             assert_eq!(beside.hashes(&distinct, 1_024, station, key), 0);
         }
-        for (wrong, key) in [(station + 256, 1), (rng.pick(&WRONG_STATIONS), 0)] {
+        for (wrong, key) in [(station + 256, 10), (rng.pick(&WRONG_STATIONS), station % 10)] {
             assert_eq!(beside.hashes(&random, 4, wrong, key), 2);
             for length in [2_048, 2_559, 2_561, 5_120] {
                 let lent: Vec<u16> = random.iter().copied().cycle().take(length).collect();
@@ -423,7 +467,9 @@ fn hashes_at_every_station() {
                 assert_eq!(beside.hashes(&lent, 4, station, key), 1, "{length} entries");
             }
         }
-        assert_eq!(beside.hashes(&random, 4, station, 0), 5);
+        for key in 0..10 {
+            assert_eq!(beside.hashes(&random, 4, station, key), 5);
+        }
     }
     beside.report(&[Kind::Hashes]);
 }
@@ -447,14 +493,18 @@ fn sequences_on_the_largest_board() {
         let mut inside = Vec::new();
         // Filled up without comparing; the calls below compare every word.
         for _ in 0..[20, 250, 1_000, 3_000, 100, 700, 1_500, 2_500][round] {
-            let (key, tier) = (rng.next_u32().max(1), random_tier(&mut rng));
+            let (key, tier) = (any_key(&mut rng), random_tier(&mut rng));
             if change(Insert(tier), &tabulation, &mut words, key) == 0 {
                 inside.push((key, tier));
             }
         }
         for _ in 0..600 {
-            let strange = (rng.next_u32().max(1), any_tier(&mut rng));
             let at = rng.below(inside.len());
+            let stranger = match rng.below(4) {
+                0 => other_issue(&mut rng, inside[at].0),
+                _ => any_key(&mut rng),
+            };
+            let strange = (stranger, any_tier(&mut rng));
             let (key, mut tier) = if rng.one_in(3) { inside[at] } else { strange };
             if rng.one_in(3) {
                 tier = any_tier(&mut rng);
@@ -513,9 +563,9 @@ fn sequences_on_the_largest_board() {
     }
     println!("{} calls at r = 1,024", beside.calls());
     assert!(beside.calls() > 6_000);
-    for refusal in [9, 10, 6, 8] {
-        assert!(beside.given(Kind::Insert, refusal) > 50, "{refusal} is rare");
-    }
+    let inserts = [9, 13, 10, 6, 8].map(|answer| (answer, beside.given(Kind::Insert, answer)));
+    println!("inserts, refusal and how often: {inserts:?}");
+    assert!(inserts.iter().all(|(_, times)| *times > 50));
     let trails = [0, 7, 11].map(|answer| (answer, beside.given(Kind::Trail, answer)));
     println!("trails, answer and how often: {trails:?}");
     assert!(trails.iter().all(|(_, times)| *times > 50));
@@ -539,7 +589,7 @@ fn extreme_tabulations() {
         };
         let scratch = vec![u32::MAX; scratch_length(r, s)];
         let mut words = fresh(r, s, random_station(&mut rng));
-        for key in [u32::MAX, 0x00FF_00FF, rng.next_u32().max(1), 1, rng.next_u32().max(1)] {
+        for key in [u32::MAX, 0x00FF_00FF, any_key(&mut rng), 10, any_key(&mut rng), 19] {
             let tier = random_tier(&mut rng);
             beside.change(Insert(tier), &tabulation, &mut words, &scratch, &mut counters, key);
             let (_, tier) = beside.lookup(&tabulation, &words, key);
@@ -552,7 +602,8 @@ fn extreme_tabulations() {
     }
 }
 
-/// A random way to a set: its keys in any order, with strangers that come and go, keys that go and come again, at first with another tier, and refused calls.
+/// A random way to a set: its keys in any order, with strangers that come and go, keys that go and come again, at first
+/// with another tier or of another issue, and refused calls.
 fn way_to(
     rng: &mut Rng,
     tabulation: &[u16],
@@ -577,6 +628,13 @@ fn way_to(
             assert_eq!(call(Remove, key), 0);
             assert_eq!(call(Remove, key), 7);
         }
+        if rng.one_in(3) {
+            let earlier = other_issue(rng, key);
+            assert_eq!(call(Insert(random_tier(rng)), earlier), 0);
+            assert_eq!(call(Insert(tier), key), 13);
+            assert_eq!(call(Remove, key), 7);
+            assert_eq!(call(Remove, earlier), 0);
+        }
         assert_eq!(call(Insert(8), key), 9);
         assert_eq!(call(Insert(tier), key), 0);
     }
@@ -594,9 +652,10 @@ fn fitting_set(rng: &mut Rng, round: usize) -> Option<(Laid, Vec<u16>, Vec<u32>)
     image_of(&tabulation, laid, &tier_0(&keys)).map(|_| (laid, tabulation, keys))
 }
 
-/// Keys that are not in the set.
+/// Keys that are not in the set, nor is another issue of them.
 fn strangers_to(rng: &mut Rng, keys: &[u32]) -> Vec<u32> {
-    (0..6).map(|_| rng.next_u32().max(1)).filter(|key| !keys.contains(key)).collect()
+    let is_strange = |key: &u32| keys.iter().all(|of_set| first_part(*of_set) != first_part(*key));
+    (0..6).map(|_| any_key(rng)).filter(is_strange).collect()
 }
 
 /// The trails of the keys of a set, from scratch and over sheets with any old content.
@@ -719,8 +778,9 @@ fn trails_on_sheets_of_all_lengths() {
     assert!(done > 10_000 && short > 5_000);
 }
 
-/// A tabulation under which the keys 1 to 2r are one cycle through all slots, for every r, at this station: key k has the hashes k/2 and (k + 1)/2 rounded down,
-/// so that it has one slot in common with the key before it and the other with the key behind it. The lowest byte counts by the station's stretch alone.
+/// A tabulation under which the first parts 1 to 2r are one cycle through all slots, for every r, at this station:
+/// first part p has the hashes p/2 and (p + 1)/2 rounded down, so that it has one slot in common with the one before it
+/// and the other with the one behind it. The lowest byte counts by the station's stretch alone.
 fn cycle_tabulation(station: u32) -> Vec<u16> {
     let mut tabulation = vec![0; TABULATION_LEN];
     for byte in 0..256u16 {
@@ -730,6 +790,11 @@ fn cycle_tabulation(station: u32) -> Vec<u16> {
         (tabulation[second], tabulation[HALF_LEN + second]) = (128 * byte, 128 * byte);
     }
     tabulation
+}
+
+/// The key of a first part on the cycle: all issues come up, and the keys go up with the first parts.
+fn on_cycle(first_part: u32) -> u32 {
+    10 * first_part + first_part % 10
 }
 
 /// The words of a board with all these keys, which come in any order.
@@ -743,31 +808,30 @@ fn filled(rng: &mut Rng, tabulation: &[u16], [r, s, station]: Laid, keys: &[u32]
     words
 }
 
-/// The trail of a key on the cycle of the keys 1 to `all`: up to the last one, and round to the root.
-fn up_the_cycle(key: u32, all: u32) -> Vec<u32> {
-    if key == 1 {
-        vec![1]
-    } else {
-        (key..=all).chain([1]).collect()
-    }
+/// The trail of a key on the cycle of the first parts 1 to `all`: up to the last one, and round to the root.
+fn up_the_cycle(first_part: u32, all: u32) -> Vec<u32> {
+    let up = (first_part..=all).filter(|_| first_part > 1);
+    up.chain([1]).map(on_cycle).collect()
 }
 
-/// The trail of a key on the path of the keys from 1 on: down to the root.
-fn down_the_path(key: u32) -> Vec<u32> {
-    (1..=key).rev().collect()
+/// The trail of a key on the path of the first parts from 1 on: down to the root.
+fn down_the_path(first_part: u32) -> Vec<u32> {
+    (1..=first_part).rev().map(on_cycle).collect()
 }
 
-/// Of the keys 1 to `last` those whose trails are asked for: all where they are few, otherwise some at both ends and at each multiple of 32. A walk goes in
-/// runs of 16 steps, so that these trails end just before, at and just behind the end of a run.
-fn some_keys(last: u32) -> Vec<u32> {
+/// Of the first parts 1 to `last` those whose trails are asked for: all where they are few, otherwise some at both ends
+/// and at each multiple of 32. A walk goes in runs of 16 steps, so that these trails end just before, at and just
+/// behind the end of a run.
+fn some_parts(last: u32) -> Vec<u32> {
     (1..=last)
-        .filter(|key| last <= 80 || *key < 4 || (key + 1) % 32 < 3 || last < key + 4)
+        .filter(|part| last <= 80 || *part < 4 || (part + 1) % 32 < 3 || last < part + 4)
         .collect()
 }
 
-/// The longest trails there are, written out: 2r keys where the keys 1 to 2r are one cycle, 2r - 1 where one key less is a path. On the cycle key 1, the root,
-/// sits in table 0, in the slot that it has in common with key 2r; so every other key k sits in the one in common with k - 1, and k + 1 sits in its other one.
-/// On the path key 1 sits in both its slots, and each other key leads down to it. A sheet with one word less than the trail is refused.
+/// The longest trails there are, written out: 2r keys where the first parts 1 to 2r are one cycle, 2r - 1 where one key
+/// less is a path. On the cycle 1, the root, sits in table 0, in the slot that it has in common with 2r; so every other
+/// one sits in the slot in common with the one before it, and the one behind it sits in its other slot. On the path 1
+/// sits in both its slots, and each other key leads down to it. A sheet with one word less than the trail is refused.
 #[test]
 fn trails_through_all_slots() {
     let mut rng = Rng::new(51);
@@ -776,23 +840,31 @@ fn trails_through_all_slots() {
         let (s, all) = (if r == 1_024 { 64 } else { rng.below(65) as u32 }, 2 * r);
         let station = random_station(&mut rng);
         let tabulation = cycle_tabulation(station);
-        let mut words = filled(&mut rng, &tabulation, [r, s, station], &Vec::from_iter(1..=all));
-        let asked = some_keys(all);
-        let found = trails_of(&mut rng, &mut beside, &tabulation, &words, &asked);
-        let cycle: Vec<Vec<u32>> = asked.iter().map(|key| up_the_cycle(*key, all)).collect();
+        let keys = Vec::from_iter((1..=all).map(on_cycle));
+        let mut words = filled(&mut rng, &tabulation, [r, s, station], &keys);
+        let asked = some_parts(all);
+        let mut trails = |words: &[u32], asked: &[u32]| {
+            let keys = Vec::from_iter(asked.iter().map(|part| on_cycle(*part)));
+            trails_of(&mut rng, &mut beside, &tabulation, words, &keys)
+        };
+        let found = trails(&words, &asked);
+        let cycle: Vec<Vec<u32>> = asked.iter().map(|part| up_the_cycle(*part, all)).collect();
         assert_eq!(found, cycle, "the cycle of {all} keys");
         assert_eq!(found.iter().map(Vec::len).max(), Some(all as usize));
+        let cycled = words.clone();
+
+        assert_eq!(change(Remove, &tabulation, &mut words, on_cycle(all)), 0);
+        let asked = some_parts(all - 1);
+        let found = trails(&words, &asked);
+        let path: Vec<Vec<u32>> = asked.iter().map(|part| down_the_path(*part)).collect();
+        assert_eq!(found, path, "the path of {} keys", all - 1);
+
         let scratch = random_words(&mut rng, scratch_length(r, s));
         let short = random_words(&mut rng, all as usize - 1);
-        assert_eq!(beside.trail(&tabulation, &words, &scratch, 2, &short), (11, vec![]));
-
-        assert_eq!(change(Remove, &tabulation, &mut words, all), 0);
-        let asked = some_keys(all - 1);
-        let found = trails_of(&mut rng, &mut beside, &tabulation, &words, &asked);
-        let path: Vec<Vec<u32>> = asked.iter().map(|key| down_the_path(*key)).collect();
-        assert_eq!(found, path, "the path of {} keys", all - 1);
-        let short = &short[1..];
-        assert_eq!(beside.trail(&tabulation, &words, &scratch, all - 1, short), (11, vec![]));
+        for (words, part, short) in [(&cycled, 2, &short[..]), (&words, all - 1, &short[1..])] {
+            let refused = beside.trail(&tabulation, words, &scratch, on_cycle(part), short);
+            assert_eq!(refused, (11, vec![]), "{part} of {all}");
+        }
     }
     println!("{} trails through all slots, the longest of 2,048 keys", beside.calls());
 }
@@ -831,6 +903,46 @@ fn the_same_keys_with_other_tiers() {
     }
     println!("{sets} pairs of sets; tiers that differ: {both} of a key in both slots, {single} in one, {stashed} in the stash");
     assert!(sets > 500 && both > 100 && single > 100 && stashed > 20);
+}
+
+/// Other issues of the same keys, at the same tiers: the words are the same but for the names of the keys, by a way of
+/// their own, and when one issue after the other is removed and replaced. So are the trails.
+#[test]
+fn other_issues_of_the_same_keys() {
+    let mut rng = Rng::new(59);
+    let mut beside = Beside::new();
+    let mut times: BTreeMap<Seat, u32> = BTreeMap::new();
+    for round in 1..1_500 {
+        let Some((laid, tabulation, keys)) = fitting_set(&mut rng, round) else { continue };
+        let members = random_tiers(&mut rng, &keys);
+        let others: Vec<u32> = keys.iter().map(|key| random_issue(&mut rng, *key)).collect();
+        let names: Vec<(u32, u32)> = keys.iter().copied().zip(others.iter().copied()).collect();
+        let with_tiers: Vec<Member> =
+            members.iter().map(|(key, tier)| (name_of(&names, *key), *tier)).collect();
+        let strangers = strangers_to(&mut rng, &keys);
+        let mut one = way_to(&mut rng, &tabulation, laid, &members, &strangers);
+        let two = way_to(&mut rng, &tabulation, laid, &with_tiers, &strangers);
+        assert_eq!(two, renamed(&one, &names), "{members:?} and {others:?}");
+        let mut trails = trails_of(&mut rng, &mut beside, &tabulation, &one, &keys);
+        trails.iter_mut().flatten().for_each(|key| *key = name_of(&names, *key));
+        let of_others = trails_of(&mut rng, &mut beside, &tabulation, &two, &others);
+        assert_eq!(of_others, trails, "{members:?} and {others:?}");
+        for (key, tier) in members {
+            let other = name_of(&names, key);
+            if other == key {
+                continue;
+            }
+            *times.entry(seat(&one, key)).or_default() += 1;
+            assert_eq!(change(Insert(tier), &tabulation, &mut one, other), 13, "{other} for {key}");
+            assert_eq!(change(Remove, &tabulation, &mut one, other), 7, "{other} for {key}");
+            assert_eq!(change(Remove, &tabulation, &mut one, key), 0, "{other} for {key}");
+            assert_eq!(change(Insert(tier), &tabulation, &mut one, other), 0, "{other} for {key}");
+        }
+        assert_eq!(one, two, "one after the other is not all at once");
+    }
+    println!("keys that were replaced, by their seats: {times:?}");
+    assert_eq!(times.len(), 4);
+    assert!(times.values().all(|times| *times > 100));
 }
 
 /// All eight steps 0, but for that of one tier.
@@ -882,7 +994,7 @@ const LIMITS: [(u32, i32, Result<u32, u32>); 29] = [
 #[test]
 fn prices_at_their_limits() {
     let mut beside = Beside::new();
-    let members: Vec<Member> = (0..8).map(|tier| (1_000 + tier, tier)).collect();
+    let members: Vec<Member> = (0..8).map(|tier| (1_000 + 11 * tier, tier)).collect();
     let words = image(&HOUSE, 8, 8, 77, &members).expect("they fit");
     for (key, tier) in members {
         let mut price = |base, steps: &[i32]| {
@@ -979,7 +1091,8 @@ fn sales_leave_no_trace() {
         let keys = random_keys(&mut rng, 12);
         let mut change = || {
             let way = if rng.one_in(3) { Remove } else { Insert(any_tier(&mut rng)) };
-            (way, rng.pick(&keys))
+            let key = rng.pick(&keys);
+            (way, if rng.one_in(4) { random_issue(&mut rng, key) } else { key })
         };
         let changes: Vec<(Change, u32)> = (0..40).map(|_| change()).collect();
         till.open.clear();
@@ -994,11 +1107,11 @@ fn sales_leave_no_trace() {
     assert!(done > 20_000 && opened > 20_000 && refused > 20_000 && closed > 10_000);
 }
 
-/// A set of `count` keys of any size, ascending.
+/// A set of about `count` keys of any size, ascending.
 fn any_keys(rng: &mut Rng, count: usize) -> Vec<u32> {
-    let mut keys: Vec<u32> = (0..count).map(|_| rng.next_u32().max(1)).collect();
+    let mut keys: Vec<u32> = (0..count).map(|_| any_key(rng)).collect();
     keys.sort_unstable();
-    keys.dedup();
+    keys.dedup_by_key(|key| first_part(*key));
     keys
 }
 
@@ -1042,7 +1155,7 @@ fn sets_of_all_sizes_and_loads() {
         let asked: Vec<u32> = keys.iter().copied().step_by(1 + count / 4).collect();
         trails_of(&mut rng, &mut beside, &tabulation, &words, &asked);
         for _ in 0..3 {
-            let (key, tier) = (rng.next_u32().max(1), random_tier(&mut rng));
+            let (key, tier) = (any_key(&mut rng), random_tier(&mut rng));
             beside.change(Insert(tier), &tabulation, &mut words, &scratch, &mut counters, key);
         }
         if let Some(key) = keys.first() {
@@ -1080,13 +1193,52 @@ fn word_at(words: &[u32], at: usize) -> (Word, u32) {
     }
 }
 
-/// Whether a key stands in two slots of sound words: it is the smallest of a tree.
-fn stands_twice(words: &[u32], key: u32) -> bool {
-    let slots = words[HEADER_LENGTH..][..6 * words[0] as usize].chunks_exact(3);
-    key != 0 && slots.filter(|slot| slot[0] == key).count() == 2
+/// Where a key stands in sound words.
+#[derive(Clone, Copy, Debug, PartialEq, Eq, PartialOrd, Ord)]
+enum Seat {
+    Table0,
+    Table1,
+    /// In both its slots: it is the smallest of a tree.
+    Both,
+    Stash,
 }
 
-/// The answer of a trail as check gives it: 5, 7 and 11 are tried behind all that check can answer.
+/// Where a key of the set stands.
+fn seat(words: &[u32], key: u32) -> Seat {
+    let r = words[0] as usize;
+    let here = entries(words).enumerate().filter(|(_, (listed, ..))| *listed == key);
+    match here.map(|(at, _)| at).collect::<Vec<usize>>()[..] {
+        [_, _] => Seat::Both,
+        [at] if at < r => Seat::Table0,
+        [at] if at < 2 * r => Seat::Table1,
+        [_] => Seat::Stash,
+        _ => panic!("{key} does not stand in {words:?} once or twice"),
+    }
+}
+
+/// Whether a key, if any, stands in two slots of sound words.
+fn stands_twice(words: &[u32], key: u32) -> bool {
+    key != 0 && seat(words, key) == Seat::Both
+}
+
+/// Some keys, each with the name that it gets.
+type Names = [(u32, u32)];
+
+/// The new name of a key; one that gets none keeps its own.
+fn name_of(names: &Names, key: u32) -> u32 {
+    names.iter().find(|(old, _)| *old == key).map_or(key, |(_, new)| *new)
+}
+
+/// The words with their keys renamed, wherever one stands as a key or as a next number.
+fn renamed(words: &[u32], names: &Names) -> Vec<u32> {
+    let word = |at| match word_at(words, at).0 {
+        Word::Key | Word::Next | Word::StashKey => name_of(names, words[at]),
+        _ => words[at],
+    };
+    (0..words.len()).map(word).collect()
+}
+
+/// The answer of insert, remove or trail as check gives it: all others are tried behind what check can answer.
 fn as_check(answer: u32) -> u32 {
     if answer > 4 {
         0
@@ -1095,7 +1247,33 @@ fn as_check(answer: u32) -> u32 {
     }
 }
 
-/// The answer of an opening on words that may be damaged, and of which check answers this: beyond a wrong shape only the tier counts that a lookup finds.
+/// What check answers; an insert, a removal and a trail of each of these keys must answer the same, if that is a
+/// refusal, and the words stay.
+fn judged(
+    rng: &mut Rng,
+    beside: &mut Beside,
+    tabulation: &[u16],
+    words: &[u32],
+    keys: &[u32],
+) -> u32 {
+    let scratch = random_words(rng, scratch_length(words[0], words[1]));
+    let answer = beside.check(tabulation, words, &scratch);
+    for key in keys {
+        for way in [Insert(any_tier(rng)), Insert(8), Remove] {
+            let (mut copy, mut counters) = (words.to_vec(), Counters::default());
+            let got = beside.change(way, tabulation, &mut copy, &scratch, &mut counters, *key);
+            assert_eq!(as_check(got), answer, "{way:?} of {key} on {words:?}");
+            assert!(answer == 0 || copy == words, "{way:?} of {key} changed {words:?}");
+        }
+        let sheet = random_words(rng, 2 * words[0] as usize);
+        let (traced, _) = beside.trail(tabulation, words, &scratch, *key, &sheet);
+        assert_eq!(as_check(traced), answer, "trail of {key} in {words:?}");
+    }
+    answer
+}
+
+/// The answer of an opening on words that may be damaged, and of which check answers this: beyond a wrong shape only
+/// the tier counts that a lookup finds.
 fn damaged_sale(
     beside: &mut Beside,
     tabulation: &[u16],
@@ -1104,18 +1282,19 @@ fn damaged_sale(
     checked: u32,
 ) -> u32 {
     let mut open = |key| beside.open(tabulation, words, key, BASE, &STEPS);
+    let sales = [key, 0, 9].map(&mut open);
     if checked == 2 {
-        assert_eq!([open(key), open(0)], [(2, None); 2], "{words:?}");
+        assert_eq!(sales, [(2, None); 3], "{words:?}");
         return 2;
     }
     let tier = copies(tabulation, words, key).first().copied();
-    assert_eq!([open(key), open(0)], [sale_at(key, tier), (5, None)], "{key} in {words:?}");
+    assert_eq!(sales, [sale_at(key, tier), (5, None), (5, None)], "{key} in {words:?}");
     sale_at(key, tier).0
 }
 
-/// Each word of 300 small images changed to eleven values: 2 for words 0 and 1 and for a station above 255, and otherwise as the reference says. Every kind of
-/// word, of filled and of empty slots and places, must be found out, by check and by trail, of a key of the set and of none. A sale finds out the tier of its
-/// key alone.
+/// Each word of 300 small images changed to thirteen values: 2 for words 0 and 1 and for a station above 255, and
+/// otherwise as the reference says. Every kind of word, of filled and of empty slots and places, must be found out, by
+/// check and by trail, of a key of the set and of none. A sale finds out the tier of its key alone.
 #[test]
 fn damages_of_one_word() {
     let mut rng = Rng::new(46);
@@ -1134,16 +1313,16 @@ fn damages_of_one_word() {
         };
         let scratch = vec![5; scratch_length(r, s)];
         for at in 0..sound.len() {
-            let first = keys.first().copied().unwrap_or(9);
+            let first = keys.first().copied().unwrap_or(90);
             let (word, key) = word_at(&sound, at);
-            let small = [0, 1, 7, 8, 255, 256];
+            let small = [0, 1, 7, 8, 9, 10, 255, 256];
             let near = [first, sound[at] ^ 1, sound[at].wrapping_add(1)];
             for value in small.into_iter().chain(near).chain([sound[at] ^ 256, u32::MAX]) {
                 let mut words = sound.clone();
                 words[at] = value;
                 let answer = beside.check(&tabulation, &words, &scratch);
                 let sheet = random_words(&mut rng, 2 * r as usize);
-                for asked in [first, 0] {
+                for asked in [first, at as u32 % 10] {
                     let (traced, _) = beside.trail(&tabulation, &words, &scratch, asked, &sheet);
                     assert_eq!(as_check(traced), answer, "trail of {asked}, {value} at {at}");
                 }
@@ -1220,7 +1399,7 @@ fn damages_of_a_tier() {
                     assert_eq!(opened, sale_at(key, Some(first)), "{why}: {words:?}");
                     *sales.entry((why, opened.0)).or_default() += 1;
                 }
-                let asked = keys.first().copied().unwrap_or(9);
+                let asked = keys.first().copied().unwrap_or(90);
                 for way in [Insert(value), Insert(0), Remove] {
                     let mut words = words.clone();
                     let got =
@@ -1276,7 +1455,7 @@ fn damages_of_the_station() {
             let short = beside.check(&tabulation, &words, &scratch[1..]);
             assert_eq!(short, if answer == 2 { 2 } else { 3 }, "{value}");
             assert_eq!(beside.stash(&words), if answer == 2 { 2 } else { 0 }, "{value}");
-            for key in keys.iter().copied().chain([0]) {
+            for key in keys.iter().copied().chain([0, 9]) {
                 for way in [Insert(0), Insert(8), Remove] {
                     let mut words = words.clone();
                     let got =
@@ -1291,12 +1470,12 @@ fn damages_of_the_station() {
                 let opened = beside.open(&tabulation, &words, key, BASE, &STEPS);
                 let tier = match answer {
                     2 => Err(2),
-                    _ if key == 0 => Err(5),
+                    _ if is_blank(key) => Err(5),
                     _ => Ok(copies(&tabulation, &words, key).first().copied()),
                 };
                 assert_eq!(found, tier.map_or_else(|n| (n, None), |tier| (0, tier)), "{key}");
                 assert_eq!(opened, tier.map_or_else(|n| (n, None), |tier| sale_at(key, tier)));
-                if key != 0 {
+                if !is_blank(key) {
                     *times.entry((answer, opened.0)).or_default() += 1;
                 }
             }
@@ -1317,6 +1496,153 @@ fn damages_of_the_station() {
     for kind in on_words {
         assert!(beside.refused_stations(kind) > 2_000, "{kind:?} was seldom asked");
     }
+}
+
+/// Each key and next number of many small images changed to each other issue and to each number from 1 to 9, in empty
+/// slots and places, too: 4. Only a stashed key, to which no next number points, can be another issue: that is the
+/// image of the set with the other issue. No lookup and no sale knows a number below 10, wherever it stands.
+#[test]
+fn damages_of_an_issue() {
+    let mut rng = Rng::new(56);
+    let mut beside = Beside::new();
+    let mut times: BTreeMap<(Word, bool, &str), u32> = BTreeMap::new();
+    for _ in 0..150 {
+        let (r, s) = (1 + rng.below(3) as u32, rng.below(4) as u32);
+        let tabulation = narrow_tabulation(&mut rng);
+        let count = rng.below(7);
+        let keys = random_keys(&mut rng, count);
+        let laid = [r, s, random_station(&mut rng)];
+        let Some(sound) = image_of(&tabulation, laid, &random_tiers(&mut rng, &keys)) else {
+            continue;
+        };
+        let first = keys.first().copied().unwrap_or(90);
+        for at in 0..sound.len() {
+            let (word, key) = word_at(&sound, at);
+            if !matches!(word, Word::Key | Word::Next | Word::StashKey) {
+                continue;
+            }
+            let others = issues(sound[at]).filter(|issue| *issue != sound[at] && !is_blank(*issue));
+            for value in (1..10).chain(others) {
+                let (answer, why) = match word {
+                    _ if is_blank(value) => (4, "below 10"),
+                    Word::StashKey => (0, "another set"),
+                    _ => (4, "another issue"),
+                };
+                let mut words = sound.clone();
+                words[at] = value;
+                let got = judged(&mut rng, &mut beside, &tabulation, &words, &[value, 90]);
+                assert_eq!(got, answer, "{value} at {at}, {why}: {words:?}");
+                damaged_sale(&mut beside, &tabulation, &words, first, got);
+                if is_blank(value) {
+                    assert_eq!(beside.lookup(&tabulation, &words, value), (5, None), "{words:?}");
+                }
+                *times.entry((word, key != 0, why)).or_default() += 1;
+            }
+        }
+    }
+    println!("changed keys, in filled places and in empty ones: {times:?}");
+    // Below 10 in all six; another issue where one stood, as a key and as a next number; another set in the stash.
+    assert_eq!(times.len(), 9);
+    assert!(times.values().all(|times| *times > 200));
+}
+
+/// Two issues of one first part, seated as neatly as two keys with the same slots are: sound words with two such keys,
+/// neighbours in the order of the set, of which one is renamed to an issue of the other. Nothing else is wrong, and
+/// every call that asks for an image answers 4, with both as they stand, and with their seats exchanged. A lookup finds
+/// both, and no third issue.
+#[test]
+fn two_issues_of_one_first_part() {
+    let mut rng = Rng::new(57);
+    let mut beside = Beside::new();
+    let mut times: BTreeMap<(Seat, Seat), u32> = BTreeMap::new();
+    for _ in 0..5_000 {
+        let laid = [1 + rng.below(3) as u32, rng.below(5) as u32, random_station(&mut rng)];
+        let tabulation = narrow_tabulation(&mut rng);
+        let count = 2 + rng.below(6);
+        let keys = random_keys(&mut rng, count);
+        let members = random_tiers(&mut rng, &keys);
+        let Some(sound) = image_of(&tabulation, laid, &members) else { continue };
+        for pair in members.windows(2) {
+            let [(low, low_tier), (high, high_tier)] = [pair[0], pair[1]];
+            let [low_slots, high_slots] =
+                [low, high].map(|key| hashes(&tabulation, laid[0], laid[2], key));
+            let Some((smaller, larger)) = neighbours(&mut rng, low, high) else { continue };
+            if low_slots != high_slots {
+                continue;
+            }
+            let words = renamed(&sound, &[(low, smaller), (high, larger)]);
+            let third = other_issue(&mut rng, smaller);
+            let asked = [smaller, larger, third, keys[0]];
+            assert_eq!(judged(&mut rng, &mut beside, &tabulation, &words, &asked), 4, "{words:?}");
+            let found = [smaller, larger].map(|key| beside.lookup(&tabulation, &words, key));
+            assert_eq!(found, [(0, Some(low_tier)), (0, Some(high_tier))], "{words:?}");
+            if third != larger {
+                assert_eq!(beside.lookup(&tabulation, &words, third), (0, None), "{words:?}");
+                assert_eq!(beside.open(&tabulation, &words, third, BASE, &STEPS), (7, None));
+            }
+            let exchanged = renamed(&words, &[(smaller, larger), (larger, smaller)]);
+            assert_eq!(judged(&mut rng, &mut beside, &tabulation, &exchanged, &asked), 4);
+            *times.entry((seat(&words, smaller), seat(&words, larger))).or_default() += 1;
+        }
+    }
+    println!("two issues, by the seats of the smaller and of the larger: {times:?}");
+    // Two seated keys with the same slots are a cycle; otherwise the larger is stashed, or both are.
+    let [first, second, stash] = [Seat::Table0, Seat::Table1, Seat::Stash];
+    let expected = [(first, second), (first, stash), (second, stash), (stash, stash)];
+    assert_eq!(Vec::from_iter(times.keys().copied()), expected);
+    assert!(times.values().all(|times| *times > 50));
+}
+
+/// Two keys renamed to issues of one first part, one of them to an issue of the other, in their order; if there is one.
+fn neighbours(rng: &mut Rng, low: u32, high: u32) -> Option<(u32, u32)> {
+    let above = issues(low).filter(|issue| *issue > low).map(|issue| (low, issue));
+    let below = issues(high).filter(|issue| *issue < high).map(|issue| (issue, high));
+    let names: Vec<(u32, u32)> = above.chain(below).collect();
+    (!names.is_empty()).then(|| rng.pick(&names))
+}
+
+/// The slots that a number below 10 would have: the bytes of its first part are zeros.
+fn slots_of_none(tabulation: &[u16], r: u32, station: u32) -> [u32; 2] {
+    let entries = [0, 256, 512, 768, 1_024 + station as usize];
+    [0, HALF_LEN]
+        .map(|half| entries.map(|at| u32::from(tabulation[half + at])).iter().sum::<u32>() % r)
+}
+
+/// Keys below 10, seated as neatly as keys with their slots are: the smallest keys of sound words, as far as they have
+/// the slots that a number below 10 would have, are renamed to such numbers. Every call that asks for an image answers
+/// 4, and a lookup and a sale of such a number 5, though it stands where they look.
+#[test]
+fn keys_without_a_first_part() {
+    let mut rng = Rng::new(58);
+    let mut beside = Beside::new();
+    let mut times: BTreeMap<Seat, u32> = BTreeMap::new();
+    for _ in 0..3_000 {
+        let laid = [1 + rng.below(3) as u32, rng.below(4) as u32, random_station(&mut rng)];
+        let [r, _, station] = laid;
+        let tabulation = narrow_tabulation(&mut rng);
+        let count = 1 + rng.below(6);
+        let keys = random_keys(&mut rng, count);
+        let Some(sound) = image_of(&tabulation, laid, &random_tiers(&mut rng, &keys)) else {
+            continue;
+        };
+        let of_none = slots_of_none(&tabulation, r, station);
+        let is_alike = |key: &u32| hashes(&tabulation, r, station, *key) == Ok(of_none);
+        let alike = keys.iter().copied().take_while(is_alike);
+        let first = 1 + rng.below(10 - alike.clone().count()) as u32;
+        let names: Vec<(u32, u32)> = alike.zip(first..).collect();
+        let words = renamed(&sound, &names);
+        for (key, name) in names {
+            let got = judged(&mut rng, &mut beside, &tabulation, &words, &[name, 90]);
+            assert_eq!(got, 4, "{words:?}");
+            assert_eq!(beside.lookup(&tabulation, &words, name), (5, None), "{words:?}");
+            let sale = beside.open(&tabulation, &words, name, BASE, &STEPS);
+            assert_eq!(sale, (5, None), "{words:?}");
+            *times.entry(seat(&sound, key)).or_default() += 1;
+        }
+    }
+    println!("keys below 10, by their seats: {times:?}");
+    assert_eq!(times.len(), 4);
+    assert!(times.values().all(|times| *times > 50));
 }
 
 /// The tier words of all copies of a key that a lookup can meet, in word order: in its slot of table 0, in its slot of table 1, in the stash places.
@@ -1343,7 +1669,12 @@ fn random_memory() {
         let keys = random_keys(&mut rng, 6);
         let mut words = vec![r, s];
         while words.len() < words_length(r, s) {
-            words.push(if rng.one_in(2) { rng.pick(&keys) } else { rng.below(4) as u32 });
+            let key = rng.pick(&keys);
+            words.push(match rng.below(8) {
+                0 => random_issue(&mut rng, key),
+                1..=4 => key,
+                _ => rng.below(10) as u32,
+            });
         }
         words[4] = random_station(&mut rng);
         let any_length = round % 4 == 0;
