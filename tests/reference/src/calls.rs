@@ -198,8 +198,8 @@ fn set_with_listed(
 
 /// The words after an insert, or its refusal.
 ///
-/// A set has one issue of a first part. So 13 is never due together with 10 or 6, and it is the
-/// order before 8 alone that shows.
+/// A set has one issue of a first part. So 13 is never due together with 10 or 6, and its place in
+/// the order shows only against 9 before it and 8 after it.
 fn with_key(
     engine: &impl Engine,
     tabulation: &[u16],
