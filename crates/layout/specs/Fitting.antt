@@ -11,8 +11,11 @@ use lib.Dec.{eqb}
 use lib.ListN.{length}
 use Rattle.basics.specs.Tests.{test}
 use Rattle.basics.specs.Sets.{without, Sub, Asc, some, out-in, asc-out}
+use Rattle.cuckoo.specs.Seating.{from-a}
+use Rattle.cuckoo.specs.Cycles.{Cycle, keys, cycle-of-two}
 use Rattle.cuckoo.specs.Placement.{Place, slot, MaySit, table-0, table-1, Placement, fits-placed, placed-fits, fits-bound, subset-fits}
-use Rattle.tabulation.specs.Hash.{Family}
+use Rattle.tabulation.specs.Hash.{Family, first-part}
+use Rattle.tabulation.specs.Issues.{issues-slots}
 use Rattle.tabulation.specs.Slots.{slot-0, slot-1, slot-0-lt, slot-1-lt, slots-apart}
 use Rattle.layout.specs.Layout.{Params, family, ValidKeys, fits}
 use Rattle.layout.specs.Image.{fits-le, le-fits}
@@ -50,6 +53,13 @@ pub fits-length : (P : Params) {S : List ℕ} → Asc S → 0 < P .slots → fit
 fits-length P {S} asc has-slots e =
     fits-bound (slot-0 (family P)) (slot-1 (family P)) asc (P .slots + P .slots)
     (λ c i. omega (arith, slot-0-lt (family P) has-slots c)) (λ c i. slot-1-lt (family P) has-slots c) (fits-le P S e)
+
+-- "Two cards with the same two places form a loop of two": so would two issues of one first part.
+pub issues-cycle : (P : Params) {S : List ℕ} (c d : ℕ) → In c S → In d S → first-part c ≡ first-part d → (c ≡ d → ⊥)
+    → (γ : Cycle (slot-0 (family P)) (slot-1 (family P)) S) × (keys (slot-0 (family P)) (slot-1 (family P)) γ ≡ c ∷ d ∷ [])
+issues-cycle P c d i j q n =
+    let same = issues-slots (family P) c d q in
+    cycle-of-two n i j (from-a refl refl) (from-a (same .0) (same .1))
 
 -- Two keys always fit, one in table 0 and the other in table 1: two issues of one first part, too, which have the same two slots.
 pub pair-fits : (P : Params) (c d : ℕ) → 0 < P .slots → ValidKeys (c ∷ d ∷ []) → fits P (c ∷ d ∷ []) ≡ true
