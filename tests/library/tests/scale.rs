@@ -589,7 +589,8 @@ fn extreme_tabulations() {
         };
         let scratch = vec![u32::MAX; scratch_length(r, s)];
         let mut words = fresh(r, s, random_station(&mut rng));
-        for key in [u32::MAX, 0x00FF_00FF, any_key(&mut rng), 10, any_key(&mut rng), 19] {
+        let strangers = [any_key(&mut rng), any_key(&mut rng)];
+        for key in [u32::MAX, 0x00FF_00FF, 10, 19, 4_294_967_290].into_iter().chain(strangers) {
             let tier = random_tier(&mut rng);
             beside.change(Insert(tier), &tabulation, &mut words, &scratch, &mut counters, key);
             let (_, tier) = beside.lookup(&tabulation, &words, key);
