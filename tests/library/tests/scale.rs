@@ -90,6 +90,26 @@ fn trail_length(tabulation: &[u16], [r, s, station]: Laid, members: &[Member], k
     Fast.trail(tabulation, r, s, station, members, key).map_or(0, |trail| trail.len())
 }
 
+/// The image of a random set on a small board that crowds its keys, with what it was made from.
+struct Small {
+    r: u32,
+    s: u32,
+    tabulation: Vec<u16>,
+    keys: Vec<u32>,
+    words: Vec<u32>,
+}
+
+/// Such an image, with up to so many slots, and fewer than so many places and keys; none where the set does not fit.
+fn random_image(rng: &mut Rng, [slots, places, most]: [usize; 3]) -> Option<Small> {
+    let (r, s) = (1 + rng.below(slots) as u32, rng.below(places) as u32);
+    let tabulation = narrow_tabulation(rng);
+    let count = rng.below(most);
+    let keys = random_keys(rng, count);
+    let laid = [r, s, random_station(rng)];
+    let words = image_of(&tabulation, laid, &random_tiers(rng, &keys))?;
+    Some(Small { r, s, tabulation, keys, words })
+}
+
 /// The image of a set, by the reference.
 fn image_of(tabulation: &[u16], [r, s, station]: Laid, members: &[Member]) -> Option<Vec<u32>> {
     image(tabulation, r, s, station, members)
@@ -1304,12 +1324,7 @@ fn damages_of_one_word() {
     let mut sales: BTreeMap<(u32, Word, u32), u32> = BTreeMap::new();
     let (mut another, mut another_station) = (0, 0);
     for _ in 0..300 {
-        let (r, s) = (1 + rng.below(4) as u32, rng.below(3) as u32);
-        let tabulation = narrow_tabulation(&mut rng);
-        let count = rng.below(6);
-        let keys = random_keys(&mut rng, count);
-        let laid = [r, s, random_station(&mut rng)];
-        let Some(sound) = image_of(&tabulation, laid, &random_tiers(&mut rng, &keys)) else {
+        let Some(Small { r, s, tabulation, keys, words: sound }) = random_image(&mut rng, [4, 3, 6]) else {
             continue;
         };
         let scratch = vec![5; scratch_length(r, s)];
@@ -1367,12 +1382,7 @@ fn damages_of_a_tier() {
     let mut times: BTreeMap<(Word, &str), u32> = BTreeMap::new();
     let mut sales: BTreeMap<(&str, u32), u32> = BTreeMap::new();
     for _ in 0..400 {
-        let (r, s) = (1 + rng.below(4) as u32, rng.below(4) as u32);
-        let tabulation = narrow_tabulation(&mut rng);
-        let count = rng.below(7);
-        let keys = random_keys(&mut rng, count);
-        let laid = [r, s, random_station(&mut rng)];
-        let Some(sound) = image_of(&tabulation, laid, &random_tiers(&mut rng, &keys)) else {
+        let Some(Small { r, s, tabulation, keys, words: sound }) = random_image(&mut rng, [4, 4, 7]) else {
             continue;
         };
         let scratch = vec![5; scratch_length(r, s)];
@@ -1508,12 +1518,7 @@ fn damages_of_an_issue() {
     let mut beside = Beside::new();
     let mut times: BTreeMap<(Word, bool, &str), u32> = BTreeMap::new();
     for _ in 0..150 {
-        let (r, s) = (1 + rng.below(3) as u32, rng.below(4) as u32);
-        let tabulation = narrow_tabulation(&mut rng);
-        let count = rng.below(7);
-        let keys = random_keys(&mut rng, count);
-        let laid = [r, s, random_station(&mut rng)];
-        let Some(sound) = image_of(&tabulation, laid, &random_tiers(&mut rng, &keys)) else {
+        let Some(Small { tabulation, keys, words: sound, .. }) = random_image(&mut rng, [3, 4, 7]) else {
             continue;
         };
         let first = keys.first().copied().unwrap_or(90);
