@@ -1,24 +1,37 @@
 # The commands of this repository. See README.md.
 
-.PHONY: run test quick bench clean
+.PHONY: run lib test quick bench clean
 
 # Builds the console and the house book, and shows two heads with different pasts and one list.
 run:
-	@echo 'proving and building the console; the first time takes some minutes'
-	@rt check console house_book >/dev/null
+	@scripts/need rt
+	@echo 'Building the console and the house book. Nothing is built that is not proved, so all that they are made of is proved first:'
+	@echo 'some minutes the first time, nothing later.'
+	@scripts/prove console house_book
 	@sample/run
+
+# Both libraries, their headers and the Rust crate, in target/lib.
+lib:
+	@scripts/need rt sha256sum strings
+	@echo 'Building the libraries. Nothing is built that is not proved, so all that they are made of is proved first: some minutes'
+	@echo 'the first time, nothing later.'
+	@scripts/prove tabulation pinorange
+	@scripts/lib
 
 # Everything, from nothing: the layout, every proof, every must-fail edit, the programs, the Rust tests and the C tests. The last
 # line is 'N passed, M failed'; the exit status is 0 only when M is 0.
 test:
+	@scripts/need rt cargo gcc valgrind
 	@tests/run
 
 # The same without removing what is proved already, and without the must-fail edits.
 quick:
+	@scripts/need rt cargo gcc valgrind
 	@tests/run --quick
 
 # Instructions and times of the library against two Rust twins: the tables of docs/BENCHMARKS.md and docs/costs.svg, in some minutes. No time is asserted, but all must give the same.
 bench:
+	@scripts/need rt cargo valgrind
 	@tests/bench/run
 
 clean:

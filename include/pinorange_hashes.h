@@ -13,8 +13,12 @@
 extern "C" {
 #endif
 
-/* The version of the library and of the layout of the words. Heads whose first numbers differ must not be mixed: see CHANGELOG.md. */
-#define PINORANGE_VERSION "4.0.0"
+/* The version of the library and of the layout of the words: the text, and its three numbers for #if. Words are read by libraries with the same first number alone: lay
+ * a list afresh when it changes, and do not mix heads whose first numbers differ. CHANGELOG.md says what each version changes. */
+#define PINORANGE_VERSION "4.1.0"
+#define PINORANGE_VERSION_MAJOR 4
+#define PINORANGE_VERSION_MINOR 1
+#define PINORANGE_VERSION_PATCH 0
 
 /* The numbers that a call answers. */
 #define PINORANGE_DONE 0u             /* accepted */
@@ -37,7 +41,10 @@ extern "C" {
  *   key's first part, of entry 1280 k + 256 i + bi, and of entry 1280 k + 1024 + ((b0 + station) modulo 256); all of it modulo r.
  * Refused (1, 2 or 5, tried in that order): `*table0` and `*table1` stay as they were.
  * The tabulation is never written. No pointer may be null (a length of 0 needs one, too), all are aligned, and `table0` and `table1` lie apart from
- * each other and from the tabulation. */
+ * each other and from the tabulation.
+ *
+ * Which tabulation: the one that the heads have. Unless the station has its own, that is the house tabulation: entry i, for i from 0 to 2,559, is
+ * (25,173 * i * i + 13,849) modulo 65,521. The product takes more than 32 bits: work it out in uint64_t. README.md ("A till") has it in C. */
 uint32_t pinorange_hashes(const uint16_t *tabulation, size_t length, uint32_t r, uint32_t station, uint32_t key,
                           uint32_t *table0, uint32_t *table1);
 

@@ -3,6 +3,7 @@
 
 pub mod beside;
 pub mod guarded;
+pub mod room;
 mod issues;
 
 use reference::hash::MAX_R;

@@ -1,0 +1,172 @@
+//! The figures that README.md gives a planner, measured anew: how many cards fit, and which changes of a single bit a
+//! check lets pass. README must have them word for word.
+
+use std::collections::BTreeSet;
+
+use library::room::Room;
+use library::Change::Insert;
+use library::{change, check, fresh, hashes, house, scratch_length, HEADER_LENGTH};
+use reference::rng::Rng;
+use reference::samples::random_station;
+
+const README: &str = include_str!("../../../README.md");
+
+/// Prints the lines, and asserts that README has each of them.
+fn readme_has(lines: &[String]) {
+    println!("{}", lines.join("\n"));
+    for line in lines {
+        assert!(README.contains(line.as_str()), "README.md lacks: {line}");
+    }
+}
+
+fn house_tabulation() -> Vec<u16> {
+    let mut tabulation = vec![0; 2_560];
+    assert_eq!(house(&mut tabulation), 0);
+    tabulation
+}
+
+/// Random cards, each with another first part, with no end.
+struct Cards {
+    rng: Rng,
+    seen: BTreeSet<u32>,
+}
+
+impl Cards {
+    fn new(seed: u64) -> Cards {
+        Cards { rng: Rng::new(seed), seen: BTreeSet::new() }
+    }
+}
+
+impl Iterator for Cards {
+    type Item = u32;
+
+    fn next(&mut self) -> Option<u32> {
+        loop {
+            let card = self.rng.next_u32();
+            if card >= 10 && self.seen.insert(card / 10) {
+                return Some(card);
+            }
+        }
+    }
+}
+
+/// How many of these cards are listed before the first that has no placement, by counting alone.
+fn fitting(tabulation: &[u16], r: u32, s: u32, station: u32, cards: Cards) -> usize {
+    let mut room = Room::new(2 * r as usize, s as usize);
+    let fits = |card: &u32| {
+        let (answer, [first, second]) = hashes(tabulation, r, station, *card, [0, 0]);
+        assert_eq!(answer, 0);
+        room.add(first as usize, (r + second) as usize)
+    };
+    cards.take_while(fits).count()
+}
+
+/// The same by the library: accepted inserts up to the first 8.
+fn accepted(tabulation: &[u16], r: u32, s: u32, station: u32, cards: Cards) -> usize {
+    let mut words = fresh(r, s, station);
+    let answers = cards.map(|card| change(Insert(card % 8), tabulation, &mut words, card));
+    let mut count = 0;
+    for answer in answers {
+        match answer {
+            0 => count += 1,
+            8 => break,
+            other => panic!("an insert of a new card answered {other}"),
+        }
+    }
+    count
+}
+
+/// Random cards under the house book at random stations, 1,000 lists of each size: how many are listed when the first
+/// add is refused for want of room. The first lists of each size are made by the library, too, card by card.
+#[test]
+fn how_many_cards_fit() {
+    const LISTS: usize = 1_000;
+    let tabulation = house_tabulation();
+    let sizes: [(u32, u32); 8] =
+        [(16, 4), (64, 8), (128, 8), (256, 16), (512, 32), (1_024, 0), (1_024, 16), (1_024, 64)];
+    let row = |(r, s): (u32, u32)| {
+        let mut counts = Vec::new();
+        for list in 0..LISTS {
+            let seed = u64::from(r) << 32 | u64::from(s) << 16 | list as u64;
+            let station = random_station(&mut Rng::new(!seed));
+            let count = fitting(&tabulation, r, s, station, Cards::new(seed));
+            if list < 2 {
+                assert_eq!(accepted(&tabulation, r, s, station, Cards::new(seed)), count);
+            }
+            counts.push(count);
+        }
+        counts.sort_unstable();
+        let all = 2 * r + s;
+        let [least, one_in_100, median] = [0, LISTS / 100, LISTS / 2].map(|i| grouped(counts[i]));
+        let [r, all] = [r, all].map(|number| grouped(number as usize));
+        format!("| {r} | {s} | {all} | {least} | {one_in_100} | {median} |")
+    };
+    readme_has(&sizes.map(row));
+}
+
+/// A number as README writes it: 1,024.
+fn grouped(number: usize) -> String {
+    if number < 1_000 {
+        number.to_string()
+    } else {
+        format!("{},{:03}", number / 1_000, number % 1_000)
+    }
+}
+
+/// A list of as many cards as asked, of those that fit at r = 8 and s = 4, with random tiers.
+fn small_list(tabulation: &[u16], cards: usize, seed: u64) -> Vec<u32> {
+    let mut words = fresh(8, 4, 17);
+    let mut rng = Rng::new(seed);
+    for card in Cards::new(seed) {
+        change(Insert(rng.below(8) as u32), tabulation, &mut words, card);
+        if words[2] as usize == cards {
+            return words;
+        }
+    }
+    unreachable!("cards have no end")
+}
+
+/// Which words a bit of which can be turned without a check noticing, and how many such bits there are in slots' tiers,
+/// in the stash's keys and in its tiers. Any other word makes the test fail.
+fn unnoticed(tabulation: &[u16], words: &[u32]) -> [usize; 3] {
+    let mut scratch = vec![0; scratch_length(words[0], words[1])];
+    let stash = HEADER_LENGTH + 6 * words[0] as usize;
+    let mut counts = [0; 3];
+    for bit in 0..32 * words.len() {
+        let mut changed = words.to_vec();
+        let word = bit / 32;
+        changed[word] ^= 1 << (bit % 32);
+        if check(tabulation, &changed, &mut scratch) == 0 {
+            let kind = match word {
+                _ if word >= stash => 1 + (word - stash) % 2,
+                _ if word >= HEADER_LENGTH && (word - HEADER_LENGTH) % 3 == 2 => 0,
+                _ => panic!("a turned bit of word {word} passes the check"),
+            };
+            counts[kind] += 1;
+        }
+    }
+    counts
+}
+
+/// What 0 of a check does not say: full lists of 20 cards, and lists of 10 with an empty drawer, with each bit turned
+/// by itself.
+#[test]
+fn changes_that_a_check_lets_pass() {
+    let tabulation = house_tabulation();
+    let lists = |cards: usize| (1..=100).map(move |seed| small_list(&house_tabulation(), cards, seed));
+    let mut sums = [0; 3];
+    for words in lists(20) {
+        let counts = unnoticed(&tabulation, &words);
+        // Every slot is filled and no component is without a cycle, so that each tier stands once: three bits each.
+        assert_eq!((counts[0], counts[2]), (3 * 16, 3 * 4));
+        sums = [0, 1, 2].map(|i| sums[i] + counts[i]);
+    }
+    let [all, slots, places, keys] = [sums.iter().sum(), sums[0], sums[2], sums[1]].map(grouped);
+    readme_has(&[
+        format!("of 195,200 single bits {all} are not found"),
+        format!("{slots} in the tiers of pockets, {places} in those of the drawer, {keys} in the drawer's card numbers"),
+    ]);
+    let empty: Vec<Vec<u32>> = lists(10).filter(|words| words[3] == 0).collect();
+    let found: Vec<[usize; 3]> = empty.iter().map(|words| unnoticed(&tabulation, words)).collect();
+    assert!(empty.len() > 50 && found.iter().all(|counts| counts[1] == 0 && counts[2] == 0));
+}
