@@ -14,7 +14,7 @@ use crate::common::{first_part, is_blank};
 pub const PLACES: u32 = 64;
 
 /// The station of every case.
-const STATION: u32 = 37;
+pub const STATION: u32 = 37;
 
 /// How many sets of keys a case with random keys has where times are taken. They are taken in turn, so that no processor learns one of them by heart: a head's list is
 /// another one at every call.
@@ -31,6 +31,14 @@ pub struct Board {
 }
 
 impl Board {
+    /// The image of a set but for its last key, which is the extra one.
+    pub fn new(tabulation: &[u16], r: u32, mut members: Vec<Member>) -> Board {
+        let extra = members.pop().expect("a set of a case has keys");
+        members.sort_unstable();
+        let words = reference::fast::image(tabulation, r, PLACES, STATION, &members);
+        Board { members, extra, words: words.expect("they fit") }
+    }
+
     /// The keys that are in it, ascending.
     pub fn keys(&self) -> Vec<u32> {
         self.members.iter().map(|(key, _)| *key).collect()
@@ -90,13 +98,7 @@ impl Case {
         };
         // The last key of a set is the extra one. No tier plays a part in where keys sit, so any tiers fit.
         let mut rng = Rng::new(u64::from(r));
-        let board = |keys: Vec<u32>| {
-            let mut members = random_tiers(&mut rng, &keys);
-            let extra = members.pop().expect("a set of a case has keys");
-            members.sort_unstable();
-            let words = reference::fast::image(&tabulation, r, PLACES, STATION, &members);
-            Board { members, extra, words: words.expect("they fit") }
-        };
+        let board = |keys: Vec<u32>| Board::new(&tabulation, r, random_tiers(&mut rng, &keys));
         let boards = sets.into_iter().map(board).collect();
         Case { load, r, tabulation, boards }
     }
@@ -160,7 +162,7 @@ impl Room {
 }
 
 /// A key of a first part. Which issue it is has no part in where it sits, so any digit will do.
-fn an_issue(part: u32) -> u32 {
+pub fn an_issue(part: u32) -> u32 {
     10 * part + part % 10
 }
 
@@ -203,7 +205,7 @@ fn house(r: u32, count: usize, sets: u64) -> Sets {
 /// parts: `edge` says which edge of the path that is. Edge e joins the slots e and e + 1 of the path, of which the even
 /// ones are in table 0. An edge must be the sum of those of the two bytes, one of these even.
 /// The lowest byte's share stands in the station's stretch, so that the keys are this path at `STATION` alone.
-fn path_book(r: u32, edge: impl Fn(u32) -> u32) -> Vec<u16> {
+pub fn path_book(r: u32, edge: impl Fn(u32) -> u32) -> Vec<u16> {
     let mut tabulation = vec![0u16; TABULATION_LEN];
     for byte in 0..256u32 {
         let low = 4 * STRETCH_LEN + ((byte + STATION) % 256) as usize;

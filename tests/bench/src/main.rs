@@ -2,7 +2,9 @@
 //! partners refuse issues of one first part, and makes N random calls that they must answer alike; `counts` prints what
 //! a build does, in a build with the feature of that name; `wanted` lists the calls whose instructions are to be
 //! counted, trails of the library among them, and `one CASE PARTNER CALL` makes one of them; `tables FILE` takes what
-//! was counted from a file, takes times, and prints the tables; `picture FILE` draws times against keys.
+//! was counted from a file, takes times, and prints the tables; `picture FILE` draws times against keys. For the dearest
+//! calls `worst-wanted` lists what is to be counted, `one SIZE worst NUMBER` makes one of them, and `worst FILE` prints
+//! the most that was counted for each call.
 
 mod cases;
 mod common;
@@ -18,6 +20,7 @@ mod tables;
 mod tally;
 mod timing;
 mod trails;
+mod worst;
 
 use instructions::Instructions;
 
@@ -31,6 +34,9 @@ fn main() {
         }
         ["counts"] => tables::print_counts(),
         ["wanted"] => instructions::print_wanted(),
+        ["worst-wanted"] => worst::print_wanted(),
+        ["worst", file] => worst::print(file),
+        ["one", r, worst::NAME, number] => worst::one(r, number),
         ["one", case, partner, call] => instructions::one(case, partner, call),
         ["tables", file] => tables::print(Instructions::read(file)),
         ["picture", file] => picture::draw(file),
