@@ -1,6 +1,6 @@
-//! The most instructions that were found for each exported call, at each size with all 64 places: one table, for whoever
-//! has to plan a time. It is measured, not proved. For each call several candidates are counted, each by itself, and
-//! the largest count is printed. `tests/bench/run` has them counted.
+//! The most instructions that were found for each exported call, at four sizes with all 64 places of the stash: one
+//! table, for whoever has to plan a time. It is measured, not proved. For each call some candidates are counted, each
+//! by itself, as `tests/bench/run` has it, and the largest count is printed.
 
 mod calls;
 mod lists;
@@ -17,112 +17,132 @@ pub const NAME: &str = "worst";
 
 const SIZES: [u32; 4] = [16, 128, 512, 1_024];
 
-/// The rows of the table, with the symbol that is watched.
-const ROWS: [(&str, &str); 15] = [
-    ("init", "pinorange_init"),
-    ("insert, accepted", "pinorange_insert"),
-    ("insert, refused", "pinorange_insert"),
-    ("remove, accepted", "pinorange_remove"),
-    ("remove, refused", "pinorange_remove"),
-    ("check, canonical words", "pinorange_check"),
-    ("check, tampered words", "pinorange_check"),
-    ("lookup", "pinorange_lookup"),
-    ("stash view", "pinorange_stash"),
-    ("trail, accepted", "pinorange_trail"),
-    ("trail, refused", "pinorange_trail"),
-    ("opening a sale", "pinorange_open_sale"),
-    ("closing a sale", "pinorange_close_sale"),
-    ("hashes", "pinorange_hashes"),
-    ("house", "pinorange_house"),
-];
+/// A row of the table: a call, how it ends, and what may be its dearest cases.
+struct Row {
+    name: &'static str,
+    candidates: &'static [Candidate],
+}
 
-/// A call that may be the dearest of its row: on which list it is made, its answer, and how the table tells it.
+/// A call that may be the dearest of its row: on which list it is made, what it must answer, and how the table says it.
 struct Candidate {
-    row: &'static str,
     kind: Kind,
     call: Call,
     answer: u32,
     text: &'static str,
 }
 
-const fn on(
-    row: &'static str,
-    kind: Kind,
-    call: Call,
-    answer: u32,
-    text: &'static str,
-) -> Candidate {
-    Candidate { row, kind, call, answer, text }
+impl Candidate {
+    /// Whether it is counted at a size. Cases of few keys are for the smallest, where few are many.
+    fn is_at(&self, r: u32) -> bool {
+        r == SIZES[0] || !matches!(self.kind, Kind::Of(Load::Keys(_)))
+    }
 }
 
+const fn on(kind: Kind, call: Call, answer: u32, text: &'static str) -> Candidate {
+    Candidate { kind, call, answer, text }
+}
+
+/// What is counted: the dearest, those that come close to it, and some that one would think of first. 63 keys are
+/// sorted by a heap and 64 by bytes; 96 are the most at r = 16.
+///
+/// Others were counted once and are cheaper, in thousands at r = 1,024. Insert, of 1,520: `moves` with a stash that is
+/// filled by parallel keys 1,263, the smallest key of the cycle 1,372, `path` 976, 73 % 694, 49 % 484, `one place` 129.
+/// Insert refused, of 1,301: with 8 where no slot and no place is left, with 13, 10 or 6: 930. Remove, of 1,517: the
+/// smallest key of the cycle 1,370, `moves` 1,182, `full` 931. Check of canonical words, of 930: the cycle joined from
+/// end to end 682, `moves` 747, `full` 636. Check of tampered words, of 1,236: keys that are displaced and one too many
+/// for the stash 1,088, or at the end two issues of one card 679; at r = 16, of 69, keys ascending, descending or at
+/// random in the slots 58, all alike, since a sort by bytes takes the same steps in any order; 63 keys, by a heap, 34
+/// to 35.
+/// A trail, of 1,108: that of tests/c/memory.c, of as many keys, 825, and with a full stash 860; of a stashed key 930.
+/// A lookup, of 549: a key in table 1 101. A sale, of 617: 4 or 7 where the whole stash is searched 563, 7 else 238.
+/// The stash view refused with 4: 26, of 28. Refusals that need no look at the list, 1, 2, 3 and 5, are cheaper still.
 #[rustfmt::skip]
-const CANDIDATES: &[Candidate] = &[
-    on("init", Kind::Full, Call::Init, 0, "always"),
-    on("insert, accepted", Kind::LastComes, Call::Insert(Key::Extra), 0, "cycle through all slots, the last key for a full stash"),
-    on("insert, accepted", Kind::LoneComes, Call::Insert(Key::Extra), 0, "cycle through all slots but two, full stash, the smallest key by itself"),
-    on("insert, accepted", Kind::Of(Load::Moves), Call::Insert(Key::Extra), 0, "moves"),
-    on("insert, accepted", Kind::Of(Load::Full), Call::Insert(Key::Extra), 0, "full"),
-    on("insert, accepted", Kind::Of(Load::Path), Call::Insert(Key::Extra), 0, "path"),
-    on("insert, accepted", Kind::Of(Load::OnePlace), Call::Insert(Key::Extra), 0, "one place"),
-    on("insert, accepted", Kind::Of(Load::Keys(62)), Call::Insert(Key::Extra), 0, "62 keys"),
-    on("insert, accepted", Kind::Of(Load::Keys(63)), Call::Insert(Key::Extra), 0, "63 keys"),
-    on("insert, accepted", Kind::Of(Load::Keys(64)), Call::Insert(Key::Extra), 0, "64 keys"),
-    on("insert, accepted", Kind::Of(Load::Percent(12)), Call::Insert(Key::Extra), 0, "12 %"),
-    on("insert, accepted", Kind::Of(Load::Percent(73)), Call::Insert(Key::Extra), 0, "73 %"),
-    on("insert, refused", Kind::NoRoom, Call::Insert(Key::Extra), 8, "8 at the last key, cycle through all slots but one, the smallest key comes"),
-    on("insert, refused", Kind::Displaced, Call::Insert(Key::Extra), 4, "4, every key displaced"),
-    on("insert, refused", Kind::Full, Call::Insert(Key::Extra), 8, "8, no slot or place left"),
-    on("insert, refused", Kind::Full, Call::Insert(Key::OtherIssue), 13, "13"),
-    on("remove, accepted", Kind::Full, Call::Remove(Key::Smallest), 0, "smallest, full cycle"),
-    on("remove, accepted", Kind::Full, Call::Remove(Key::Middle), 0, "middle, full cycle"),
-    on("remove, accepted", Kind::Full, Call::Remove(Key::Largest), 0, "largest, stashed, full cycle"),
-    on("remove, accepted", Kind::Lone, Call::Remove(Key::Smallest), 0, "lone smallest key"),
-    on("remove, accepted", Kind::Of(Load::Moves), Call::Remove(Key::Smallest), 0, "moves, smallest"),
-    on("remove, accepted", Kind::Of(Load::Full), Call::Remove(Key::Smallest), 0, "full, smallest"),
-    on("remove, accepted", Kind::Of(Load::Full), Call::Remove(Key::Largest), 0, "full, largest"),
-    on("remove, refused", Kind::Displaced, Call::Remove(Key::Largest), 4, "4, every key displaced"),
-    on("remove, refused", Kind::Full, Call::Remove(Key::Extra), 7, "7, full cycle"),
-    on("check, canonical words", Kind::Full, Call::Check, 0, "full cycle"),
-    on("check, canonical words", Kind::Of(Load::Moves), Call::Check, 0, "moves"),
-    on("check, canonical words", Kind::Of(Load::Full), Call::Check, 0, "full"),
-    on("check, tampered words", Kind::Displaced, Call::Check, 4, "displaced"),
-    on("check, tampered words", Kind::LastTier, Call::Check, 4, "last tier"),
-    on("lookup", Kind::Full, Call::Lookup(Key::Largest), 0, "last place"),
-    on("lookup", Kind::Full, Call::Lookup(Key::Extra), 0, "absent, full stash"),
-    on("lookup", Kind::Full, Call::Lookup(Key::InTable1), 0, "table 1"),
-    on("lookup", Kind::Displaced, Call::Lookup(Key::AsTier), 0, "tampered: stands as a tier"),
-    on("stash view", Kind::Full, Call::Stash, 0, "canonical"),
-    on("trail, accepted", Kind::Full, Call::Trail(Key::LongTrail, 0), 0, "2r keys, full cycle"),
-    on("trail, accepted", Kind::Of(Load::Moves), Call::Trail(Key::Largest, 0), 0, "moves"),
-    on("trail, refused", Kind::Full, Call::Trail(Key::LongTrail, 1), 11, "11, full cycle"),
-    on("trail, refused", Kind::Displaced, Call::Trail(Key::Largest, 0), 4, "4, displaced"),
-    on("opening a sale", Kind::Full, Call::Open(Key::Largest, 1_749, 500), 0, "last place, tier 7"),
-    on("opening a sale", Kind::Full, Call::Open(Key::Largest, 500, -500), 12, "12, last place, price below 1"),
-    on("opening a sale", Kind::Full, Call::Open(Key::Largest, 1_749, 501), 12, "12, last place, last step out of range"),
-    on("opening a sale", Kind::Full, Call::Open(Key::Extra, 1_749, 500), 7, "7, full stash"),
-    on("opening a sale", Kind::Displaced, Call::Open(Key::AsTier, 1_749, 500), 7, "7, stands as a tier"),
-    on("closing a sale", Kind::Full, Call::Close, 0, "always"),
-    on("hashes", Kind::Full, Call::Hashes, 0, "always"),
-    on("house", Kind::Full, Call::House, 0, "always"),
+const ROWS: &[Row] = &[
+    Row { name: "init", candidates: &[
+        on(Kind::Full, Call::Init, 0, "every accepted call"),
+    ] },
+    Row { name: "insert, accepted", candidates: &[
+        on(Kind::PendantComes, Call::Insert(Key::Extra), 0,
+            "cycle through all slots but one, stash full; the smallest key comes, for the last slot"),
+        on(Kind::LastComes, Call::Insert(Key::Extra), 0,
+            "cycle through all slots; the largest key comes, for the last place"),
+        on(Kind::Of(Load::Moves), Call::Insert(Key::Extra), 0, "`moves`"),
+        on(Kind::Of(Load::Full), Call::Insert(Key::Extra), 0, "`full`"),
+        on(Kind::Of(Load::Keys(63)), Call::Insert(Key::Extra), 0, "63 keys"),
+        on(Kind::Of(Load::Keys(64)), Call::Insert(Key::Extra), 0, "64 keys"),
+    ] },
+    Row { name: "insert, refused", candidates: &[
+        on(Kind::NoRoom, Call::Insert(Key::Extra), 8,
+            "8, cycle through all slots but one, stash full; the smallest key comes, for the cycle"),
+        on(Kind::Displaced, Call::Insert(Key::Extra), 4, "4, 2r + 64 keys, none in a slot of its own"),
+    ] },
+    Row { name: "remove, accepted", candidates: &[
+        on(Kind::Pendant, Call::Remove(Key::Smallest), 0,
+            "cycle through all slots but one, stash full; the smallest key goes, from the last slot"),
+        on(Kind::Full, Call::Remove(Key::Largest), 0, "cycle through all slots; the key in the last place goes"),
+        on(Kind::Full, Call::Remove(Key::Middle), 0, "cycle through all slots; the middle key goes"),
+    ] },
+    Row { name: "remove, refused", candidates: &[
+        on(Kind::Displaced, Call::Remove(Key::Largest), 4, "4, 2r + 64 keys, none in a slot of its own"),
+        on(Kind::Full, Call::Remove(Key::Extra), 7, "7, cycle through all slots, stash full"),
+    ] },
+    Row { name: "check, canonical words", candidates: &[
+        on(Kind::Full, Call::Check, 0, "cycle through all slots, stash full"),
+        on(Kind::Pendant, Call::Check, 0, "cycle through all slots but one, all slots and the stash full"),
+    ] },
+    Row { name: "check, tampered words", candidates: &[
+        on(Kind::Displaced, Call::Check, 4, "2r + 64 keys, none in a slot of its own"),
+        on(Kind::LastTier, Call::Check, 4, "cycle through all slots, stash full, the last tier wrong"),
+    ] },
+    Row { name: "lookup", candidates: &[
+        on(Kind::Full, Call::Lookup(Key::Largest), 0, "the key in the last place of a full stash"),
+        on(Kind::Displaced, Call::Lookup(Key::AsTier), 0, "tampered words, the key stands where a tier should"),
+        on(Kind::Full, Call::Lookup(Key::Extra), 0, "absent"),
+    ] },
+    Row { name: "stash view", candidates: &[
+        on(Kind::Full, Call::Stash, 0, "every accepted call"),
+    ] },
+    Row { name: "trail, accepted", candidates: &[
+        on(Kind::Full, Call::Trail(Key::LongTrail, 0), 0, "2r keys, cycle through all slots, stash full"),
+    ] },
+    Row { name: "trail, refused", candidates: &[
+        on(Kind::Displaced, Call::Trail(Key::Largest, 0), 4, "4, 2r + 64 keys, none in a slot of its own"),
+        on(Kind::Full, Call::Trail(Key::LongTrail, 1), 11, "11, 2r keys, and a word less for them"),
+    ] },
+    Row { name: "opening a sale", candidates: &[
+        on(Kind::Full, Call::Open(Key::Largest, 1_749, 500), 0, "the key in the last place of a full stash, tier 7"),
+        on(Kind::Full, Call::Open(Key::Largest, 500, -500), 12, "12, the same key, the price below 1"),
+        on(Kind::Full, Call::Open(Key::Largest, 1_749, 501), 12, "12, the same key, the last step out of its range"),
+    ] },
+    Row { name: "closing a sale", candidates: &[
+        on(Kind::Full, Call::Close, 0, "every call"),
+    ] },
+    Row { name: "hashes", candidates: &[
+        on(Kind::Full, Call::Hashes, 0, "every accepted call"),
+    ] },
+    Row { name: "house", candidates: &[
+        on(Kind::Full, Call::House, 0, "every accepted call"),
+    ] },
 ];
 
-fn symbol(row: &str) -> &'static str {
-    let found = ROWS.iter().find(|(name, _)| *name == row);
-    found.unwrap_or_else(|| panic!("no such row: {row}")).1
+/// Each candidate, with its number.
+fn numbered() -> impl Iterator<Item = (usize, &'static Candidate)> {
+    ROWS.iter().flat_map(|row| row.candidates).enumerate()
 }
 
 /// Prints what is to be counted, a line each: size, this table, candidate, and the symbol to watch.
 pub fn print_wanted() {
     for r in SIZES {
-        for (number, candidate) in CANDIDATES.iter().enumerate() {
-            println!("{r} {NAME} {number} {}", symbol(candidate.row));
+        for (number, candidate) in numbered().filter(|(_, candidate)| candidate.is_at(r)) {
+            println!("{r} {NAME} {number} {}", candidate.call.symbol());
         }
     }
 }
 
 /// Makes one of these calls.
 pub fn one(r: &str, number: &str) {
-    let candidate = &CANDIDATES[number.parse::<usize>().expect("the number of a candidate")];
+    let number = number.parse().expect("the number of a candidate");
+    let (_, candidate) = numbered().nth(number).expect("no such candidate");
     let list = List::new(r.parse().expect("a size"), candidate.kind);
     assert_eq!(candidate.call.make(&list), candidate.answer, "{}", candidate.text);
 }
@@ -132,9 +152,9 @@ fn read(path: &str) -> BTreeMap<(u32, usize), u64> {
     let text = std::fs::read_to_string(path).expect("the file of counts");
     let count = |line: &str| {
         let fields: Vec<&str> = line.split_whitespace().collect();
-        let [r, NAME, number, count] = fields[..] else { panic!("a line: {line}") };
-        let size_and_number = (r.parse().expect("a size"), number.parse().expect("a candidate"));
-        (size_and_number, count.parse().unwrap_or_else(|_| panic!("nothing was counted: {line}")))
+        let [r, NAME, number, count] = fields[..] else { panic!("nothing was counted: {line}") };
+        let which = (r.parse().expect("a size"), number.parse().expect("a candidate"));
+        (which, count.parse().expect("a count"))
     };
     text.lines().map(count).collect()
 }
@@ -143,17 +163,21 @@ fn read(path: &str) -> BTreeMap<(u32, usize), u64> {
 pub fn print(path: &str) {
     let counts = read(path);
     let sizes = SIZES.map(|r| format!("r = {}", grouped(r)));
-    let title = format!("the most instructions found, s = {PLACES}");
-    let case = format!("found, at {}, with", sizes[SIZES.len() - 1]);
+    let title =
+        format!("the most instructions found for one call, s = {PLACES} (the most drawer places)");
+    let case = format!("where, at {}", sizes[SIZES.len() - 1]);
     head(&[&title, &sizes[0], &sizes[1], &sizes[2], &sizes[3], &case]);
-    for (name, _) in ROWS {
-        let numbers = (0..CANDIDATES.len()).filter(|number| CANDIDATES[*number].row == name);
+    let mut first = 0;
+    for Row { name, candidates } in ROWS {
         let most = SIZES.map(|r| {
-            let found = numbers.clone().map(|number| (counts[&(r, number)], number)).max();
-            found.unwrap_or_else(|| panic!("no candidate: {name}"))
+            let at_size =
+                candidates.iter().zip(first..).filter(|(candidate, _)| candidate.is_at(r));
+            let found = at_size.map(|(candidate, number)| (counts[&(r, number)], candidate.text));
+            found.max_by_key(|(count, _)| *count).expect("a row has candidates at each size")
         });
         let cells = most.map(|(count, _)| grouped(count));
-        let text = CANDIDATES[most[SIZES.len() - 1].1].text;
+        let (_, text) = most[SIZES.len() - 1];
         row([name.to_string()].into_iter().chain(cells).chain([text.to_string()]));
+        first += candidates.len();
     }
 }

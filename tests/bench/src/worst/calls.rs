@@ -7,24 +7,19 @@ use reference::hash::{hashes, TABULATION_LEN};
 use super::lists::List;
 use crate::cases::{PLACES, STATION};
 use crate::common::{HEADER, SLOT};
-use crate::issues::another_issue;
 
 /// A key to ask for.
 #[derive(Clone, Copy)]
 pub enum Key {
     Smallest,
     Middle,
-    /// That has the last place of the stash where the list is a cycle.
+    /// That in the last place of the stash, where the list is a cycle with a full stash.
     Largest,
-    /// That of the last slot.
-    InTable1,
-    /// Another issue of the largest.
-    OtherIssue,
     /// The extra one of the list, which is not in it.
     Extra,
-    /// That stands in the place of the first tier of the stash.
+    /// That stands in the place of a tier in the stash: not in its slots, and in no place.
     AsTier,
-    /// That with the longest trail: it stands in the other slot of the smallest key on the cycle.
+    /// That with the longest trail: it stands in the other slot of the root, which is the smallest key.
     LongTrail,
 }
 
@@ -32,19 +27,17 @@ impl Key {
     fn of(self, list: &List) -> u32 {
         let (board, r) = (&list.board, list.r as usize);
         let keys = board.keys();
-        let in_slot = |slot: usize| board.words[HEADER + SLOT * slot];
         match self {
             Key::Smallest => keys[0],
             Key::Middle => keys[keys.len() / 2],
             Key::Largest => keys[keys.len() - 1],
-            Key::InTable1 => in_slot(2 * r - 1),
-            Key::OtherIssue => another_issue(keys[keys.len() - 1]),
             Key::Extra => board.extra.0,
             Key::AsTier => board.words[HEADER + SLOT * 2 * r + 1],
-            // The root is in table 0.
+            // The root of a cycle is in table 0.
             Key::LongTrail => {
                 let slots = hashes(&list.tabulation, list.r, STATION, keys[0]);
-                in_slot(r + slots.expect("a sound book and key")[1] as usize)
+                let other = r + slots.expect("a sound book and key")[1] as usize;
+                board.words[HEADER + SLOT * other]
             }
         }
     }
@@ -59,7 +52,7 @@ pub enum Call {
     Check,
     Lookup(Key),
     Stash,
-    /// With so many words less than 2r for the keys.
+    /// With so many words less than 2r for its keys.
     Trail(Key, usize),
     /// At a base price, with the step of the last tier.
     Open(Key, u32, i32),
@@ -68,7 +61,43 @@ pub enum Call {
     House,
 }
 
+/// Whether a lookup of a key finds it, and its answer.
+fn lookup(list: &List, key: Key) -> u32 {
+    let mut listed = u32::MAX;
+    let (book, words) = (&list.tabulation, &list.board.words);
+    let answer = library::lookup(book, words, key.of(list), &mut listed, &mut 0);
+    assert_eq!(listed, u32::from(matches!(key, Key::Largest)), "what is looked up");
+    answer
+}
+
+/// A trail, which must have all 2r keys where it is accepted.
+fn trail(list: &List, scratch: &mut [u32], key: Key, less: usize) -> u32 {
+    let (book, words) = (&list.tabulation, &list.board.words);
+    let mut sheet = vec![0; 2 * list.r as usize - less];
+    let mut count = 2 * list.r;
+    let answer = library::trail(book, words, scratch, key.of(list), &mut sheet, &mut count);
+    assert_eq!(count, 2 * list.r, "the keys of the trail");
+    answer
+}
+
 impl Call {
+    /// The symbol to watch.
+    pub fn symbol(self) -> &'static str {
+        match self {
+            Call::Init => "pinorange_init",
+            Call::Insert(_) => "pinorange_insert",
+            Call::Remove(_) => "pinorange_remove",
+            Call::Check => "pinorange_check",
+            Call::Lookup(_) => "pinorange_lookup",
+            Call::Stash => "pinorange_stash",
+            Call::Trail(..) => "pinorange_trail",
+            Call::Open(..) => "pinorange_open_sale",
+            Call::Close => "pinorange_close_sale",
+            Call::Hashes => "pinorange_hashes",
+            Call::House => "pinorange_house",
+        }
+    }
+
     /// Makes the call, and no other of the library, and gives its answer; of a closing 0, if it gives the price.
     pub fn make(self, list: &List) -> u32 {
         let (r, book) = (list.r, &list.tabulation);
@@ -86,19 +115,16 @@ impl Call {
                 library::remove(book, &mut words, &mut scratch, &mut counters, key.of(list))
             }
             Call::Check => library::check(book, &words, &mut scratch),
-            Call::Lookup(key) => library::lookup(book, &words, key.of(list), &mut 0, &mut 0),
+            Call::Lookup(key) => lookup(list, key),
             Call::Stash => library::stash(&words).0,
-            Call::Trail(key, less) => {
-                let mut sheet = vec![0; 2 * r as usize - less];
-                library::trail(book, &words, &mut scratch, key.of(list), &mut sheet, &mut 0)
-            }
+            Call::Trail(key, less) => trail(list, &mut scratch, key, less),
             Call::Open(key, base, last) => {
                 let steps = [-500, -10, 0, 10, 20, 30, 40, last];
                 library::open_sale(book, &words, key.of(list), base, &steps, &mut sale)
             }
             Call::Close => u32::from(library::close_sale(&sale) != sale.price),
             Call::Hashes => library::hashes(book, r, STATION, Key::Largest.of(list), [0; 2]).0,
-            Call::House => library::house(&mut vec![0; TABULATION_LEN]),
+            Call::House => library::house(&mut [0; TABULATION_LEN]),
         }
     }
 }

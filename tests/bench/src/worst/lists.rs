@@ -20,10 +20,10 @@ pub enum Kind {
     Full,
     /// The same, before the last key comes, which is stashed.
     LastComes,
-    /// A key by itself, the smallest, and the cycle through all other slots, with a full stash.
-    Lone,
+    /// The smallest key joins the last slot to a cycle through the others, with a full stash: 2r + 64 keys.
+    Pendant,
     /// The same, before the smallest key comes, which then moves all others in scratch.
-    LoneComes,
+    PendantComes,
     /// A cycle that leaves a slot empty, with a full stash: the smallest key comes, beside the smallest that is there,
     /// and it is found at the last key that the stash has no room.
     NoRoom,
@@ -50,8 +50,8 @@ impl List {
             }
             Kind::Full => Cycle::new(r, 2 * r).with(&[], PLACES + 1),
             Kind::LastComes => Cycle::new(r, 2 * r).with(&[], PLACES),
-            Kind::Lone => Cycle::new(r, 2 * r - 2).with(&[2 * r - 2], PLACES + 1),
-            Kind::LoneComes => Cycle::new(r, 2 * r - 2).before(2 * r - 2),
+            Kind::Pendant => Cycle::new(r, 2 * r - 1).with(&[2 * r - 2], PLACES + 1),
+            Kind::PendantComes => Cycle::new(r, 2 * r - 1).before(2 * r - 2),
             Kind::NoRoom => {
                 let cycle = Cycle::new(r, 2 * r - 1);
                 let smallest = cycle.edges[0];
@@ -159,7 +159,7 @@ struct Joining {
 }
 
 /// How far from the half a stretch is cut.
-const NEAR: u32 = 6;
+const NEAR: u32 = 3;
 
 impl Joining {
     fn best(&mut self, slots: u32, odd: bool, right: bool) -> (i32, u32) {
