@@ -32,9 +32,13 @@ struct Candidate {
 }
 
 impl Candidate {
-    /// Whether it is counted at a size. Cases of few keys are for the smallest, where few are many.
+    /// Whether it is counted at a size. Cases of few keys, and those in which stashed keys weigh most, are for the
+    /// smallest.
     fn is_at(&self, r: u32) -> bool {
-        r == SIZES[0] || !matches!(self.kind, Kind::Of(Load::Keys(_)))
+        use Kind::{Halves, HalvesDisplaced, HalvesLastComes, Of};
+        let small =
+            matches!(self.kind, Of(Load::Keys(_)) | Halves | HalvesLastComes | HalvesDisplaced);
+        !small || r == SIZES[0]
     }
 }
 
@@ -66,6 +70,7 @@ const ROWS: &[Row] = &[
             "cycle through all slots but one, stash full; the smallest key comes, for the last slot"),
         on(Kind::LastComes, Call::Insert(Key::Extra), 0,
             "cycle through all slots; the largest key comes, for the last place"),
+        on(Kind::HalvesLastComes, Call::Insert(Key::Extra), 0, "the same, joined by halves"),
         on(Kind::Of(Load::Moves), Call::Insert(Key::Extra), 0, "`moves`"),
         on(Kind::Of(Load::Full), Call::Insert(Key::Extra), 0, "`full`"),
         on(Kind::Of(Load::Keys(63)), Call::Insert(Key::Extra), 0, "63 keys"),
@@ -75,23 +80,28 @@ const ROWS: &[Row] = &[
         on(Kind::NoRoom, Call::Insert(Key::Extra), 8,
             "8, cycle through all slots but one, stash full; the smallest key comes, for the cycle"),
         on(Kind::Displaced, Call::Insert(Key::Extra), 4, "4, 2r + 64 keys, none in a slot of its own"),
+        on(Kind::HalvesDisplaced, Call::Insert(Key::Extra), 4, "the same, joined by halves"),
     ] },
     Row { name: "remove, accepted", candidates: &[
         on(Kind::Pendant, Call::Remove(Key::Smallest), 0,
             "cycle through all slots but one, stash full; the smallest key goes, from the last slot"),
         on(Kind::Full, Call::Remove(Key::Largest), 0, "cycle through all slots; the key in the last place goes"),
         on(Kind::Full, Call::Remove(Key::Middle), 0, "cycle through all slots; the middle key goes"),
+        on(Kind::Halves, Call::Remove(Key::Middle), 0, "the same, joined by halves"),
     ] },
     Row { name: "remove, refused", candidates: &[
         on(Kind::Displaced, Call::Remove(Key::Largest), 4, "4, 2r + 64 keys, none in a slot of its own"),
+        on(Kind::HalvesDisplaced, Call::Remove(Key::Largest), 4, "the same, joined by halves"),
         on(Kind::Full, Call::Remove(Key::Extra), 7, "7, cycle through all slots, stash full"),
     ] },
     Row { name: "check, canonical words", candidates: &[
         on(Kind::Full, Call::Check, 0, "cycle through all slots, stash full"),
+        on(Kind::Halves, Call::Check, 0, "the same, joined by halves"),
         on(Kind::Pendant, Call::Check, 0, "cycle through all slots but one, all slots and the stash full"),
     ] },
     Row { name: "check, tampered words", candidates: &[
         on(Kind::Displaced, Call::Check, 4, "2r + 64 keys, none in a slot of its own"),
+        on(Kind::HalvesDisplaced, Call::Check, 4, "the same, joined by halves"),
         on(Kind::LastTier, Call::Check, 4, "cycle through all slots, stash full, the last tier wrong"),
     ] },
     Row { name: "lookup", candidates: &[
@@ -104,9 +114,11 @@ const ROWS: &[Row] = &[
     ] },
     Row { name: "trail, accepted", candidates: &[
         on(Kind::Full, Call::Trail(Key::LongTrail, 0), 0, "2r keys, cycle through all slots, stash full"),
+        on(Kind::Halves, Call::Trail(Key::LongTrail, 0), 0, "the same, joined by halves"),
     ] },
     Row { name: "trail, refused", candidates: &[
         on(Kind::Displaced, Call::Trail(Key::Largest, 0), 4, "4, 2r + 64 keys, none in a slot of its own"),
+        on(Kind::HalvesDisplaced, Call::Trail(Key::Largest, 0), 4, "the same, joined by halves"),
         on(Kind::Full, Call::Trail(Key::LongTrail, 1), 11, "11, 2r keys, and a word less for them"),
     ] },
     Row { name: "opening a sale", candidates: &[

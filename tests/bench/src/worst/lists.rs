@@ -32,6 +32,11 @@ pub enum Kind {
     /// `Full` with every key in a slot that is not its own, so that the stash is searched for it; its places have keys
     /// in the place of tiers, so that for these keys it is searched twice.
     Displaced,
+    /// `Full`, `LastComes` and `Displaced` with the path joined by halves, so that the ways to representatives are the
+    /// longest: dearer where most keys are stashed, since a stashed key goes three of these ways and moves nothing.
+    Halves,
+    HalvesLastComes,
+    HalvesDisplaced,
 }
 
 /// Words that a call is made on, and what they are made of.
@@ -48,17 +53,20 @@ impl List {
                 let mut case = Case::new(r, load, 1);
                 List { r, tabulation: case.tabulation, board: case.boards.remove(0) }
             }
-            Kind::Full => Cycle::new(r, 2 * r).with(&[], PLACES + 1),
-            Kind::LastComes => Cycle::new(r, 2 * r).with(&[], PLACES),
-            Kind::Pendant => Cycle::new(r, 2 * r - 1).with(&[2 * r - 2], PLACES + 1),
-            Kind::PendantComes => Cycle::new(r, 2 * r - 1).before(2 * r - 2),
+            Kind::Full => Cycle::new(r, most_moves(2 * r)).with(&[], PLACES + 1),
+            Kind::LastComes => Cycle::new(r, most_moves(2 * r)).with(&[], PLACES),
+            Kind::Pendant => Cycle::new(r, most_moves(2 * r - 1)).with(&[2 * r - 2], PLACES + 1),
+            Kind::PendantComes => Cycle::new(r, most_moves(2 * r - 1)).before(2 * r - 2),
             Kind::NoRoom => {
-                let cycle = Cycle::new(r, 2 * r - 1);
+                let cycle = Cycle::new(r, most_moves(2 * r - 1));
                 let smallest = cycle.edges[0];
                 cycle.before(smallest)
             }
             Kind::LastTier => List::new(r, Kind::Full).changed(last_tier),
             Kind::Displaced => List::new(r, Kind::Full).changed(displace),
+            Kind::Halves => Cycle::new(r, halves(2 * r)).with(&[], PLACES + 1),
+            Kind::HalvesLastComes => Cycle::new(r, halves(2 * r)).with(&[], PLACES),
+            Kind::HalvesDisplaced => List::new(r, Kind::Halves).changed(displace),
         }
     }
 
@@ -106,8 +114,9 @@ struct Cycle {
 }
 
 impl Cycle {
-    fn new(r: u32, slots: u32) -> Cycle {
-        let edges = Joining::default().edges(slots);
+    /// By the edges of a path from the first slot on.
+    fn new(r: u32, edges: Vec<u32>) -> Cycle {
+        let slots = edges.len() as u32 + 1;
         let last = slots - 1 - slots % 2;
         let mut tabulation = path_book(r, |number| number);
         tabulation[3 * STRETCH_LEN + CLOSING as usize] = (r - last.div_ceil(2)) as u16;
@@ -194,22 +203,35 @@ impl Joining {
             edges.push(low + left - 1);
         }
     }
+}
 
-    /// The edges of a path with its root at the right end. The first has its slot in table 1 to the left, near the left
-    /// end: when the cycle is finished, each of four walks then goes through nearly all slots.
-    fn edges(mut self, slots: u32) -> Vec<u32> {
-        let mut edges = Vec::new();
-        self.join(0, slots, true, &mut edges);
-        let order: BTreeMap<u32, usize> = edges.iter().copied().zip(0..).collect();
-        let is_first = |edge: &u32| {
-            let earlier = |other: u32| order.get(&other).is_none_or(|at| order[edge] < *at);
-            edge % 2 == 1 && earlier(edge - 1) && earlier(edge + 1)
-        };
-        let first = edges.iter().copied().filter(is_first).min().expect("two odd slots are joined");
-        edges.retain(|edge| *edge != first);
-        edges.insert(0, first);
-        edges
-    }
+/// The edges of a path with its root at the right end, joined so that the most keys move. The first has its slot in
+/// table 1 to the left, near the left end: when the cycle is finished, each of four walks then goes through nearly all
+/// slots.
+fn most_moves(slots: u32) -> Vec<u32> {
+    let mut edges = Vec::new();
+    Joining::default().join(0, slots, true, &mut edges);
+    let order: BTreeMap<u32, usize> = edges.iter().copied().zip(0..).collect();
+    let is_first = |edge: &u32| {
+        let earlier = |other: u32| order.get(&other).is_none_or(|at| order[edge] < *at);
+        edge % 2 == 1 && earlier(edge - 1) && earlier(edge + 1)
+    };
+    let first = edges.iter().copied().filter(is_first).min().expect("two single slots are joined");
+    first_of_all(first, edges)
+}
+
+/// One of the edges is joined before the others.
+fn first_of_all(first: u32, mut edges: Vec<u32>) -> Vec<u32> {
+    edges.retain(|edge| *edge != first);
+    edges.insert(0, first);
+    edges
+}
+
+/// The edges of a path joined by halves: the bits of an edge are those of its place in the order, reversed. One near
+/// the left end comes first, for long walks; at r = 16 this one is the dearest. The slots are a power of two.
+fn halves(slots: u32) -> Vec<u32> {
+    let reversed = |order: u32| order.reverse_bits() >> (32 - slots.trailing_zeros());
+    first_of_all(5, (0..slots).map(reversed).filter(|edge| *edge < slots - 1).collect())
 }
 
 /// The edge with the most steps from its slots to their representatives, of which that in table 0 is asked twice. The
