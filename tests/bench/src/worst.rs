@@ -51,6 +51,7 @@ const fn on(kind: Kind, call: Call, answer: u32, text: &'static str) -> Candidat
 ///
 /// Others were counted once and are cheaper, in thousands at r = 1,024. Insert, of 1,520: `moves` with a stash that is
 /// filled by parallel keys 1,263, the smallest key of the cycle 1,372, `path` 976, 73 % 694, 49 % 484, `one place` 129.
+/// A cycle that is joined by halves: insert 1,265, check 805; dearer, by 1 % at most, at r = 16 alone.
 /// Insert refused, of 1,301: with 8 where no slot and no place is left, with 13, 10 or 6: 930. Remove, of 1,517: the
 /// smallest key of the cycle 1,370, `moves` 1,182, `full` 931. Check of canonical words, of 930: the cycle joined from
 /// end to end 682, `moves` 747, `full` 636. Check of tampered words, of 1,236: keys that are displaced and one too many
