@@ -51,18 +51,17 @@ const fn on(kind: Kind, call: Call, answer: u32, text: &'static str) -> Candidat
 ///
 /// Others were counted once and are cheaper, in thousands at r = 1,024. Insert, of 1,520: `moves` with a stash that is
 /// filled by parallel keys 1,263, the smallest key of the cycle 1,372, `path` 976, 73 % 694, 49 % 484, `one place` 129.
-/// A cycle that is joined by halves: insert 1,265, check 805; dearer, by 1 % at most, at r = 16 alone.
-/// Insert refused, of 1,301: with 8 where the largest key comes in place of the smallest 1,295, with 8 where no slot and
-/// no place is left and with 13 930. Remove, of 1,517: the smallest key of the cycle 1,370, `moves` 1,182, `full` 931.
-/// Check of canonical words, of 930: the cycle joined from
-/// end to end 682, `moves` 747, `full` 636. Check of tampered words, of 1,236: keys that are displaced and one too many
-/// for the stash 1,088, or at the end two issues of one card 679; at r = 16, of 69, keys ascending, descending or at
-/// random in the slots 58, all alike, since a sort by bytes takes the same steps in any order; 63 keys, by a heap, 34
-/// to 35.
-/// A trail, of 1,108: that of tests/c/memory.c, of as many keys, 825, and with a full stash 860; of a stashed key 930.
-/// A lookup, of 549: a key in table 1 101. A sale, of 617: 4 or 7 where the whole stash is searched 563, 7 else 238.
-/// The stash view refused with 4: 26, of 28. Not counted, by the code: 1, 2 and 3, which come before the list is read,
-/// and 5, 9, 10 and 6 of the calls with scratch, which come after that and before a second build, as 13 and 7 do.
+/// A cycle that is joined by halves: insert 1,265, check 805; dearer, by 1 % at most, at r = 16 alone. Insert refused,
+/// of 1,301: with 8 where the largest key comes in place of the smallest 1,295, with 8 where no slot and no place is
+/// left and with 13 930. Remove, of 1,517: the smallest key of the cycle 1,370, `moves` 1,182, `full` 931. Check of
+/// canonical words, of 930: the cycle joined from end to end 682, `moves` 747, `full` 636. Check of tampered words, of
+/// 1,236: keys that are displaced and one too many for the stash 1,088, or at the end two issues of one card 679; at r
+/// = 16, of 69, keys ascending, descending or at random in the slots 58, all alike, since a sort by bytes takes the
+/// same steps in any order; 63 keys, by a heap, 34 to 35. A trail, of 1,108: that of tests/c/memory.c, of as many keys,
+/// 825, and with a full stash 860; of a stashed key 930. A lookup, of 549: a key in table 1 101. A sale, of 617: 4 or 7
+/// where the whole stash is searched 563, 7 else 238. The stash view refused with 4: 26, of 28. Not counted, by the
+/// code: 1, 2 and 3, which come before the list is read, and 5, 9, 10 and 6 of the calls with scratch, which come after
+/// that and before a second build, as 13 and 7 do.
 #[rustfmt::skip]
 const ROWS: &[Row] = &[
     Row { name: "init", candidates: &[
