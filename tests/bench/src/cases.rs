@@ -3,6 +3,7 @@
 use std::collections::BTreeSet;
 use std::fmt;
 
+use library::room::Room;
 use reference::hash::{hashes, HALF_LEN, STRETCH_LEN, TABULATION_LEN};
 use reference::house::HOUSE;
 use reference::rng::Rng;
@@ -118,49 +119,6 @@ impl Case {
     }
 }
 
-/// How many keys of each component there are, to know how many have to be stashed: as many as a component has keys more than slots.
-struct Room {
-    parent: Vec<usize>,
-    slots: Vec<usize>,
-    keys: Vec<usize>,
-    stashed: usize,
-}
-
-impl Room {
-    fn new(m: usize) -> Room {
-        Room { parent: (0..m).collect(), slots: vec![1; m], keys: vec![0; m], stashed: 0 }
-    }
-
-    fn find(&self, mut slot: usize) -> usize {
-        while self.parent[slot] != slot {
-            slot = self.parent[slot];
-        }
-        slot
-    }
-
-    /// Adds a key with these two slots, if at most `PLACES` are stashed then.
-    fn add(&mut self, one: usize, two: usize) -> bool {
-        let (one, two) = (self.find(one), self.find(two));
-        let over = |slots: usize, keys: usize| keys.saturating_sub(slots);
-        let before = over(self.slots[one], self.keys[one])
-            + if one == two { 0 } else { over(self.slots[two], self.keys[two]) };
-        let (slots, keys) = if one == two {
-            (self.slots[one], self.keys[one] + 1)
-        } else {
-            (self.slots[one] + self.slots[two], self.keys[one] + self.keys[two] + 1)
-        };
-        let stashed = self.stashed - before + over(slots, keys);
-        if stashed > PLACES as usize {
-            return false;
-        }
-        let (child, parent) =
-            if self.slots[one] < self.slots[two] { (one, two) } else { (two, one) };
-        self.parent[child] = parent;
-        (self.slots[parent], self.keys[parent], self.stashed) = (slots, keys, stashed);
-        true
-    }
-}
-
 /// A key of a first part. Which issue it is has no part in where it sits, so any digit will do.
 pub fn an_issue(part: u32) -> u32 {
     10 * part + part % 10
@@ -168,7 +126,7 @@ pub fn an_issue(part: u32) -> u32 {
 
 /// `count` random keys that fit, one issue of each first part, in the order in which they were found.
 fn fitting_keys(rng: &mut Rng, tabulation: &[u16], r: u32, count: usize) -> Vec<u32> {
-    let mut room = Room::new(2 * r as usize);
+    let mut room = Room::new(2 * r as usize, PLACES as usize);
     let mut seen = BTreeSet::new();
     let mut keys = Vec::new();
     while keys.len() < count {

@@ -3,8 +3,8 @@
 
 pub mod beside;
 pub mod guarded;
-pub mod room;
 mod issues;
+pub mod room;
 
 use reference::hash::MAX_R;
 use reference::layout::MAX_S;

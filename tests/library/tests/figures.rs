@@ -153,7 +153,8 @@ fn unnoticed(tabulation: &[u16], words: &[u32]) -> [usize; 3] {
 #[test]
 fn changes_that_a_check_lets_pass() {
     let tabulation = house_tabulation();
-    let lists = |cards: usize| (1..=100).map(move |seed| small_list(&house_tabulation(), cards, seed));
+    let lists =
+        |cards: usize| (1..=100).map(move |seed| small_list(&house_tabulation(), cards, seed));
     let mut sums = [0; 3];
     for words in lists(20) {
         let counts = unnoticed(&tabulation, &words);

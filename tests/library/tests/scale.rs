@@ -1324,7 +1324,9 @@ fn damages_of_one_word() {
     let mut sales: BTreeMap<(u32, Word, u32), u32> = BTreeMap::new();
     let (mut another, mut another_station) = (0, 0);
     for _ in 0..300 {
-        let Some(Small { r, s, tabulation, keys, words: sound }) = random_image(&mut rng, [4, 3, 6]) else {
+        let Some(Small { r, s, tabulation, keys, words: sound }) =
+            random_image(&mut rng, [4, 3, 6])
+        else {
             continue;
         };
         let scratch = vec![5; scratch_length(r, s)];
@@ -1382,7 +1384,9 @@ fn damages_of_a_tier() {
     let mut times: BTreeMap<(Word, &str), u32> = BTreeMap::new();
     let mut sales: BTreeMap<(&str, u32), u32> = BTreeMap::new();
     for _ in 0..400 {
-        let Some(Small { r, s, tabulation, keys, words: sound }) = random_image(&mut rng, [4, 4, 7]) else {
+        let Some(Small { r, s, tabulation, keys, words: sound }) =
+            random_image(&mut rng, [4, 4, 7])
+        else {
             continue;
         };
         let scratch = vec![5; scratch_length(r, s)];
@@ -1518,7 +1522,8 @@ fn damages_of_an_issue() {
     let mut beside = Beside::new();
     let mut times: BTreeMap<(Word, bool, &str), u32> = BTreeMap::new();
     for _ in 0..150 {
-        let Some(Small { tabulation, keys, words: sound, .. }) = random_image(&mut rng, [3, 4, 7]) else {
+        let Some(Small { tabulation, keys, words: sound, .. }) = random_image(&mut rng, [3, 4, 7])
+        else {
             continue;
         };
         let first = keys.first().copied().unwrap_or(90);
