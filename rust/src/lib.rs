@@ -1,0 +1,47 @@
+//! The card list of a fuel-pump head for Rust: a dictionary in lent memory whose words are a function of the set alone.
+//!
+//! The calls are those of a proved library (`libpinorange.a`). `pinorange.h` and `pinorange_hashes.h` are the full text
+//! of what each promises; here is what Rust adds: slices for pointers and lengths, a `Result` for a number, and a
+//! [`Refusal`] with a name. The crate allocates nothing, keeps no state and never panics.
+//!
+//! - The caller lends a tabulation of [`TABULATION_LENGTH`] entries, words and scratch. All lengths are constants, so
+//!   that the memory may be arrays in a `static`.
+//! - A call either is done and gives `Ok`, or is refused and leaves the words as they were.
+//! - [`raw`] has the calls as C has them. All others are safe functions over these.
+//!
+//! The feature `list`, which is on unless you turn it off, is the whole list. Without it the crate links
+//! `libtabulation.a` alone and has what `pinorange_hashes.h` has: for a till, which only needs to know where a card may
+//! sit. The static library is looked for in the folder that the environment variable `PINORANGE_LIBRARIES` names; if
+//! that is not set, in the folder above this crate, then in `target/staticlib` there.
+//!
+//! `examples/head.rs` is a short head.
+
+#![no_std]
+#![deny(missing_docs)]
+
+mod hashing;
+pub mod raw;
+mod refusal;
+
+#[cfg(feature = "list")]
+mod cards;
+#[cfg(feature = "list")]
+mod list;
+#[cfg(feature = "list")]
+mod records;
+#[cfg(feature = "list")]
+mod sizes;
+
+pub use hashing::{first_part, hashes, MAX_SLOTS, MAX_STATION, TABULATION_LENGTH, VERSION};
+pub use refusal::Refusal;
+
+#[cfg(feature = "list")]
+pub use cards::cards;
+#[cfg(feature = "list")]
+pub use list::{check, close_sale, house, init, insert, lookup, open_sale, remove, stash, trail};
+#[cfg(feature = "list")]
+pub use records::{Counters, Sale};
+#[cfg(feature = "list")]
+pub use sizes::{
+    scratch_length, words_length, HEADER_LENGTH, MAX_BASE, MAX_PLACES, MAX_STEP, MAX_TIER, STEPS,
+};
