@@ -1,7 +1,9 @@
 //! One call of the library beside the same call of the program by another hand: answer, every word, scratch,
 //! tabulation, steps, counters and out-parameters, on memory with guards around every lent slice and every record of a
-//! sale. The answers are counted, call by call.
+//! sale. The crate's safe function is called beside them on copies, and must give the same under its own names. The
+//! answers are counted, call by call.
 
+use pinorange::Refusal;
 use reference::answer::{number, Found};
 use reference::counters::Counters as Meter;
 use reference::fast::Fast;
@@ -10,6 +12,7 @@ use reference::key::first_part;
 
 use crate::guarded::Guarded;
 use crate::issues::Issues;
+use crate::safe::{self, named};
 use crate::{are_sizes, Change, Counters, Sale, HEADER_LENGTH};
 
 /// The calls that answer with a number. The closing of a sale gives a price, and is never refused.
@@ -52,9 +55,10 @@ const OTHER_ISSUE: u32 = 13;
 
 /// Marks an out-parameter that a refused call must leave.
 const OLD: u32 = 0xDEAD_BEEF;
-const GUARD: u32 = 0xABCD_1234;
+pub(crate) const GUARD: u32 = 0xABCD_1234;
+pub(crate) const GUARD_ENTRY: u16 = 0x5A5A;
 /// No step: where it is taken for one, the sale is refused.
-const GUARD_STEP: i32 = 0x0BAD_57E9;
+pub(crate) const GUARD_STEP: i32 = 0x0BAD_57E9;
 
 /// The record that an opening finds, and what stands around it.
 const OLD_SALE: Sale = Sale { key: OLD, tier: !OLD, price: OLD >> 1 };
@@ -190,12 +194,14 @@ impl Beside {
     ) -> u32 {
         let mut expected = words.to_vec();
         let mut meter = meter_of(counters);
-        let answer = number(reference::calls::init(r, s, station, &mut expected, &mut meter));
+        let answer = reference::calls::init(r, s, station, &mut expected, &mut meter);
+        let safe = safe::init(words, r, s, station, counters);
         let mut lent = Guarded::new(words, GUARD);
         let got = crate::init(lent.lent(), r, s, station, counters);
-        assert_eq!(got, answer, "init {r}, {s}, {station} of {} words", words.len());
+        assert_eq!(got, number(answer), "init {r}, {s}, {station} of {} words", words.len());
         assert_eq!(lent.content(), &expected[..]);
         assert_eq!(meter_of(counters), meter);
+        assert_eq!(safe, (answer.map_err(named), expected.clone(), *counters), "the safe init");
         words.copy_from_slice(&expected);
         self.count_station(Kind::Init, are_sizes(r, s, words.len()), station, got);
         self.count(Kind::Init, got)
@@ -223,7 +229,8 @@ impl Beside {
                 (Kind::Remove, reference::calls::remove(&Fast, tabulation, &mut expected, &mut theirs, &mut meter, key))
             }
         };
-        let mut book = Guarded::new(tabulation, 0x5A5A);
+        let safe = safe::change(change, tabulation, words, scratch, counters, key);
+        let mut book = Guarded::new(tabulation, GUARD_ENTRY);
         let mut lent = Guarded::new(words, GUARD);
         let mut sheet = Guarded::new(scratch, GUARD);
         let got = crate::update(change, book.lent(), lent.lent(), sheet.lent(), counters, key);
@@ -232,6 +239,8 @@ impl Beside {
         assert!(sheet.content().iter().all(|w| *w == 0), "the scratch is not zero");
         assert_eq!(book.content(), tabulation, "the tabulation changed");
         assert_eq!(meter_of(counters), meter, "{change:?}");
+        let told = (answer.map_err(named), expected.clone(), *counters);
+        assert_eq!(safe, told, "the safe {change:?} of {key} on {words:?}");
         if let (Change::Insert(tier), OTHER_ISSUE) = (change, got) {
             self.issues.other(words, key, tier);
         }
@@ -241,31 +250,35 @@ impl Beside {
 
     pub fn check(&mut self, tabulation: &[u16], words: &[u32], scratch: &[u32]) -> u32 {
         let mut theirs = scratch.to_vec();
-        let answer = number(reference::calls::check(&Fast, tabulation, words, &mut theirs));
-        let mut book = Guarded::new(tabulation, 0x5A5A);
+        let answer = reference::calls::check(&Fast, tabulation, words, &mut theirs);
+        let mut book = Guarded::new(tabulation, GUARD_ENTRY);
         let mut lent = Guarded::new(words, GUARD);
         let mut sheet = Guarded::new(scratch, GUARD);
         let got = crate::check(book.lent(), lent.lent(), sheet.lent());
-        assert_eq!(got, answer, "check of {words:?}");
+        assert_eq!(got, number(answer), "check of {words:?}");
         assert_eq!(lent.content(), words, "check changed the words");
         assert!(sheet.content().iter().all(|w| *w == 0), "the scratch is not zero");
         assert_eq!(book.content(), tabulation, "the tabulation changed");
+        let safe = safe::check(tabulation, words, scratch);
+        assert_eq!(safe, answer.map_err(named), "the safe check of {words:?}");
         self.count_on(Kind::Check, words, got)
     }
 
     /// A lookup: its answer, and the tier that it found, if it found the key. Where it did not, the tier stays as it was; refused, both out-parameters do.
     pub fn lookup(&mut self, tabulation: &[u16], words: &[u32], key: u32) -> (u32, Option<u32>) {
-        let (answer, values) = match reference::calls::lookup(tabulation, words, key) {
-            Ok(Found::Listed(tier)) => (0, [1, tier]),
-            Ok(Found::Absent) => (0, [0, !OLD]),
-            Err(refusal) => (refusal.number(), [OLD, !OLD]),
+        let (answer, values, told) = match reference::calls::lookup(tabulation, words, key) {
+            Ok(Found::Listed(tier)) => (0, [1, tier], Ok(Some(tier))),
+            Ok(Found::Absent) => (0, [0, !OLD], Ok(None)),
+            Err(refusal) => (refusal.number(), [OLD, !OLD], Err(named(refusal))),
         };
-        let mut book = Guarded::new(tabulation, 0x5A5A);
+        let mut book = Guarded::new(tabulation, GUARD_ENTRY);
         let mut lent = Guarded::new(words, GUARD);
         let (mut listed, mut tier) = (OLD, !OLD);
         let got = crate::lookup(book.lent(), lent.lent(), key, &mut listed, &mut tier);
         assert_eq!((got, [listed, tier]), (answer, values), "lookup of {key} in {words:?}");
         assert_eq!((book.content(), lent.content()), (tabulation, words), "lookup changed memory");
+        let safe = safe::lookup(tabulation, words, key);
+        assert_eq!(safe, told, "the safe lookup of {key} in {words:?}");
         if got == 0 {
             self.found[listed as usize] += 1;
         }
@@ -277,12 +290,12 @@ impl Beside {
 
     /// The stash view: its number. Offset and length name a part of the caller's own words, or nothing.
     pub fn stash(&mut self, words: &[u32]) -> u32 {
-        let answer = number(reference::calls::stash_answer(words));
+        let answer = reference::calls::stash_answer(words);
         let expected = reference::calls::stash(words);
         let mut lent = Guarded::new(words, GUARD);
         let (got, offset, length) = crate::stash(lent.lent());
         assert_eq!(lent.content(), words, "the view changed the words");
-        assert_eq!(got, answer, "view of {words:?}");
+        assert_eq!(got, number(answer), "view of {words:?}");
         if got == 0 {
             assert_eq!(&words[offset as usize..][..length as usize], expected, "{words:?}");
             let stash = HEADER_LENGTH as u32 + 6 * words[0];
@@ -290,6 +303,8 @@ impl Beside {
         } else {
             assert_eq!((offset, length), (0, 0), "a refused view is not empty");
         }
+        let told = answer.map(|_| (offset as usize, length as usize)).map_err(named);
+        assert_eq!(safe::stash(words), told, "the safe view of {words:?}");
         self.count_on(Kind::Stash, words, got)
     }
 
@@ -305,11 +320,12 @@ impl Beside {
         let mut theirs = scratch.to_vec();
         let mut expected = trail_sheet.to_vec();
         #[rustfmt::skip]
-        let (answer, count) = match reference::calls::trail(&Fast, tabulation, words, &mut theirs, key, &mut expected) {
+        let traced = reference::calls::trail(&Fast, tabulation, words, &mut theirs, key, &mut expected);
+        let (answer, count) = match traced {
             Ok(count) => (0, count as u32),
             Err(refusal) => (refusal.number(), OLD),
         };
-        let mut book = Guarded::new(tabulation, 0x5A5A);
+        let mut book = Guarded::new(tabulation, GUARD_ENTRY);
         let mut lent = Guarded::new(words, GUARD);
         let mut sheet = Guarded::new(scratch, GUARD);
         let mut trail = Guarded::new(trail_sheet, GUARD);
@@ -320,6 +336,9 @@ impl Beside {
         assert_eq!(trail.content(), &expected[..], "trail of {key} in {words:?}");
         assert!(sheet.content().iter().all(|w| *w == 0), "the scratch is not zero");
         assert_eq!((book.content(), lent.content()), (tabulation, words), "trail changed memory");
+        let safe = safe::trail(tabulation, words, scratch, key, trail_sheet);
+        let keys = traced.map(|count| expected[..count].to_vec()).map_err(named);
+        assert_eq!(safe, (keys, expected.clone()), "the safe trail of {key} in {words:?}");
         if got == 0 {
             self.trails[told.min(2) as usize] += 1;
             expected.truncate(told as usize);
@@ -338,9 +357,9 @@ impl Beside {
         base: u32,
         steps: &[i32],
     ) -> (u32, Option<Sale>) {
-        let opened = reference::sale::open(tabulation, words, key, base, steps).map(Sale::from);
+        let opened = reference::sale::open(tabulation, words, key, base, steps).map(sale_of);
         let answer = number(opened.map(|_| ()));
-        let mut book = Guarded::new(tabulation, 0x5A5A);
+        let mut book = Guarded::new(tabulation, GUARD_ENTRY);
         let mut lent = Guarded::new(words, GUARD);
         let mut price_list = Guarded::new(steps, GUARD_STEP);
         let mut sale = Guarded::new(&[OLD_SALE], GUARD_SALE);
@@ -351,6 +370,8 @@ impl Beside {
         assert_eq!(sale.content(), [opened.unwrap_or(OLD_SALE)], "{}", why());
         assert_eq!((book.content(), lent.content()), (tabulation, words), "opening changed memory");
         assert_eq!(price_list.content(), steps, "opening changed the steps");
+        let safe = safe::open(tabulation, words, key, base, steps);
+        assert_eq!(safe, opened.map_err(named), "with the safe call: {}", why());
         if let Ok(sale) = opened {
             self.steps[(sale.price.cmp(&base) as i8 + 1) as usize] += 1;
         }
@@ -361,21 +382,25 @@ impl Beside {
     pub fn close(&mut self, sale: &Sale) -> u32 {
         let mut record = Guarded::new(&[*sale], GUARD_SALE);
         let got = crate::close_sale(&record.lent()[0]);
-        assert_eq!(got, reference::sale::close((*sale).into()), "closing of {sale:?}");
+        assert_eq!(got, reference::sale::close(record_of(*sale)), "closing of {sale:?}");
+        assert_eq!(pinorange::close_sale(&record.lent()[0]), got, "the safe closing of {sale:?}");
         assert_eq!(record.content(), [*sale], "closing changed the record");
         self.closed += 1;
         got
     }
 
     pub fn hashes(&mut self, tabulation: &[u16], r: u32, station: u32, key: u32) -> u32 {
-        let (answer, both) = match reference::hash::hashes(tabulation, r, station, key) {
+        let told = reference::hash::hashes(tabulation, r, station, key);
+        let (answer, both) = match told {
             Ok(both) => (0, both),
             Err(refusal) => (refusal.number(), [OLD, !OLD]),
         };
-        let mut book = Guarded::new(tabulation, 0x5A5A);
+        let mut book = Guarded::new(tabulation, GUARD_ENTRY);
         let got = crate::hashes(book.lent(), r, station, key, [OLD, !OLD]);
         assert_eq!(book.content(), tabulation, "hashing changed the tabulation");
         assert_eq!(got, (answer, both), "hashes of {key} with r = {r} at station {station}");
+        let safe = safe::hashes(tabulation, r, station, key);
+        assert_eq!(safe, told.map_err(named), "the safe hashes of {key} with r = {r} at {station}");
         if answer == 0 {
             self.wrapped[usize::from(first_part(key) % 256 + station > 255)] += 1;
         }
@@ -385,27 +410,29 @@ impl Beside {
     }
 
     pub fn house(&mut self, length: usize) -> u32 {
-        let mut lent = Guarded::new(&vec![3; length], 0x5A5A);
+        let old = vec![3; length];
+        let mut lent = Guarded::new(&old, GUARD_ENTRY);
         let got = crate::house(lent.lent());
+        let safe = safe::house(&old);
         if length == reference::house::HOUSE.len() {
             assert_eq!((got, lent.content()), (0, &reference::house::HOUSE[..]));
+            assert_eq!(safe, (Ok(()), reference::house::HOUSE.to_vec()));
         } else {
-            assert_eq!((got, lent.content()), (1, &vec![3; length][..]));
+            assert_eq!((got, lent.content()), (1, &old[..]));
+            assert_eq!(safe, (Err(Refusal::WrongTabulation), old));
         }
         self.count(Kind::House, got)
     }
 }
 
-impl From<reference::sale::Sale> for Sale {
-    fn from(sale: reference::sale::Sale) -> Sale {
-        Sale { key: sale.key, tier: sale.tier, price: sale.price }
-    }
+/// A record of the program by another hand, as it crosses.
+pub fn sale_of(sale: reference::sale::Sale) -> Sale {
+    Sale { key: sale.key, tier: sale.tier, price: sale.price }
 }
 
-impl From<Sale> for reference::sale::Sale {
-    fn from(sale: Sale) -> reference::sale::Sale {
-        reference::sale::Sale { key: sale.key, tier: sale.tier, price: sale.price }
-    }
+/// A record, as the program by another hand has it.
+pub fn record_of(sale: Sale) -> reference::sale::Sale {
+    reference::sale::Sale { key: sale.key, tier: sale.tier, price: sale.price }
 }
 
 fn meter_of(counters: &Counters) -> Meter {

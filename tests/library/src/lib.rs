@@ -1,91 +1,31 @@
-//! The exported calls for Rust, and what their tests share. The declarations repeat the headers under include/; nothing checks them against the Rattle source, so
-//! the boundary is kept to numbers and slices.
+//! What the tests of the built library share. The exported calls come here as they are, over the declarations of the crate (rust/): with their numbers and their
+//! out-parameters, so that the tests see what a refusal leaves and the benchmark times one call and nothing else. beside.rs has the crate's safe calls beside them.
 
 pub mod beside;
 pub mod guarded;
 mod issues;
 pub mod room;
+mod safe;
 
+use pinorange::raw;
 use reference::hash::MAX_R;
 use reference::layout::MAX_S;
 
-/// The counters, as they cross: the paper's "meter".
-#[repr(C)]
-#[derive(Clone, Copy, Debug, Default, PartialEq, Eq)]
-pub struct Counters {
-    pub done: u32,
-    pub refused: u32,
-}
-
-/// The record of a sale, as it crosses.
-#[repr(C)]
-#[derive(Clone, Copy, Debug, PartialEq, Eq)]
-pub struct Sale {
-    pub key: u32,
-    pub tier: u32,
-    pub price: u32,
-}
-
-#[rustfmt::skip]
-extern "C" {
-    fn pinorange_init(
-        words: *mut u32, words_length: usize, r: u32, s: u32, station: u32, counters: *mut Counters,
-    ) -> u32;
-
-    fn pinorange_insert(
-        tabulation: *const u16, tabulation_length: usize, words: *mut u32, words_length: usize,
-        scratch: *mut u32, scratch_length: usize, counters: *mut Counters, key: u32, tier: u32,
-    ) -> u32;
-
-    fn pinorange_remove(
-        tabulation: *const u16, tabulation_length: usize, words: *mut u32, words_length: usize,
-        scratch: *mut u32, scratch_length: usize, counters: *mut Counters, key: u32,
-    ) -> u32;
-
-    fn pinorange_check(
-        tabulation: *const u16, tabulation_length: usize, words: *const u32, words_length: usize,
-        scratch: *mut u32, scratch_length: usize,
-    ) -> u32;
-
-    fn pinorange_lookup(
-        tabulation: *const u16, tabulation_length: usize, words: *const u32, words_length: usize,
-        key: u32, listed: *mut u32, tier: *mut u32,
-    ) -> u32;
-
-    fn pinorange_trail(
-        tabulation: *const u16, tabulation_length: usize, words: *const u32, words_length: usize,
-        scratch: *mut u32, scratch_length: usize, key: u32, trail: *mut u32, trail_length: usize, count: *mut u32,
-    ) -> u32;
-
-    fn pinorange_open_sale(
-        tabulation: *const u16, tabulation_length: usize, words: *const u32, words_length: usize, key: u32,
-        base: u32, steps: *const i32, steps_length: usize, sale: *mut Sale,
-    ) -> u32;
-
-    fn pinorange_close_sale(sale: *const Sale) -> u32;
-
-    fn pinorange_stash(words: *const u32, words_length: usize, offset: *mut u32, length: *mut u32) -> u32;
-
-    fn pinorange_hashes(
-        tabulation: *const u16, length: usize, r: u32, station: u32, key: u32, table0: *mut u32, table1: *mut u32,
-    ) -> u32;
-
-    fn pinorange_house(tabulation: *mut u16, tabulation_length: usize) -> u32;
-}
+pub use pinorange::{scratch_length, words_length, Counters, Sale, HEADER_LENGTH};
 
 // Every call below is safe: the slices are valid for their lengths and apart from each other, and the calls are proved to touch nothing else but what
 // they are given by reference.
 
 /// Lays fresh words, at a station.
 pub fn init(words: &mut [u32], r: u32, s: u32, station: u32, counters: &mut Counters) -> u32 {
-    unsafe { pinorange_init(words.as_mut_ptr(), words.len(), r, s, station, counters) }
+    unsafe { raw::pinorange_init(words.as_mut_ptr(), words.len(), r, s, station, counters) }
 }
 
 /// Puts a key in, with its tier.
 #[rustfmt::skip]
 pub fn insert(tabulation: &[u16], words: &mut [u32], scratch: &mut [u32], counters: &mut Counters, key: u32, tier: u32) -> u32 {
     unsafe {
-        pinorange_insert(
+        raw::pinorange_insert(
             tabulation.as_ptr(), tabulation.len(), words.as_mut_ptr(), words.len(),
             scratch.as_mut_ptr(), scratch.len(), counters, key, tier,
         )
@@ -96,7 +36,7 @@ pub fn insert(tabulation: &[u16], words: &mut [u32], scratch: &mut [u32], counte
 #[rustfmt::skip]
 pub fn remove(tabulation: &[u16], words: &mut [u32], scratch: &mut [u32], counters: &mut Counters, key: u32) -> u32 {
     unsafe {
-        pinorange_remove(
+        raw::pinorange_remove(
             tabulation.as_ptr(), tabulation.len(), words.as_mut_ptr(), words.len(),
             scratch.as_mut_ptr(), scratch.len(), counters, key,
         )
@@ -122,7 +62,7 @@ pub fn update(change: Change, tabulation: &[u16], words: &mut [u32], scratch: &m
 /// Says whether the words are a canonical image.
 pub fn check(tabulation: &[u16], words: &[u32], scratch: &mut [u32]) -> u32 {
     unsafe {
-        pinorange_check(
+        raw::pinorange_check(
             tabulation.as_ptr(),
             tabulation.len(),
             words.as_ptr(),
@@ -137,7 +77,7 @@ pub fn check(tabulation: &[u16], words: &[u32], scratch: &mut [u32]) -> u32 {
 #[rustfmt::skip]
 pub fn lookup(tabulation: &[u16], words: &[u32], key: u32, listed: &mut u32, tier: &mut u32) -> u32 {
     unsafe {
-        pinorange_lookup(
+        raw::pinorange_lookup(
             tabulation.as_ptr(), tabulation.len(), words.as_ptr(), words.len(),
             key, listed, tier,
         )
@@ -148,7 +88,7 @@ pub fn lookup(tabulation: &[u16], words: &[u32], key: u32, listed: &mut u32, tie
 #[rustfmt::skip]
 pub fn trail(tabulation: &[u16], words: &[u32], scratch: &mut [u32], key: u32, trail: &mut [u32], count: &mut u32) -> u32 {
     unsafe {
-        pinorange_trail(
+        raw::pinorange_trail(
             tabulation.as_ptr(), tabulation.len(), words.as_ptr(), words.len(),
             scratch.as_mut_ptr(), scratch.len(), key, trail.as_mut_ptr(), trail.len(), count,
         )
@@ -159,7 +99,7 @@ pub fn trail(tabulation: &[u16], words: &[u32], scratch: &mut [u32], key: u32, t
 #[rustfmt::skip]
 pub fn open_sale(tabulation: &[u16], words: &[u32], key: u32, base: u32, steps: &[i32], sale: &mut Sale) -> u32 {
     unsafe {
-        pinorange_open_sale(
+        raw::pinorange_open_sale(
             tabulation.as_ptr(), tabulation.len(), words.as_ptr(), words.len(), key,
             base, steps.as_ptr(), steps.len(), sale,
         )
@@ -168,13 +108,14 @@ pub fn open_sale(tabulation: &[u16], words: &[u32], key: u32, base: u32, steps: 
 
 /// Closes a sale: gives its price.
 pub fn close_sale(sale: &Sale) -> u32 {
-    unsafe { pinorange_close_sale(sale) }
+    unsafe { raw::pinorange_close_sale(sale) }
 }
 
 /// What the stash view answers, and the offset and length of the stretch that it names.
 pub fn stash(words: &[u32]) -> (u32, u32, u32) {
     let (mut offset, mut length) = (u32::MAX, u32::MAX);
-    let answer = unsafe { pinorange_stash(words.as_ptr(), words.len(), &mut offset, &mut length) };
+    let answer =
+        unsafe { raw::pinorange_stash(words.as_ptr(), words.len(), &mut offset, &mut length) };
     (answer, offset, length)
 }
 
@@ -183,22 +124,14 @@ pub fn stash(words: &[u32]) -> (u32, u32, u32) {
 pub fn hashes(tabulation: &[u16], r: u32, station: u32, key: u32, old: [u32; 2]) -> (u32, [u32; 2]) {
     let [mut table0, mut table1] = old;
     let answer = unsafe {
-        pinorange_hashes(tabulation.as_ptr(), tabulation.len(), r, station, key, &mut table0, &mut table1)
+        raw::pinorange_hashes(tabulation.as_ptr(), tabulation.len(), r, station, key, &mut table0, &mut table1)
     };
     (answer, [table0, table1])
 }
 
 /// Fills a tabulation with the house tabulation.
 pub fn house(tabulation: &mut [u16]) -> u32 {
-    unsafe { pinorange_house(tabulation.as_mut_ptr(), tabulation.len()) }
-}
-
-/// How many words come before the slots: r, s, the two counts and the station.
-pub const HEADER_LENGTH: usize = 5;
-
-/// How many words a dictionary has.
-pub fn words_length(r: u32, s: u32) -> usize {
-    HEADER_LENGTH + 6 * r as usize + 2 * s as usize
+    unsafe { raw::pinorange_house(tabulation.as_mut_ptr(), tabulation.len()) }
 }
 
 /// What stands in the slots and in the stash places of words of the right shape: key, tier, and whether it is in the
@@ -217,11 +150,6 @@ pub fn entries(words: &[u32]) -> impl Iterator<Item = (u32, u32, bool)> + '_ {
 /// Whether r and s are in their ranges, and this is how many words go with them.
 pub fn are_sizes(r: u32, s: u32, length: usize) -> bool {
     (1..=MAX_R).contains(&r) && s <= MAX_S && length == words_length(r, s)
-}
-
-/// How many words of scratch a change, a check or a trail borrows.
-pub fn scratch_length(r: u32, s: u32) -> usize {
-    12 * r as usize + 8 * s as usize
 }
 
 /// Freshly laid words, at a station.

@@ -7,7 +7,7 @@
 
 use std::collections::{BTreeMap, BTreeSet};
 
-use library::beside::{Beside, Kind};
+use library::beside::{record_of, sale_of, Beside, Kind};
 use library::Change::{Insert, Remove};
 use library::{change, entries, fresh, scratch_length, words_length};
 use library::{Change, Counters, Sale, HEADER_LENGTH};
@@ -337,7 +337,7 @@ impl Board {
         let call = Call::Open { tabulation_len: book.len(), key, base, steps };
         let Reply::Open(expected) = self.register.feed(&call) else { panic!("{call:?}") };
         let answer = expected.map_or_else(Refusal::number, |_| 0);
-        assert_eq!(opened, (answer, expected.ok().map(Sale::from)), "{call:?}");
+        assert_eq!(opened, (answer, expected.ok().map(sale_of)), "{call:?}");
         self.sales.extend(opened.1.zip(expected.ok().map(|sale| sale.price)));
         if self.sales.len() > 4 {
             let (sale, price) = self.sales.remove(0);
@@ -348,7 +348,7 @@ impl Board {
     /// The closing of a sale, at the price of its opening, whatever became of its key. It may be closed again later.
     fn close(&mut self, beside: &mut Beside, sale: Sale, price: u32) {
         assert_eq!(beside.close(&sale), price, "{sale:?}");
-        let call = Call::Close { sale: sale.into() };
+        let call = Call::Close { sale: record_of(sale) };
         assert_eq!(self.register.feed(&call), Reply::Close(price), "{call:?}");
         let now = match self.register.set().get(&sale.key) {
             Some(tier) if *tier == sale.tier => 0,
