@@ -1,7 +1,9 @@
 //! The hashes of a key, from the built library, against the program by another hand.
 
 use hashing::hashes;
-use reference::hash::TABULATION_LEN;
+use pinorange::Refusal;
+use reference::hash::{MAX_R, MAX_STATION, TABULATION_LEN};
+use reference::key::first_part;
 use reference::rng::Rng;
 use reference::samples::random_station;
 
@@ -9,6 +11,7 @@ use reference::samples::random_station;
 const OLD: [u32; 2] = [0xDEAD_BEEF, 0x0BAD_CAFE];
 
 /// Keys at the edges of the bytes of their first parts, and of their own.
+#[rustfmt::skip]
 const EXTREME: [u32; 16] = [
     10, 19, 2_559, 2_560, 655_359, 655_360, 167_772_159, 167_772_160, 255, 256, 0x00FF_00FF, 0xFF00_FF00, 0x7FFF_FFFF,
     0x8000_0000, 4_294_967_290, u32::MAX,
@@ -18,15 +21,32 @@ fn random_tabulation(rng: &mut Rng) -> Vec<u16> {
     (0..TABULATION_LEN).map(|_| rng.next_u32() as u16).collect()
 }
 
-/// Compares one call with the reference, answer and out-parameters; gives the answer.
+/// Compares one call with the reference, answer and out-parameters, and the crate's safe call with it; gives the answer.
 fn compare(tabulation: &[u16], r: u32, station: u32, key: u32) -> u32 {
-    let (expected, written) = match reference::hash::hashes(tabulation, r, station, key) {
+    let told = reference::hash::hashes(tabulation, r, station, key).map_err(|refusal| refusal.number());
+    let (expected, written) = match told {
         Ok(both) => (0, both),
-        Err(refusal) => (refusal.number(), OLD),
+        Err(number) => (number, OLD),
     };
     let got = hashes(tabulation, r, station, key, OLD);
     assert_eq!(got, (expected, written), "r {r}, station {station}, key {key}");
+    let safe = pinorange::hashes(tabulation, r, station, key);
+    assert_eq!(safe.map_err(Refusal::number), told, "r {r}, station {station}, key {key}");
     expected
+}
+
+/// The names of the three refusals, and what else a till gets of the crate.
+#[test]
+fn what_the_crate_has_for_a_till() {
+    let tabulation = [0; pinorange::TABULATION_LENGTH];
+    let lent = |length| pinorange::hashes(&tabulation[..length], 1_024, 255, 10);
+    assert_eq!((lent(2_559), lent(2_560)), (Err(Refusal::WrongTabulation), Ok([0, 0])));
+    assert_eq!(pinorange::hashes(&tabulation, 1_025, 255, 10), Err(Refusal::WrongShape));
+    assert_eq!(pinorange::hashes(&tabulation, 1_024, 255, 9), Err(Refusal::BlankKey));
+    assert_eq!((pinorange::MAX_SLOTS, pinorange::MAX_STATION), (MAX_R, MAX_STATION));
+    for key in EXTREME {
+        assert_eq!(pinorange::first_part(key), first_part(key));
+    }
 }
 
 #[test]

@@ -166,3 +166,8 @@ pub fn change(change: Change, tabulation: &[u16], words: &mut [u32], key: u32) -
     let mut scratch = vec![u32::MAX; scratch_length(words[0], words[1])];
     update(change, tabulation, words, &mut scratch, &mut Counters::default(), key)
 }
+
+/// The Rust blocks of README.md, as doctests: see build.rs.
+#[cfg(doctest)]
+#[doc = include_str!(concat!(env!("OUT_DIR"), "/README.md"))]
+struct Readme;
