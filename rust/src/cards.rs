@@ -1,6 +1,6 @@
 //! Lists the cards of a dictionary. This is plain Rust over the words and two of the calls, tested but not proved.
 
-use crate::{hashes, stash, HEADER_LENGTH, TABULATION_LENGTH};
+use crate::{hashes, stash, TABULATION_LENGTH};
 
 /// Each card of a canonical list once, with its tier: those that sit in table 0, slot by slot, then those that sit in
 /// table 1 alone, then the stash.
@@ -28,11 +28,13 @@ pub fn cards<'a>(tabulation: &'a [u16], words: &'a [u32]) -> impl Iterator<Item 
     let Parts { r, station, table_0, table_1, stash } =
         parts(tabulation, words).unwrap_or_default();
     // The smallest key of a component without a cycle sits in both its slots.
-    let sits_in_table_0 = move |key| match hashes(tabulation, r, station, key) {
-        Ok([slot, _]) => table_0.get(3 * slot as usize) == Some(&key),
-        Err(_) => false,
+    let sits_in_table_0 = move |key| {
+        let [number, _] = hashes(tabulation, r, station, key).ok()?;
+        let slot = table_0.chunks_exact(3).nth(number as usize)?;
+        Some(*slot.first()? == key)
     };
-    let only_in_table_1 = filled(table_1).filter(move |&(key, _)| !sits_in_table_0(key));
+    let only_in_table_1 =
+        filled(table_1).filter(move |&(key, _)| sits_in_table_0(key) != Some(true));
     filled(table_0).chain(only_in_table_1).chain(places(stash))
 }
 
@@ -48,11 +50,15 @@ struct Parts<'a> {
 
 /// The parts of words of the right shape: that they have it is what the stash view tells.
 fn parts<'a>(tabulation: &[u16], words: &'a [u32]) -> Option<Parts<'a>> {
-    let stash = stash(words).ok().filter(|_| tabulation.len() == TABULATION_LENGTH)?;
-    let &[r, _, _, _, station, ..] = words else { return None };
-    let table = 3 * r as usize;
-    let table_0 = words.get(HEADER_LENGTH..)?.get(..table)?;
-    let table_1 = words.get(HEADER_LENGTH + table..)?.get(..table)?;
+    if tabulation.len() != TABULATION_LENGTH {
+        return None;
+    }
+    let stash = stash(words).ok()?;
+    let [r, _, _, _, station, behind @ ..] = words else { return None };
+    let (r, station) = (*r, *station);
+    let table = (r as usize).checked_mul(3)?;
+    let (table_0, behind) = behind.split_at_checked(table)?;
+    let (table_1, _) = behind.split_at_checked(table)?;
     Some(Parts { r, station, table_0, table_1, stash })
 }
 
