@@ -193,3 +193,22 @@ fn part(lent: &[u32], offset: u32, length: u32) -> Result<&[u32], Refusal> {
     let behind = lent.get(offset as usize..);
     behind.and_then(|behind| behind.get(..length as usize)).ok_or(Refusal::Unknown(0))
 }
+
+#[cfg(test)]
+mod tests {
+    use super::part;
+    use crate::Refusal;
+
+    /// What a faulty library may name: up to the end of the memory it is a part, and beyond it a refusal.
+    #[test]
+    fn a_part_that_is_not_there() {
+        let lent = [1, 2, 3];
+        assert_eq!(part(&lent, 1, 2), Ok(&lent[1..]));
+        assert_eq!(part(&lent, 3, 0), Ok(&lent[3..]));
+        for (offset, length) in
+            [(0, 4), (1, 3), (3, 1), (4, 0), (1, u32::MAX), (u32::MAX, u32::MAX)]
+        {
+            assert_eq!(part(&lent, offset, length), Err(Refusal::Unknown(0)), "{offset}, {length}");
+        }
+    }
+}
