@@ -115,3 +115,18 @@ pub(crate) const fn done(number: u32) -> Result<(), Refusal> {
         Some(refusal) => Err(refusal),
     }
 }
+
+#[cfg(test)]
+mod tests {
+    use super::{done, Refusal};
+
+    /// A library of another version may answer any number: all but 0 are refusals.
+    #[test]
+    fn any_number_is_an_answer() {
+        assert_eq!(done(0), Ok(()));
+        assert_eq!(done(13), Err(Refusal::OtherIssue));
+        for number in [14, 256, u32::MAX] {
+            assert_eq!(done(number), Err(Refusal::Unknown(number)));
+        }
+    }
+}
