@@ -21,7 +21,7 @@ fn random_tabulation(rng: &mut Rng) -> Vec<u16> {
     (0..TABULATION_LEN).map(|_| rng.next_u32() as u16).collect()
 }
 
-/// Compares one call with the reference, answer and out-parameters, and the crate's safe call with it; gives the answer.
+/// Compares one call with the reference, answer and out-parameters, and the crate's safe call, too; gives the answer.
 fn compare(tabulation: &[u16], r: u32, station: u32, key: u32) -> u32 {
     let told = reference::hash::hashes(tabulation, r, station, key).map_err(|refusal| refusal.number());
     let (expected, written) = match told {

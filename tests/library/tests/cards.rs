@@ -31,7 +31,8 @@ struct Seen {
 }
 
 impl Seen {
-    /// Lists canonical words: the cards are the members of the set, in the order of the words, each where it stands first.
+    /// Lists canonical words: the cards are the members of the set, in the order of the words, each where it stands
+    /// first.
     fn compare(&mut self, tabulation: &[u16], words: &[u32], members: &[Member]) {
         let listed: Vec<Member> = cards(tabulation, words).collect();
         let mut found = BTreeSet::new();
