@@ -35,4 +35,4 @@ bench:
 	@tests/bench/run
 
 clean:
-	rm -rf target tests/*/target
+	rm -rf target tests/*/target rust/target

@@ -83,7 +83,8 @@ pub fn remove(
     })
 }
 
-/// Whether the words are the canonical image of a set.
+/// Whether the words are the canonical image of a set. `Ok` does not say that nobody changed them: a change that makes
+/// them the image of another set is not found, and the header says what to do about it.
 ///
 /// Refused, in this order: `WrongTabulation`, `WrongShape`, `ShortScratch`, `NotCanonical`.
 #[inline]
