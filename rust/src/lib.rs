@@ -43,5 +43,6 @@ pub use list::{check, close_sale, house, init, insert, lookup, open_sale, remove
 pub use records::{Counters, Sale};
 #[cfg(feature = "list")]
 pub use sizes::{
-    scratch_length, words_length, HEADER_LENGTH, MAX_BASE, MAX_PLACES, MAX_STEP, MAX_TIER, STEPS,
+    place_start, scratch_length, slot_start, words_length, HEADER_LENGTH, MAX_BASE, MAX_PLACES,
+    MAX_STEP, MAX_TIER, STEPS,
 };

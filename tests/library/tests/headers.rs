@@ -4,7 +4,8 @@
 use std::collections::BTreeMap;
 use std::mem::{offset_of, size_of};
 
-use pinorange::{first_part, scratch_length, words_length, Counters, Refusal, Sale};
+use pinorange::{first_part, place_start, scratch_length, slot_start, words_length};
+use pinorange::{Counters, Refusal, Sale};
 
 const HEADERS: [&str; 2] = [
     include_str!("../../../include/pinorange_hashes.h"),
@@ -21,7 +22,9 @@ fn defines() -> BTreeMap<&'static str, &'static str> {
 /// Name and text of one definition; none of those that only guard a header.
 fn define(line: &str) -> Option<(&str, &str)> {
     let line = line.split("/*").next()?.trim_end();
-    let end = if line.contains("(r, s)") { line.find(')')? + 1 } else { line.find(' ')? };
+    let name_end = line.find(' ')?;
+    // With parameters the name ends at the first ')', which stands behind a space if there are two of them.
+    let end = if line[..name_end].contains('(') { line.find(')')? + 1 } else { name_end };
     Some((&line[..end], line[end..].trim_start()))
 }
 
@@ -49,6 +52,12 @@ fn in_capitals(refusal: Refusal) -> String {
     name
 }
 
+/// One of the three numbers of the crate's version.
+fn version(number: usize) -> i64 {
+    let text = pinorange::VERSION.split('.').nth(number).expect("three numbers");
+    text.parse().expect("a number")
+}
+
 #[test]
 fn the_version() {
     assert_eq!(defines()["VERSION"], format!("\"{}\"", pinorange::VERSION));
@@ -59,6 +68,9 @@ fn the_version() {
 fn limits_and_refusals() {
     let mut expected = BTreeMap::from([
         ("DONE", 0),
+        ("VERSION_MAJOR", version(0)),
+        ("VERSION_MINOR", version(1)),
+        ("VERSION_PATCH", version(2)),
         ("TABULATION_LENGTH", pinorange::TABULATION_LENGTH as i64),
         ("MAX_SLOTS", pinorange::MAX_SLOTS.into()),
         ("MAX_STATION", pinorange::MAX_STATION.into()),
@@ -97,12 +109,22 @@ fn lengths_and_first_part() {
         }
     }
 
+    assert_eq!(defined["SLOT(r, table, slot)"], "(5u + 3u * ((table) * (r) + (slot)))");
+    assert_eq!(defined["PLACE(r, place)"], "(5u + 6u * (r) + 2u * (place))");
+    for (r, table, slot, start) in
+        [(1, 0, 0, 5), (1, 1, 0, 8), (7, 1, 3, 35), (1_024, 1, 1_023, 6_146)]
+    {
+        assert_eq!(slot_start(r, table, slot), start, "r {r}, table {table}, slot {slot}");
+        assert_eq!(place_start(r, 0), slot_start(r, 2, 0), "the stash begins behind the tables");
+    }
+    assert_eq!(place_start(1_024, 63) + 2, words_length(1_024, 64));
+
     assert_eq!(defined["FIRST_PART(key)"], "((key) / 10u)");
     for (key, expected) in [(0, 0), (9, 0), (10, 1), (19, 1), (20, 2), (410_017, 41_001)] {
         assert_eq!(first_part(key), expected, "key {key}");
     }
     assert_eq!(first_part(u32::MAX), 429_496_729);
-    assert_eq!(defined.len(), numbers().len() + 4, "a definition that no test knows: {defined:?}");
+    assert_eq!(defined.len(), numbers().len() + 6, "a definition that no test knows: {defined:?}");
 }
 
 /// Sizes far outside their ranges have lengths, too, since nothing in the crate panics.
