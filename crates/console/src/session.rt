@@ -1,7 +1,7 @@
 // The lines after the first: each is answered by a row when its newline, or the end of the input, is read. Byte by byte
 // this is a `Run` of lines/specs/Stream.antt, whose law says that these are the lines of the input, and all of them.
 ghost use Prim.Native.Nat.{_≤_};
-ghost use Rattle.printing.specs.Short.{room};
+ghost use Rattle.printing.specs.Room.{room};
 use counters::Counters;
 use libc::STDIN_FILENO;
 use lines::Command;

@@ -1,2 +1,2 @@
--- What the program's proofs need of the rows that it prints. Assumes nothing.
-pub mod Short
+-- What the contracts cite of the buffer that rows are printed through. Assumes nothing.
+pub mod Room

@@ -3,7 +3,7 @@
 ghost use Prim.Native.Nat.{_+_, _≤_};
 ghost use lib.ListN.{length};
 ghost use Rattle.rows.specs.Row.{row-room};
-ghost use Rattle.printing.specs.Short.{room};
+ghost use Rattle.printing.specs.Room.{room};
 use layout::Found;
 use libc::STDOUT_FILENO;
 use outcome::Change;

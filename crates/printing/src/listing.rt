@@ -2,7 +2,7 @@
 ghost use Prim.Native.Nat.{_≤_};
 ghost use lib.ListN.{length};
 ghost use Rattle.layout.specs.Shape.{Shaped};
-ghost use Rattle.printing.specs.Short.{room};
+ghost use Rattle.printing.specs.Room.{room};
 use crate::ROOM;
 use access::PLACE_WIDTH;
 use access::SLOT_WIDTH;

@@ -99,7 +99,8 @@ fn put_field(out: &mut [u8], at: usize, n: u32) -> usize
 
 fn put_answer(out: &mut [u8], at: usize, letter: u8, key: u32, answer: u32) -> usize
     requires { ⌜ at + row-room ≤ length (now out) ⌝ }
-    ensures { λ next. ⌜ Written (answer-row letter key answer) (now (out .entry)) at (now (out .exit)) next ⌝ }
+    ensures written { λ next. ⌜ Written (answer-row letter key answer) (now (out .entry)) at (now (out .exit)) next ⌝ }
+    ensures short { λ next. ⌜ next ≤ at + row-room ⌝ }
 {
     let second = put_byte(&mut *out, at, letter);
     let third = put_field(&mut *out, second, key);
@@ -110,7 +111,8 @@ fn put_answer(out: &mut [u8], at: usize, letter: u8, key: u32, answer: u32) -> u
 // A,key,tier,answer
 pub fn put_insert(out: &mut [u8], at: usize, key: u32, tier: u32, answer: u32) -> usize
     requires { ⌜ at + row-room ≤ length (now out) ⌝ }
-    ensures { λ next. ⌜ Written (insert-row key tier answer) (now (out .entry)) at (now (out .exit)) next ⌝ }
+    ensures written { λ next. ⌜ Written (insert-row key tier answer) (now (out .entry)) at (now (out .exit)) next ⌝ }
+    ensures short { λ next. ⌜ next ≤ at + row-room ⌝ }
 {
     let second = put_byte(&mut *out, at, b'A');
     let third = put_field(&mut *out, second, key);
@@ -122,7 +124,8 @@ pub fn put_insert(out: &mut [u8], at: usize, key: u32, tier: u32, answer: u32) -
 // W,key,answer
 pub fn put_remove(out: &mut [u8], at: usize, key: u32, answer: u32) -> usize
     requires { ⌜ at + row-room ≤ length (now out) ⌝ }
-    ensures { λ next. ⌜ Written (remove-row key answer) (now (out .entry)) at (now (out .exit)) next ⌝ }
+    ensures written { λ next. ⌜ Written (remove-row key answer) (now (out .entry)) at (now (out .exit)) next ⌝ }
+    ensures short { λ next. ⌜ next ≤ at + row-room ⌝ }
 {
     put_answer(out, at, b'W', key, answer)
 }
@@ -130,8 +133,9 @@ pub fn put_remove(out: &mut [u8], at: usize, key: u32, answer: u32) -> usize
 // L,key,R and the number of the refusal
 fn put_refused(out: &mut [u8], at: usize, key: u32, refusal: u32) -> usize
     requires { ⌜ at + row-room ≤ length (now out) ⌝ }
-    ensures { λ next. ⌜ Written (lookup-row key (Looked.Refused refusal)) (now (out .entry)) at (now (out .exit)) next
+    ensures written { λ next. ⌜ Written (lookup-row key (Looked.Refused refusal)) (now (out .entry)) at (now (out .exit)) next
         ⌝ }
+    ensures short { λ next. ⌜ next ≤ at + row-room ⌝ }
 {
     let second = put_byte(&mut *out, at, b'L');
     let third = put_field(&mut *out, second, key);
@@ -144,7 +148,8 @@ fn put_refused(out: &mut [u8], at: usize, key: u32, refusal: u32) -> usize
 // L,key,N
 fn put_absent(out: &mut [u8], at: usize, key: u32) -> usize
     requires { ⌜ at + row-room ≤ length (now out) ⌝ }
-    ensures { λ next. ⌜ Written (lookup-row key Looked.Absent) (now (out .entry)) at (now (out .exit)) next ⌝ }
+    ensures written { λ next. ⌜ Written (lookup-row key Looked.Absent) (now (out .entry)) at (now (out .exit)) next ⌝ }
+    ensures short { λ next. ⌜ next ≤ at + row-room ⌝ }
 {
     let second = put_byte(&mut *out, at, b'L');
     let third = put_field(&mut *out, second, key);
@@ -156,7 +161,8 @@ fn put_absent(out: &mut [u8], at: usize, key: u32) -> usize
 // L,key,tier  L,key,N  or a refusal
 pub fn put_lookup(out: &mut [u8], at: usize, key: u32, looked: Looked) -> usize
     requires { ⌜ at + row-room ≤ length (now out) ⌝ }
-    ensures { λ next. ⌜ Written (lookup-row key looked) (now (out .entry)) at (now (out .exit)) next ⌝ }
+    ensures written { λ next. ⌜ Written (lookup-row key looked) (now (out .entry)) at (now (out .exit)) next ⌝ }
+    ensures short { λ next. ⌜ next ≤ at + row-room ⌝ }
 {
     match looked {
         Looked::Listed(tier) => put_answer(out, at, b'L', key, tier),
@@ -168,7 +174,8 @@ pub fn put_lookup(out: &mut [u8], at: usize, key: u32, looked: Looked) -> usize
 // E,line number
 pub fn put_error(out: &mut [u8], at: usize, line: u64) -> usize
     requires { ⌜ at + row-room ≤ length (now out) ⌝ }
-    ensures { λ next. ⌜ Written (error-row line) (now (out .entry)) at (now (out .exit)) next ⌝ }
+    ensures written { λ next. ⌜ Written (error-row line) (now (out .entry)) at (now (out .exit)) next ⌝ }
+    ensures short { λ next. ⌜ next ≤ at + row-room ⌝ }
 {
     let second = put_byte(&mut *out, at, b'E');
     let number = put_byte(&mut *out, second, COMMA);
@@ -187,7 +194,8 @@ pub fn put_slot(
     tier: u32,
 ) -> usize
     requires { ⌜ at + row-room ≤ length (now out) ⌝ }
-    ensures { λ end. ⌜ Written (slot-row table slot key next tier) (now (out .entry)) at (now (out .exit)) end ⌝ }
+    ensures written { λ end. ⌜ Written (slot-row table slot key next tier) (now (out .entry)) at (now (out .exit)) end ⌝ }
+    ensures short { λ end. ⌜ end ≤ at + row-room ⌝ }
 {
     let second = put_byte(&mut *out, at, b'P');
     let third = put_field(&mut *out, second, table);
@@ -201,7 +209,8 @@ pub fn put_slot(
 // D,key,tier
 pub fn put_stashed(out: &mut [u8], at: usize, key: u32, tier: u32) -> usize
     requires { ⌜ at + row-room ≤ length (now out) ⌝ }
-    ensures { λ next. ⌜ Written (stash-row key tier) (now (out .entry)) at (now (out .exit)) next ⌝ }
+    ensures written { λ next. ⌜ Written (stash-row key tier) (now (out .entry)) at (now (out .exit)) next ⌝ }
+    ensures short { λ next. ⌜ next ≤ at + row-room ⌝ }
 {
     let second = put_byte(&mut *out, at, b'D');
     let third = put_field(&mut *out, second, key);
@@ -212,7 +221,8 @@ pub fn put_stashed(out: &mut [u8], at: usize, key: u32, tier: u32) -> usize
 // B, for a book that is missing or of another length
 pub fn put_no_book(out: &mut [u8], at: usize) -> usize
     requires { ⌜ at + row-room ≤ length (now out) ⌝ }
-    ensures { λ next. ⌜ Written book-row (now (out .entry)) at (now (out .exit)) next ⌝ }
+    ensures written { λ next. ⌜ Written book-row (now (out .entry)) at (now (out .exit)) next ⌝ }
+    ensures short { λ next. ⌜ next ≤ at + row-room ⌝ }
 {
     let end = put_byte(&mut *out, at, b'B');
     put_byte(&mut *out, end, NEWLINE)

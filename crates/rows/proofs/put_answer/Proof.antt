@@ -25,7 +25,7 @@ returns c =
     let d = e .before .before .before .before in
     let b = d .before .before .before .before in
     let a = b .before .before .before .before in
-    a .put-byte .ensures then b .put-field .ensures .0 then d .put-field2 .ensures .0 then e .put-byte2 .ensures
+    (a .put-byte .ensures then b .put-field .ensures .0 then d .put-field2 .ensures .0 then e .put-byte2 .ensures, search needs)
 
 pub put-answer-spec : {M : Type 1} → statement M
 put-answer-spec =

@@ -27,7 +27,7 @@ returns c =
     let d = e .before .before .before .before in
     let b = d .before .before .before .before in
     let a = b .before .before .before .before in
-    a .put-byte .ensures then b .put-byte2 .ensures then d .put-long .ensures .0 then e .put-byte3 .ensures
+    (a .put-byte .ensures then b .put-byte2 .ensures then d .put-long .ensures .0 then e .put-byte3 .ensures, search needs)
 
 pub put-error-spec : {M : Type 1} → statement M
 put-error-spec =

@@ -31,7 +31,7 @@ returns c =
     let d = e .before .before .before .before in
     let b = d .before .before .before .before in
     let a = b .before .before .before .before in
-    a .put-byte .ensures then b .put-field .ensures .0 then d .put-field2 .ensures .0 then e .put-field3 .ensures .0 then f .put-byte2 .ensures
+    (a .put-byte .ensures then b .put-field .ensures .0 then d .put-field2 .ensures .0 then e .put-field3 .ensures .0 then f .put-byte2 .ensures, search needs)
 
 pub put-insert-spec : {M : Type 1} → statement M
 put-insert-spec =

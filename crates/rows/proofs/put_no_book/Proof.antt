@@ -19,7 +19,7 @@ unfolding book-row
 returns c =
     let b = c .before .before in
     let a = b .before .before .before .before in
-    a .put-byte .ensures then b .put-byte2 .ensures
+    (a .put-byte .ensures then b .put-byte2 .ensures, search needs)
 
 pub put-no-book-spec : {M : Type 1} → statement M
 put-no-book-spec = tie.close (tie.spec put-byte-requires put-byte-requires-2 same-length returns)

@@ -35,7 +35,7 @@ returns c =
     let d = e .before .before .before .before in
     let b = d .before .before .before .before in
     let a = b .before .before .before .before in
-    a .put-byte .ensures then b .put-field .ensures .0 then d .put-byte2 .ensures then e .put-byte3 .ensures then f .put-word .ensures .0 then g .put-byte4 .ensures
+    (a .put-byte .ensures then b .put-field .ensures .0 then d .put-byte2 .ensures then e .put-byte3 .ensures then f .put-word .ensures .0 then g .put-byte4 .ensures, search needs)
 
 pub put-refused-spec : {M : Type 1} → statement M
 put-refused-spec =

@@ -39,7 +39,7 @@ returns c =
     let d = e .before .before .before .before in
     let b = d .before .before .before .before in
     let a = b .before .before .before .before in
-    a .put-byte .ensures then b .put-field .ensures .0 then d .put-field2 .ensures .0 then e .put-field3 .ensures .0 then f .put-field4 .ensures .0 then g .put-field5 .ensures .0 then h .put-byte2 .ensures
+    (a .put-byte .ensures then b .put-field .ensures .0 then d .put-field2 .ensures .0 then e .put-field3 .ensures .0 then f .put-field4 .ensures .0 then g .put-field5 .ensures .0 then h .put-byte2 .ensures, search needs)
 
 pub put-slot-spec : {M : Type 1} → statement M
 put-slot-spec =
