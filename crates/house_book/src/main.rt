@@ -11,14 +11,11 @@ fn encode(tabulation: &[u16; 2560], bytes: &mut [u8; 5120])
 fn save(bytes: &[u8; 5120]) {
     let path = b"book.bin";
     let file = os::open_overwrite(path);
-    if file < 0 {
-        os::fail(path);
-        return;
-    }
-    if !io::write_all(file, bytes) {
+    // A file system may say only at the close that bytes are lost. After a failed write the program's end closes the
+    // file.
+    if file < 0 || !io::write_all(file, bytes) || libc::close(file) < 0 {
         os::fail(path);
     }
-    libc::close(file);
 }
 
 fn main() {
