@@ -88,8 +88,8 @@ fn run(tabulation: &[u16], words: &mut [u32], scratch: &mut [u32], r: u32, s: u3
     }
     let counters = laid.counters;
     let mut out = [0u8; printing::ROOM];
-    let at = session::serve(tabulation, &mut *words, &mut *scratch, &mut out, counters);
-    let end = printing::listing::list(&*words, &mut out, at);
+    let rows = session::serve(tabulation, &mut *words, &mut *scratch, &mut out, counters);
+    let end = printing::listing::list(&*words, &mut out, rows);
     printing::flush(&out, end);
 }
 

@@ -1,5 +1,6 @@
 // The lines after the first: each is answered by a row when its newline, or the end of the input, is read. Byte by byte
-// this is a `Run` of lines/specs/Stream.antt, whose law says that these are the lines of the input, and all of them.
+// this is a `Run` of lines/specs/Stream.antt, whose law says that these are the lines of the input, and all of them,
+// unless a row cannot be written.
 ghost use Prim.Native.Nat.{_≤_};
 ghost use Rattle.printing.specs.Room.{room};
 use counters::Counters;
@@ -9,11 +10,12 @@ use lines::Line;
 use lines::NEWLINE;
 use outcome::Change;
 use printing::ROOM;
+use printing::Rows;
 
-// What the lines so far left behind: the counters, and where the next row goes in the buffer.
+// What the lines so far left behind: the counters, and their rows.
 pub struct Done {
     pub counters: Counters,
-    pub at: usize,
+    pub rows: Rows,
 }
 
 // The line that is being read and its number, and what the lines before it left.
@@ -39,41 +41,41 @@ fn change(
     key: u32,
     done: Done,
 ) -> Done
-    requires { ⌜ done .at ≤ room ⌝ }
-    ensures { λ r. ⌜ r .at ≤ room ⌝ }
+    requires { ⌜ done .rows .at ≤ room ⌝ }
+    ensures { λ r. ⌜ r .rows .at ≤ room ⌝ }
 {
     let before = done.counters;
     let counted = counted::update(kind, tabulation, words, scratch, key, before);
     let counters = counted.counters;
-    let at = printing::add_change(out, done.at, kind, key, counted.answer);
+    let rows = printing::add_change(out, done.rows, kind, key, counted.answer);
     Done {
         counters: counters,
-        at: at,
+        rows: rows,
     }
 }
 
 fn lookup(tabulation: &[u16], words: &[u32], out: &mut [u8; ROOM], key: u32, done: Done) -> Done
-    requires { ⌜ done .at ≤ room ⌝ }
-    ensures { λ r. ⌜ r .at ≤ room ⌝ }
+    requires { ⌜ done .rows .at ≤ room ⌝ }
+    ensures { λ r. ⌜ r .rows .at ≤ room ⌝ }
 {
     let found = access::lookup(tabulation, words, key);
-    let at = printing::add_lookup(out, done.at, key, found);
+    let rows = printing::add_lookup(out, done.rows, key, found);
     let counters = done.counters;
     Done {
         counters: counters,
-        at: at,
+        rows: rows,
     }
 }
 
 fn error(out: &mut [u8; ROOM], number: u64, done: Done) -> Done
-    requires { ⌜ done .at ≤ room ⌝ }
-    ensures { λ r. ⌜ r .at ≤ room ⌝ }
+    requires { ⌜ done .rows .at ≤ room ⌝ }
+    ensures { λ r. ⌜ r .rows .at ≤ room ⌝ }
 {
-    let at = printing::add_error(out, done.at, number);
+    let rows = printing::add_error(out, done.rows, number);
     let counters = done.counters;
     Done {
         counters: counters,
-        at: at,
+        rows: rows,
     }
 }
 
@@ -85,8 +87,8 @@ fn answer(
     out: &mut [u8; ROOM],
     session: Session,
 ) -> Done
-    requires { ⌜ session .done .at ≤ room ⌝ }
-    ensures { λ r. ⌜ r .at ≤ room ⌝ }
+    requires { ⌜ session .done .rows .at ≤ room ⌝ }
+    ensures { λ r. ⌜ r .rows .at ≤ room ⌝ }
 {
     let line = session.line;
     let done = session.done;
@@ -116,8 +118,8 @@ fn take_byte(
     session: Session,
     byte: u8,
 ) -> Session
-    requires { ⌜ session .done .at ≤ room ⌝ }
-    ensures { λ r. ⌜ r .done .at ≤ room ⌝ }
+    requires { ⌜ session .done .rows .at ≤ room ⌝ }
+    ensures { λ r. ⌜ r .done .rows .at ≤ room ⌝ }
 {
     if byte != NEWLINE {
         let line = lines::feed(session.line, byte);
@@ -146,8 +148,8 @@ fn take_bytes(
     start: Session,
     bytes: &[u8],
 ) -> Session
-    requires { ⌜ start .done .at ≤ room ⌝ }
-    ensures { λ r. ⌜ r .done .at ≤ room ⌝ }
+    requires { ⌜ start .done .rows .at ≤ room ⌝ }
+    ensures { λ r. ⌜ r .done .rows .at ≤ room ⌝ }
 {
     let mut session = start;
     let mut i = 0;
@@ -167,11 +169,11 @@ fn take_bytes(
 
 // Writes the rows out, so that a person at the bench sees the answer to a line before typing the next.
 fn show(out: &[u8; ROOM], session: Session) -> Session
-    requires { ⌜ session .done .at ≤ room ⌝ }
-    ensures { λ r. ⌜ r .done .at ≤ room ⌝ }
+    requires { ⌜ session .done .rows .at ≤ room ⌝ }
+    ensures { λ r. ⌜ r .done .rows .at ≤ room ⌝ }
 {
     let done = session.done;
-    printing::flush(out, done.at);
+    let rows = printing::flush(out, done.rows);
     let counters = done.counters;
     let line = session.line;
     Session {
@@ -179,12 +181,12 @@ fn show(out: &[u8; ROOM], session: Session) -> Session
         number: session.number,
         done: Done {
             counters: counters,
-            at: 0,
+            rows: rows,
         },
     }
 }
 
-// One read of the input. A read that fails ends it.
+// One read of the input. A read that fails ends it, and so do rows that are lost: nobody would see an answer.
 fn turn(
     tabulation: &[u16],
     words: &mut [u32],
@@ -192,8 +194,8 @@ fn turn(
     out: &mut [u8; ROOM],
     session: Session,
 ) -> Took
-    requires { ⌜ session .done .at ≤ room ⌝ }
-    ensures { λ r. ⌜ r .session .done .at ≤ room ⌝ }
+    requires { ⌜ session .done .rows .at ≤ room ⌝ }
+    ensures { λ r. ⌜ r .session .done .rows .at ≤ room ⌝ }
 {
     let mut bytes = io::large_buffer();
     let got = libc::read(STDIN_FILENO, &mut bytes);
@@ -207,13 +209,13 @@ fn turn(
     let next = take_bytes(tabulation, words, scratch, &mut *out, session, &bytes[..n]);
     let shown = show(&*out, next);
     Took {
-        more: true,
+        more: !shown.done.rows.lost,
         session: shown,
     }
 }
 
-// The input to its end. Nothing says that an input ends, so the turns are counted down from a number that no run uses
-// up.
+// The input to its end, or until rows are lost. Nothing says that an input ends, so the turns are counted down from a
+// number that no run uses up.
 fn take_input(
     tabulation: &[u16],
     words: &mut [u32],
@@ -221,8 +223,8 @@ fn take_input(
     out: &mut [u8; ROOM],
     start: Session,
 ) -> Session
-    requires { ⌜ start .done .at ≤ room ⌝ }
-    ensures { λ r. ⌜ r .done .at ≤ room ⌝ }
+    requires { ⌜ start .done .rows .at ≤ room ⌝ }
+    ensures { λ r. ⌜ r .done .rows .at ≤ room ⌝ }
 {
     let mut session = start;
     let mut turns = u64::MAX;
@@ -237,19 +239,21 @@ fn take_input(
     session
 }
 
-// The lines from line 2 on, the last one with or without its newline. The answer is where the next row goes.
+// The lines from line 2 on, the last one with or without its newline. Where rows are lost, what is taken for the last
+// one may be a part of a line: its row is not written.
 pub fn serve(
     tabulation: &[u16],
     words: &mut [u32],
     scratch: &mut [u32],
     out: &mut [u8; ROOM],
     counters: Counters,
-) -> usize
-    ensures { λ r. ⌜ r ≤ room ⌝ }
+) -> Rows
+    ensures { λ r. ⌜ r .at ≤ room ⌝ }
 {
+    let rows = printing::no_rows();
     let done = Done {
         counters: counters,
-        at: 0,
+        rows: rows,
     };
     let line = lines::empty_line();
     let start = Session {
@@ -261,8 +265,8 @@ pub fn serve(
     let rest = session.line;
     let before = session.done;
     if lines::is_empty(rest) {
-        return before.at;
+        return before.rows;
     }
     let last = answer(tabulation, &mut *words, &mut *scratch, &mut *out, session);
-    last.at
+    last.rows
 }

@@ -4,62 +4,63 @@ ghost use lib.ListN.{length};
 ghost use Rattle.layout.specs.Shape.{Shaped};
 ghost use Rattle.printing.specs.Room.{room};
 use crate::ROOM;
+use crate::Rows;
 use access::PLACE_WIDTH;
 use access::SLOT_WIDTH;
 use layout::Slot;
 use words::wide;
 
 // One slot, if it is filled.
-fn list_slot(out: &mut [u8; ROOM], at: usize, table: u32, slot: u32, held: Slot) -> usize
-    requires { ⌜ at ≤ room ⌝ }
-    ensures { λ end. ⌜ end ≤ room ⌝ }
+fn list_slot(out: &mut [u8; ROOM], rows: Rows, table: u32, slot: u32, held: Slot) -> Rows
+    requires { ⌜ rows .at ≤ room ⌝ }
+    ensures { λ after. ⌜ after .at ≤ room ⌝ }
 {
     if held.key == 0 {
-        return at;
+        return rows;
     }
-    crate::add_slot(out, at, table, slot, held.key, held.next, held.tier)
+    crate::add_slot(out, rows, table, slot, held.key, held.next, held.tier)
 }
 
 // The filled slots of one table.
-fn list_table(slots: &[u32], table: u32, out: &mut [u8; ROOM], start: usize) -> usize
-    requires { ⌜ (length (now slots) ≤ 3072) × (start ≤ room) ⌝ }
-    ensures { λ end. ⌜ end ≤ room ⌝ }
+fn list_table(slots: &[u32], table: u32, out: &mut [u8; ROOM], start: Rows) -> Rows
+    requires { ⌜ (length (now slots) ≤ 3072) × (start .at ≤ room) ⌝ }
+    ensures { λ after. ⌜ after .at ≤ room ⌝ }
 {
     let count = slots.len() / SLOT_WIDTH;
-    let mut at = start;
+    let mut rows = start;
     let mut slot: u32 = 0;
     while wide(slot) < count {
         let held = access::slot_in(slots, wide(slot));
-        at = list_slot(&mut *out, at, table, slot, held);
+        rows = list_slot(&mut *out, rows, table, slot, held);
         slot += 1;
     }
-    at
+    rows
 }
 
 // The filled places of the stash.
-fn list_stash(places: &[u32], out: &mut [u8; ROOM], start: usize) -> usize
-    requires { ⌜ start ≤ room ⌝ }
-    ensures { λ end. ⌜ end ≤ room ⌝ }
+fn list_stash(places: &[u32], out: &mut [u8; ROOM], start: Rows) -> Rows
+    requires { ⌜ start .at ≤ room ⌝ }
+    ensures { λ after. ⌜ after .at ≤ room ⌝ }
 {
     let count = places.len() / PLACE_WIDTH;
-    let mut at = start;
+    let mut rows = start;
     let mut i = 0;
     while i < count {
-        at = crate::add_stashed(
+        rows = crate::add_stashed(
             &mut *out,
-            at,
+            rows,
             places[PLACE_WIDTH * i],
             places[PLACE_WIDTH * i + 1],
         );
         i += 1;
     }
-    at
+    rows
 }
 
 // The slots of both tables, then the stash.
-fn list_words(words: &[u32], out: &mut [u8; ROOM], start: usize) -> usize
-    requires { ⌜ Shaped (now words) × (start ≤ room) ⌝ }
-    ensures { λ end. ⌜ end ≤ room ⌝ }
+fn list_words(words: &[u32], out: &mut [u8; ROOM], start: Rows) -> Rows
+    requires { ⌜ Shaped (now words) × (start .at ≤ room) ⌝ }
+    ensures { λ after. ⌜ after .at ≤ room ⌝ }
 {
     let second = list_table(access::table_0(words), 0, &mut *out, start);
     let third = list_table(access::table_1(words), 1, &mut *out, second);
@@ -67,9 +68,9 @@ fn list_words(words: &[u32], out: &mut [u8; ROOM], start: usize) -> usize
 }
 
 // Words that do not have the shape of a dictionary have no listing.
-pub fn list(words: &[u32], out: &mut [u8; ROOM], start: usize) -> usize
-    requires { ⌜ start ≤ room ⌝ }
-    ensures { λ end. ⌜ end ≤ room ⌝ }
+pub fn list(words: &[u32], out: &mut [u8; ROOM], start: Rows) -> Rows
+    requires { ⌜ start .at ≤ room ⌝ }
+    ensures { λ after. ⌜ after .at ≤ room ⌝ }
 {
     if access::is_shaped(words) {
         return list_words(words, out, start);

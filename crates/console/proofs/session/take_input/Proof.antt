@@ -8,7 +8,7 @@ use Rattle.console.proofs.session.take_input.Tie as tie
 
 abbrev Inv-loop : tie.InvT-loop
 Inv-loop tabulation words₀ scratch₀ out₀ session₀ turns₀ words scratch out session turns =
-    (length words ≡ length words₀) × (length scratch ≡ length scratch₀) × (session .done .at ≤ 4096)
+    (length words ≡ length words₀) × (length scratch ≡ length scratch₀) × (session .done .rows .at ≤ 4096)
 
 abbrev μ-loop : tie.MeasureT-loop
 μ-loop tabulation words₀ scratch₀ out₀ session₀ turns₀ words scratch out session turns = turns

@@ -6,10 +6,10 @@ use Rattle.printing.proofs.listing.list_stash.Statement.{statement}
 use Rattle.printing.proofs.listing.list_stash.Tie as tie
 
 abbrev Inv-loop : tie.InvT-loop
-Inv-loop places out₀ start count at₀ i₀ out at i = (i ≤ count) × (2 * count ≤ length places) × (at ≤ 4096)
+Inv-loop places out₀ count rows₀ i₀ out rows i = (i ≤ count) × (2 * count ≤ length places) × (rows .at ≤ 4096)
 
 abbrev μ-loop : tie.MeasureT-loop
-μ-loop places out₀ start count at₀ i₀ out at i = count - i
+μ-loop places out₀ count rows₀ i₀ out rows i = count - i
 
 loop-holds : tie.Need-loop-holds Inv-loop μ-loop
 loop-holds c = search needs

@@ -6,10 +6,10 @@ use Rattle.printing.proofs.listing.list_table.Statement.{statement}
 use Rattle.printing.proofs.listing.list_table.Tie as tie
 
 abbrev Inv-loop : tie.InvT-loop
-Inv-loop slots table out₀ start count at₀ slot₀ out at slot = (slot ≤ count) × (3 * count ≤ length slots) × (at ≤ 4096)
+Inv-loop slots table out₀ count rows₀ slot₀ out rows slot = (slot ≤ count) × (3 * count ≤ length slots) × (rows .at ≤ 4096)
 
 abbrev μ-loop : tie.MeasureT-loop
-μ-loop slots table out₀ start count at₀ slot₀ out at slot = count - slot
+μ-loop slots table out₀ count rows₀ slot₀ out rows slot = count - slot
 
 loop-holds : tie.Need-loop-holds Inv-loop μ-loop
 loop-holds c = search needs
