@@ -2,9 +2,13 @@
 
 use std::collections::BTreeMap;
 use std::fs;
-use std::io::Write;
+use std::io::{BufRead, BufReader, ErrorKind, Read, Write};
+use std::os::fd::OwnedFd;
+use std::os::unix::net::UnixStream;
 use std::path::{Path, PathBuf};
-use std::process::{Command, Stdio};
+use std::process::{Child, ChildStdin, Command, Output, Stdio};
+use std::thread::{self, JoinHandle};
+use std::time::{Duration, Instant};
 
 use reference::fast::Fast;
 use reference::rng::Rng;
@@ -37,26 +41,43 @@ fn book_of(tabulation: &[u16]) -> Vec<u8> {
     tabulation.iter().flat_map(|entry| entry.to_le_bytes()).collect()
 }
 
-/// What the program prints for a book (or none) and an input.
-fn printed(folder: &Folder, book: Option<&[u8]>, input: &[u8]) -> Vec<u8> {
+/// Starts the program in the folder with a book or none.
+fn start(folder: &Folder, book: Option<&[u8]>, stdout: Stdio) -> Child {
     let file = folder.0.join("book.bin");
     match book {
         Some(bytes) => fs::write(&file, bytes).expect("book.bin"),
         None => drop(fs::remove_file(&file)),
     }
-    let mut child = Command::new(PROGRAM)
+    Command::new(PROGRAM)
         .current_dir(&folder.0)
         .stdin(Stdio::piped())
-        .stdout(Stdio::piped())
+        .stdout(stdout)
+        .stderr(Stdio::piped())
         .spawn()
-        .expect("the console program, built by rt check");
-    let mut stdin = child.stdin.take().expect("standard input");
+        .expect("the console program, built by rt check")
+}
+
+/// Writes the input and ends it, while the program's output is read.
+fn feed(mut stdin: ChildStdin, input: &[u8]) -> JoinHandle<()> {
     let bytes = input.to_vec();
     // The program may stop before it has read all, so a write that fails is no fault.
-    let writer = std::thread::spawn(move || drop(stdin.write_all(&bytes)));
+    thread::spawn(move || drop(stdin.write_all(&bytes)))
+}
+
+/// What the program writes for a book (or none) and an input. It always ends with success.
+fn run(folder: &Folder, book: Option<&[u8]>, input: &[u8], stdout: Stdio) -> Output {
+    let mut child = start(folder, book, stdout);
+    let writer = feed(child.stdin.take().expect("standard input"), input);
     let output = child.wait_with_output().expect("the program's output");
     writer.join().expect("the writing thread");
     assert!(output.status.success(), "the console ended with {}", output.status);
+    output
+}
+
+/// What the program prints, on standard output alone.
+fn printed(folder: &Folder, book: Option<&[u8]>, input: &[u8]) -> Vec<u8> {
+    let output = run(folder, book, input, Stdio::piped());
+    assert_eq!(String::from_utf8_lossy(&output.stderr), "");
     output.stdout
 }
 
@@ -448,15 +469,170 @@ fn the_largest_session() {
     compare(&folder, Some(&book_of(&reference::house::HOUSE)), input.as_bytes());
 }
 
+/// What the program says where its output is on a full disk.
+const DISK_FULL: &str = "standard output: No space left on device\n";
+
+/// The same where it is a socket that is full for now.
+const FULL_FOR_NOW: &str = "standard output: Resource temporarily unavailable\n";
+
+/// A program that does not end is taken for one that never will.
+const LIMIT: Duration = Duration::from_secs(20);
+
+fn full_disk() -> Stdio {
+    fs::File::options().write(true).open("/dev/full").expect("/dev/full").into()
+}
+
+/// A session of so many A lines on the largest board, each with another card.
+fn long_session(lines: u32) -> String {
+    let mut input = String::from("1024,64,203\n");
+    for n in 0..lines {
+        input += &format!("A,{},{}\n", 1_000 + 10 * n, n % 8);
+    }
+    input
+}
+
+/// One line, however much there was to be written, and whichever write it was: the one behind a read, one when the
+/// buffer is full in the middle of a read, the one at the end, with the row of a last line that has no newline and the
+/// listing, and the one of the rows B and E,1.
+#[test]
+fn output_that_cannot_be_written() {
+    let folder = Folder::new("full");
+    let book = book_of(&test_tabulation());
+    let long = long_session(5_000);
+    let sessions = ["2,1,0\nA,650,0\n", "2,1,0\nX\nL,650\nA,650,0", "2,1,0\nA,650,0", &long];
+    for input in sessions.iter().copied().chain(["", "4,1\n", "4,1,256\nA,650,0\n", "0,1,0\n"]) {
+        let output = run(&folder, Some(&book), input.as_bytes(), full_disk());
+        let told = String::from_utf8_lossy(&output.stderr);
+        assert_eq!(told, DISK_FULL, "{}", &input[..input.len().min(30)]);
+    }
+    let output = run(&folder, None, b"4,1,0\nA,650,0\n", full_disk());
+    assert_eq!(String::from_utf8_lossy(&output.stderr), DISK_FULL, "no book");
+    // nothing to be written, so nothing is lost
+    let output = run(&folder, Some(&book), b"2,1,0\n", full_disk());
+    assert_eq!(String::from_utf8_lossy(&output.stderr), "", "no line");
+}
+
+/// The program ends after the line whose row it could not write, though the input goes on.
+#[test]
+fn reading_ends_with_the_writing() {
+    let folder = Folder::new("reading");
+    let mut child = start(&folder, Some(&book_of(&test_tabulation())), full_disk());
+    let mut stdin = child.stdin.take().expect("standard input");
+    for line in ["2,1,0\n", "A,650,0\n"] {
+        stdin.write_all(line.as_bytes()).expect("a line");
+    }
+    let limit = Instant::now() + LIMIT;
+    while child.try_wait().expect("the program").is_none() {
+        if Instant::now() > limit {
+            child.kill().expect("an end to the program");
+            panic!("the console reads on");
+        }
+        thread::sleep(Duration::from_millis(5));
+    }
+    let output = child.wait_with_output().expect("the program's output");
+    drop(stdin);
+    assert!(output.status.success(), "the console ended with {}", output.status);
+    assert_eq!(String::from_utf8_lossy(&output.stderr), DISK_FULL);
+}
+
+/// A socket to write to that refuses what it has no room for, and the end that it is read from.
+fn socket() -> (UnixStream, UnixStream) {
+    let (writing, reading) = UnixStream::pair().expect("a socket");
+    writing.set_nonblocking(true).expect("a socket that does not block");
+    reading.set_read_timeout(Some(LIMIT)).expect("a limit");
+    (writing, reading)
+}
+
+/// Writes until the socket takes no more, and says how many bytes that were.
+fn fill(socket: &mut UnixStream) -> usize {
+    let mut bytes = 0;
+    loop {
+        match socket.write(&[b'.'; 1_024]) {
+            Ok(written) => bytes += written,
+            Err(error) if error.kind() == ErrorKind::WouldBlock => return bytes,
+            Err(error) => panic!("{error}"),
+        }
+    }
+}
+
+/// Once the program has said that its output is full, takes away what filled it, so that there is room again: the
+/// program says it once, and writes nothing more.
+fn nothing_follows(mut child: Child, mut reading: UnixStream, filled: usize) {
+    let mut stderr = BufReader::new(child.stderr.take().expect("standard error"));
+    let mut told = String::new();
+    stderr.read_line(&mut told).expect("a line on standard error");
+    let mut rest = Vec::new();
+    reading.read_to_end(&mut rest).expect("what filled the socket");
+    stderr.read_to_string(&mut told).expect("standard error to its end");
+    assert_eq!(told, FULL_FOR_NOW);
+    assert!(child.wait().expect("the program").success());
+    assert_eq!(rest.len(), filled, "bytes behind a gap");
+}
+
+/// The write that fails is one in the middle of a read, with thousands of lines behind it: no row comes behind the gap.
+#[test]
+fn no_row_behind_a_gap() {
+    let folder = Folder::new("gap");
+    let (mut writing, reading) = socket();
+    let filled = fill(&mut writing);
+    let book = book_of(&reference::house::HOUSE);
+    let mut child = start(&folder, Some(&book), OwnedFd::from(writing).into());
+    let stdin = child.stdin.take().expect("standard input");
+    let writer = feed(stdin, long_session(6_000).as_bytes());
+    nothing_follows(child, reading, filled);
+    writer.join().expect("the writing thread");
+}
+
+/// The write that fails is the first of the listing, which has rows for several more.
+#[test]
+fn a_listing_that_cannot_be_written() {
+    let folder = Folder::new("lost-listing");
+    let (mut writing, mut reading) = socket();
+    let book = book_of(&reference::house::HOUSE);
+    let stdout = OwnedFd::from(writing.try_clone().expect("the socket once more"));
+    let mut child = start(&folder, Some(&book), stdout.into());
+    let mut stdin = child.stdin.take().expect("standard input");
+    let input = long_session(900);
+    stdin.write_all(input.as_bytes()).expect("the lines");
+    let expected = reference::console::run(&Fast, Some(&book), input.as_bytes());
+    let listing = expected.windows(2).position(|pair| pair == b"\nP").expect("a listing") + 1;
+    assert!(expected.len() - listing > 4 * 4_096, "a listing of several buffers");
+    let mut rows = vec![0; listing];
+    reading.read_exact(&mut rows).expect("the rows before the listing");
+    assert_eq!(String::from_utf8_lossy(&rows), String::from_utf8_lossy(&expected[..listing]));
+    let filled = fill(&mut writing);
+    drop((writing, stdin));
+    nothing_follows(child, reading, filled);
+}
+
+/// The program that writes the house book, run in the folder: what it says on standard error.
+fn house_book(folder: &Folder) -> String {
+    let output = Command::new(HOUSE_BOOK)
+        .current_dir(&folder.0)
+        .output()
+        .expect("house_book, built by rt check");
+    assert!(output.status.success());
+    assert_eq!(String::from_utf8_lossy(&output.stdout), "");
+    String::from_utf8(output.stderr).expect("text")
+}
+
 /// The program that writes the house book writes the table that the specification's rule gives.
 #[test]
 fn the_house_book() {
     let folder = Folder::new("house");
-    let status = Command::new(HOUSE_BOOK)
-        .current_dir(&folder.0)
-        .status()
-        .expect("house_book, built by rt check");
-    assert!(status.success());
+    assert_eq!(house_book(&folder), "");
     let written = fs::read(folder.0.join("book.bin")).expect("book.bin");
     assert_eq!(written, book_of(&reference::house::HOUSE));
+}
+
+/// One line, where book.bin cannot be opened and where it cannot be written.
+#[test]
+fn a_house_book_that_cannot_be_written() {
+    let folder = Folder::new("no-house");
+    let file = folder.0.join("book.bin");
+    fs::create_dir(&file).expect("a folder of that name");
+    assert_eq!(house_book(&folder), "book.bin: Is a directory\n");
+    fs::remove_dir(&file).expect("an empty folder");
+    std::os::unix::fs::symlink("/dev/full", &file).expect("a link to /dev/full");
+    assert_eq!(house_book(&folder), "book.bin: No space left on device\n");
 }
