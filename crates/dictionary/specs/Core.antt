@@ -32,9 +32,10 @@ use Rattle.outcome.specs.Laws.{Ready, change-refused, check-ready, change-ready
 use Rattle.outcome.specs.Held.{one-too-many, changed-keys, keys-changed-valid}
 use Rattle.renewal.specs.declared.Reading.{Reading}
 use Rattle.renewal.specs.declared.Reading.the-variants.{Keys, NotCanonical}
-use Rattle.renewal.specs.Edges.{edge-with, Lined, lined-buildable}
-use Rattle.renewal.specs.Members.{keys-at, Placed, put-in, taken-out, lined-agree, lined-keys, lined-tier, lined-put, lined-taken}
-use Rattle.renewal.specs.Reading.{early-refusal, number, values, reading-refusal, reading-values, new-answer, new-words, Listed, Renewed, canonical-small}
+use Rattle.members.specs.Edges.{edge-with, Lined, lined-buildable}
+use Rattle.members.specs.Members.{keys-at, Placed, put-in, taken-out, lined-agree, lined-keys, lined-tier, lined-put, lined-taken}
+use Rattle.members.specs.Collected.{Listed}
+use Rattle.renewal.specs.Reading.{early-refusal, number, values, reading-refusal, reading-values, new-answer, new-words, Renewed, canonical-small}
 use Rattle.renewal.specs.Reading.{told-tampered, told-keys}
 
 -- The words can be read, they are canonical, their n keys stand in scratch with their edges, and the key is not blank.

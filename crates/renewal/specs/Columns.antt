@@ -32,7 +32,7 @@ use Rattle.build.specs.Scratch.{Parts, parts, used, PartsSized, parts-sized}
 use Rattle.build.specs.Build.{edges-of, stash-ranks, slot-rank, next-rank, Standing}
 use Rattle.codec.specs.Ranks.{tier-unit, tier-by, key-column, next-column, tier-column, ranks-alike, ranks-written, Ranked}
 use Rattle.codec.specs.Image.{ImageColumns}
-use Rattle.renewal.specs.Edges.{edge-of, Lined, edge-tier, lined-at, lined-first, lined-second}
+use Rattle.members.specs.Edges.{edge-of, Lined, edge-tier, lined-at, lined-first, lined-second}
 
 -- the columns that `codec` reads: r slots to a table, the keys by rank are the first words of scratch, G are its parts
 module _ (r : ℕ) (scratch : List ℕ) (G : Parts) where

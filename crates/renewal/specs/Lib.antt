@@ -1,6 +1,3 @@
--- What the contracts of `renewal` cite: the edges of keys and a set in scratch (Edges), what the build leaves there for `codec` (Columns), a key put into the
--- set and taken out (Members), and what reading and renewing answer and leave (Reading).
-pub mod Edges
+-- What the contracts of `renewal` cite: what the build leaves in scratch for `codec` (Columns), and what reading and renewing answer and leave (Reading).
 pub mod Columns
-pub mod Members
 pub mod Reading

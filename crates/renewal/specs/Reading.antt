@@ -10,23 +10,23 @@ use lib.ListN.{length, take}
 use Rattle.basics.specs.Tests.{bool-ext}
 use Rattle.basics.specs.Lists.{same, same-true, true-same}
 use Rattle.refusals.specs.Refusal.{done, not-canonical, stash-full, first-refusal, front-none}
-use Rattle.layout.specs.Layout.{Params, ValidKeys, one-issue, params-of, family-of, slots-of, places-of, station-of, words-length, shaped, stash-of, fits, image, keys-in, fits-by, tier-in}
+use Rattle.layout.specs.Layout.{Params, ValidKeys, one-issue, params-of, slots-of, places-of, station-of, words-length, shaped, stash-of, fits, image, keys-in, fits-by, tier-in}
 use Rattle.layout.specs.Entries.{Entry, keys-of, tier-of, tiered, keys-tiered, tiered-agree, tiered-in, in-tiered, tier-absent}
 use Rattle.layout.specs.Canonical.{canonical, canonical-tier, canonical-true, image-of-canonical}
 use Rattle.layout.specs.Shape.{Shaped, Sized, shape}
 use Rattle.layout.specs.Image.{le-fits}
 use Rattle.layout.specs.Issues.{one-issue-iff}
 use Rattle.layout.specs.Standing.{keys-in-valid, zero-outside}
-use Rattle.build.specs.Scratch.{parts, edges-at, used}
+use Rattle.build.specs.Scratch.{parts, used}
 use Rattle.build.specs.Build.{full, made, Built, Buildable}
 use Rattle.build.specs.declared.StashCount.{StashCount}
 use Rattle.build.specs.declared.StashCount.the-variants.{Ranks, Overflow}
-use Rattle.codec.specs.Collect.{keys-in-few}
 use Rattle.codec.specs.Image.{alike-image, written-image}
 use Rattle.outcome.specs.Outcome.{early-refusals}
 use Rattle.outcome.specs.Laws.{Ready, none-ready}
-use Rattle.renewal.specs.Edges.{tier-found, small-le, small-same, edge-of, Lined, lined-buildable, lined-built, EdgesTo, edges-lined}
-use Rattle.renewal.specs.Members.{keys-at, lined-keys}
+use Rattle.members.specs.Edges.{tier-found, small-le, small-same, Lined, lined-buildable, lined-built}
+use Rattle.members.specs.Collected.{Collected, Listed, formed, collected-few}
+use Rattle.members.specs.Members.{keys-at, lined-keys}
 use Rattle.renewal.specs.Columns.{SetColumns, alike-in, written-in, Readable, standing-readable, stash-count, set-columns}
 use Rattle.renewal.specs.declared.Reading.{Reading}
 use Rattle.renewal.specs.declared.Reading.the-variants.{Keys, NotCanonical}
@@ -57,20 +57,6 @@ new-answer P S = cond (fits P S) done stash-full
 
 abbrev pub new-words : Params → List Entry → List ℕ → List ℕ
 new-words P L ws = cond (fits P (keys-of L)) (image P L) ws
-
--- The n keys that stand in the words have been collected: they stand in scratch from word 1 on. r, s and the station number are
--- those of the words.
-pub record Collected (tabulation ws scratch : List ℕ) (r s station n : ℕ) : Type 0 where
-  pub ready : Ready tabulation ws scratch
-  pub slots : r ≡ slots-of ws
-  pub places : s ≡ places-of ws
-  pub stationed : station ≡ station-of ws
-  pub count : n ≡ length (keys-in ws)
-  pub front : take (n + 1) scratch ≡ 0 ∷ keys-in ws
-
--- they stand there with their edges, which have the tiers at which they are found in the words
-abbrev pub Listed : List ℕ → List ℕ → List ℕ → Type 0
-Listed tabulation ws scratch = Lined (params-of tabulation ws) (tier-found tabulation ws) (keys-in ws) scratch
 
 -- Whichever set of n keys stands in scratch, with tiers t: the answer and the words are those that it leads to.
 pub record Renewed (ws scratch : List ℕ) (n answer : ℕ) (us : List ℕ) : Type 0 where
@@ -184,27 +170,7 @@ module _ (tabulation ws : List ℕ) where
         is = same-true ws (image P (tiered t (keys-in ws))) e;
       }) .2)
 
--- Keys that are collected: they and their edges have room,
-module _ {tabulation ws scratch : List ℕ} {r s station n : ℕ} (C : Collected tabulation ws scratch r s station n) where
-  abbrev formed : Shaped ws
-  formed = shape ws (C .ready .shape)
-
-  collected-few : length (keys-in ws) ≤ 2 * slots-of ws + places-of ws
-  collected-few = keys-in-few ws formed
-
-  pub collected-room : Sized r s × ((n ≤ 2 * r + s) × (used r s ≤ length scratch))
-  collected-room = (
-    rw (C .slots, C .places) (formed .sizes),
-    (omega (arith, C .count, C .slots, C .places, collected-few), omega (arith, C .slots, C .places, C .ready .room, formed .sizes)),
-  )
-
-  -- and are listed once these are made,
-  pub collected-listed : {after : List ℕ} {start : ℕ} → start ≡ edges-at r s
-      → EdgesTo (edge-of (family-of tabulation ws) (tier-found tabulation ws)) scratch after start n → Listed tabulation ws after
-  collected-listed e T =
-      edges-lined (rw (C .count) at (C .front)) (rw (e, C .slots, C .places, C .count) at T) collected-few (rw (C .slots, C .places) at (collected-room .1 .1))
-
--- and then they can be read.
+-- Keys that are collected and listed can be read.
 module _ {tabulation ws scratch mid : List ℕ} {r s station n : ℕ} (C : Collected tabulation ws scratch r s station n) (same-room : length mid ≡ length scratch)
     (D : Listed tabulation ws mid) where
   room-mid : used (slots-of ws) (places-of ws) ≤ length mid

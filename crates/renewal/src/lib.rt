@@ -6,14 +6,15 @@ ghost use Rattle.layout.specs.Layout.{slots-of, places-of};
 ghost use Rattle.layout.specs.Shape.{Shaped};
 ghost use Rattle.build.specs.Build.{Buildable};
 ghost use Rattle.outcome.specs.Laws.{Ready};
-ghost use Rattle.renewal.specs.Reading.{early-refusal, number, values, reading-refusal, reading-values, Listed};
+ghost use Rattle.members.specs.Collected.{Listed};
+ghost use Rattle.renewal.specs.Reading.{early-refusal, number, values, reading-refusal, reading-values};
 ghost use Rattle.renewal.specs.Reading.{Renewed};
 use build::StashCount;
 use built::matches_built;
 use built::write_built;
 use codec::collect::collect_keys;
-use edges::write_edges;
 use layout::Header;
+use members::edges::write_edges;
 use members::one_issue;
 use refusals::SHORT_SCRATCH;
 use refusals::STASH_FULL;
@@ -23,8 +24,6 @@ use tabulation::TABULATION_LENGTH;
 use words::fill;
 
 mod built;
-pub mod edges;
-pub mod members;
 
 // What reading words as a set gives: how many keys it has, or that they are the image of no set.
 pub enum Reading {

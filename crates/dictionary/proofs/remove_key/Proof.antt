@@ -7,7 +7,7 @@ use denote.Enum.Declared.{tagOf}
 use Rattle.basics.specs.Sets.{member}
 use Rattle.layout.specs.Shape.{shape}
 use Rattle.layout.proofs.Found.{the-type}
-use Rattle.renewal.specs.Members.{keys-at, looked-listed, looked-absent}
+use Rattle.members.specs.Members.{keys-at, looked-listed, looked-absent}
 use Rattle.dictionary.specs.Core.{searchable, in-range, at-lt, remove-absent, remove-buildable, remove-renewed}
 use borrow.Author.Needs.{needs}
 use Rattle.dictionary.proofs.remove_key.Statement.{statement}

@@ -6,7 +6,8 @@ use native.Mathlib.Omega.{arith}
 use borrow.Author.Tests.{not-true, not-false}
 use Rattle.layout.specs.Layout.{one-issue, keys-in}
 use Rattle.layout.specs.Shape.{shape}
-use Rattle.renewal.specs.Reading.{Collected, collected-room, collected-searchable, collected-issues, collected-buildable, built-readable}
+use Rattle.members.specs.Collected.{Collected, collected-room}
+use Rattle.renewal.specs.Reading.{collected-searchable, collected-issues, collected-buildable, built-readable}
 use Rattle.renewal.specs.Reading.{read-twice, read-full, read-same, read-other}
 use borrow.Author.Needs.{needs}
 use Rattle.renewal.proofs.read_set.Statement.{statement}
