@@ -16,8 +16,8 @@
  *
  * What the caller sees to: no pointer is null (a length of 0 needs one, too), pointers are aligned, and no two lent pieces of memory overlap. One
  * tabulation goes with a dictionary; under another its words are, in general, the image of no set (4). No call keeps state of its own. The promises hold when
- * a call returns. Let nothing else read or write the same words or scratch meanwhile, an interrupt or another core, neither; memory that a call only reads
- * (tabulation, words of lookup and check) may be read by others, too.
+ * a call returns. Let nothing else read or write the same words or scratch meanwhile: no interrupt, no other core. Only what all of them merely read
+ * (the tabulation; words between lookups and checks alone) may be read by several at once.
  * "The set" is the set whose canonical image the words are, under the lent tabulation: keys, one issue of each first part, each with one tier.
  *
  * On 4, and after a reset: when a call answers PINORANGE_NOT_CANONICAL, somebody else wrote the words, or the tabulation is another one. After a reset in the
