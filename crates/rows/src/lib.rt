@@ -133,8 +133,8 @@ pub fn put_remove(out: &mut [u8], at: usize, key: u32, answer: u32) -> usize
 // L,key,R and the number of the refusal
 fn put_refused(out: &mut [u8], at: usize, key: u32, refusal: u32) -> usize
     requires { ⌜ at + row-room ≤ length (now out) ⌝ }
-    ensures written { λ next. ⌜ Written (lookup-row key (Looked.Refused refusal)) (now (out .entry)) at (now (out .exit)) next
-        ⌝ }
+    ensures written { λ next. ⌜ Written (lookup-row key (Looked.Refused refusal)) (now (out .entry)) at
+        (now (out .exit)) next ⌝ }
     ensures short { λ next. ⌜ next ≤ at + row-room ⌝ }
 {
     let second = put_byte(&mut *out, at, b'L');
@@ -194,7 +194,8 @@ pub fn put_slot(
     tier: u32,
 ) -> usize
     requires { ⌜ at + row-room ≤ length (now out) ⌝ }
-    ensures written { λ end. ⌜ Written (slot-row table slot key next tier) (now (out .entry)) at (now (out .exit)) end ⌝ }
+    ensures written { λ end. ⌜ Written (slot-row table slot key next tier) (now (out .entry)) at
+        (now (out .exit)) end ⌝ }
     ensures short { λ end. ⌜ end ≤ at + row-room ⌝ }
 {
     let second = put_byte(&mut *out, at, b'P');
