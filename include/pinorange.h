@@ -16,18 +16,22 @@
  *
  * What the caller sees to: no pointer is null (a length of 0 needs one, too), pointers are aligned, and no two lent pieces of memory overlap. One
  * tabulation goes with a dictionary; under another its words are, in general, the image of no set (4). No call keeps state of its own. The promises hold when
- * a call returns. Let nothing else read or write the same words or scratch meanwhile: no interrupt, no other core. Only what all of them merely read
- * (the tabulation; words between lookups and checks alone) may be read by several at once.
+ * a call returns. Let nothing else read or write the same words or scratch meanwhile: while a call runs nobody else, no interrupt handler and no other core,
+ * may write any memory that it is lent, nor read what it writes (the words of init, insert and remove; scratch, counters, out-parameters). So there is no lookup
+ * during an insert. Calls that only read the words (lookup, check, trail, stash, open_sale) may run side by side, each with its own scratch.
  * "The set" is the set whose canonical image the words are, under the lent tabulation: keys, one issue of each first part, each with one tier.
  *
- * On 4, and after a reset: when a call answers PINORANGE_NOT_CANONICAL, somebody else wrote the words, or the tabulation is another one. After a reset in the
- * middle of an insert or a remove the words may be half written. In both cases look nothing up, call pinorange_init, and insert all keys again from a record
- * of your own: the words are then those of any head with these keys. The library keeps no copy, and half-written words may, by chance, pass a check.
+ * On 4, and after a reset: when a call answers PINORANGE_NOT_CANONICAL, or PINORANGE_WRONG_SHAPE for words that were a dictionary, somebody else wrote the words,
+ * or the tabulation is another one. After a reset in the middle of an insert or a remove the words may be half written, and the scratch may hold keys. In all
+ * these cases look nothing up. Clear the scratch, write the tabulation afresh (pinorange_house, or your own from its record), call pinorange_init, and insert
+ * all keys again from a record of your own: the words are then those of any head with these keys, tabulation, sizes and station. The library keeps no copy, and
+ * half-written words may, by chance, pass a check.
  *
  * Which processor: the kit makes x86-64 code by the System V convention (Linux and others), position-independent, with SSE2 and nothing above it. The stack is
  * aligned to 16 bytes at a call, as the convention has it, and the 128 bytes below the stack pointer (its red zone) are used, so that an interrupt must not
  * run on the same stack without stepping over them. An interrupt handler that calls the library saves the xmm registers. libpinorange.a needs one function from
- * elsewhere, memset of the C library, no operating system, no heap and no start-up. docs/DECISIONS.md (10.1) says what another processor would take. */
+ * elsewhere, memset of the C library, no operating system, no heap and no start-up. README.md has how much stack and time a call takes, as measured;
+ * docs/DECISIONS.md (10.1) says what another processor would take. */
 #ifndef PINORANGE_H
 #define PINORANGE_H
 
@@ -71,9 +75,12 @@ extern "C" {
  *     words[PINORANGE_SLOT(r, table, slot)]   a slot, table 0 or 1, slot 0 to r - 1: key, next number, tier
  *     words[PINORANGE_PLACE(r, place)]        a place of the stash, 0 to s - 1: key, tier
  *
- * An empty slot or place is zeros. The filled places come first, ascending. To list all keys of a canonical image: every filled slot of table 0; every filled slot of
- * table 1, but for a key that stands in its slot of table 0, too (pinorange_hashes tells which that is): the smallest key of a component without a cycle sits
- * in both its slots; and every filled place. README.md ("All cards of a list") has the loop.
+ * An empty slot or place is zeros. The filled places come first, ascending. The next number of a key is the next larger key that is seated in its component (slots
+ * that keys join); the largest has the smallest, a lone key itself.
+ *
+ * To list all keys of a canonical image: every filled slot of table 0; every filled slot of table 1, but for a key that stands in its slot of table 0, too
+ * (pinorange_hashes tells which that is): the smallest key of a component without a cycle sits in both its slots; and every filled place. README.md ("All
+ * cards of a list") has the loop.
  *
  * Words are numbers in the processor's own byte order. Heads with one byte order may compare the bytes of their lists; a list that is sent elsewhere, or written to a
  * file, is sent in a fixed order, best the low byte first, as the console's book.bin has it, and compared number by number. */
@@ -111,9 +118,10 @@ uint32_t pinorange_remove(const uint16_t *tabulation, size_t tabulation_length, 
 /* Whether the words are the canonical image of a set: 0, or 1 to 4, tried in that order. The words are only read. Scratch as for insert.
  *
  * 0 does not say that nobody changed the words: it says that they are the image of some set, and every look-up answers by that set. A change that makes them the image
- * of another set is not found: another tier (0 to 7) beside a key that stands once, another key in a place of the stash that belongs there, too. README.md
- * ("What a check finds") has how many single bits that are. A head that must notice such a change compares its words with those of another head that has the
- * same keys, as the station's console does, or with a sum over the words that it takes after each accepted call and keeps elsewhere. */
+ * of another set is not found: another tier (0 to 7) beside a key that stands once, another key in a place of the stash that belongs there, too. Nor is a change of
+ * the tabulation in an entry that no key of the set uses. README.md ("What a check finds") has how many single bits that are. A head that must notice each
+ * change compares its words with those of another head that has the same keys, as the station's console does, or with a sum over words and tabulation that it
+ * takes after each accepted call and keeps elsewhere. */
 uint32_t pinorange_check(const uint16_t *tabulation, size_t tabulation_length, const uint32_t *words, size_t words_length,
                          uint32_t *scratch, size_t scratch_length);
 

@@ -14,6 +14,11 @@
 //! sit. The static library is looked for in the folder that the environment variable `PINORANGE_LIBRARIES` names; if
 //! that is not set, in the folder above this crate, then in `target/staticlib` there.
 //!
+//! What `pinorange.h` says to a caller in C holds here, too: the library is x86-64 code (System V, SSE2, with a red zone) that needs
+//! `memset` and no operating system; nobody reads or writes the words while a call changes them, an interrupt handler
+//! no more than another core; on [`Refusal::NotCanonical`], and after a reset, the tabulation is written afresh, the
+//! list laid afresh, and all cards are inserted again from a record of the caller's own.
+//!
 //! `examples/head.rs` is a short head.
 
 #![no_std]

@@ -128,26 +128,26 @@ pub fn stash(words: &[u32]) -> Result<&[u32], Refusal> {
     part(words, offset, length)
 }
 
-/// The trail of a key, from the key to its root: why it sits where it sits. It is written to the sheet, with zeros
-/// behind it, and what comes back is the part of the sheet with the keys; none for a stashed key.
+/// The trail of a key, from the key to its root: why it sits where it sits. It is written to `keys`, with zeros
+/// behind it, and what comes back is the part of `keys` that it takes; nothing of a stashed key.
 ///
 /// Refused, in this order: `WrongTabulation`, `WrongShape`, `ShortScratch`, `NotCanonical`, `BlankKey`, `KeyAbsent`,
-/// `ShortTrail`; then the sheet stays as it was. A sheet of 2r words is always long enough.
+/// `ShortTrail`; then `keys` stays as it was. 2r words are always enough.
 #[inline]
 #[rustfmt::skip]
 pub fn trail<'a>(
-    tabulation: &[u16], words: &[u32], scratch: &mut [u32], key: u32, sheet: &'a mut [u32],
+    tabulation: &[u16], words: &[u32], scratch: &mut [u32], key: u32, keys: &'a mut [u32],
 ) -> Result<&'a [u32], Refusal> {
     let mut count = 0;
-    // Safe: all four are lent for this call and lie apart, and it is proved to write nothing but the scratch, the sheet
+    // Safe: all four are lent for this call and lie apart, and it is proved to write nothing but the scratch, the keys
     // and the number, which is this function's own.
     done(unsafe {
         raw::pinorange_trail(
             tabulation.as_ptr(), tabulation.len(), words.as_ptr(), words.len(),
-            scratch.as_mut_ptr(), scratch.len(), key, sheet.as_mut_ptr(), sheet.len(), &mut count,
+            scratch.as_mut_ptr(), scratch.len(), key, keys.as_mut_ptr(), keys.len(), &mut count,
         )
     })?;
-    part(sheet, 0, count)
+    part(keys, 0, count)
 }
 
 /// Opens a sale, at nozzle lift: the record with the card's tier and its price. The list stays as it is, and what

@@ -29,7 +29,7 @@ pub enum Refusal {
     WrongTier,
     /// 10: the key is in the set with another tier, which it keeps.
     OtherTier,
-    /// 11: the trail has more keys than the sheet has words.
+    /// 11: the trail has more keys than words are lent for it.
     ShortTrail,
     /// 12: the base price or a step is outside its range, there are not eight steps, or the price is below 1.
     WrongPrice,
@@ -96,7 +96,7 @@ impl fmt::Display for Refusal {
             Refusal::StashFull => "the stash has no room for the new set",
             Refusal::WrongTier => "the tier is above 7",
             Refusal::OtherTier => "the key is listed with another tier",
-            Refusal::ShortTrail => "the sheet is shorter than the trail",
+            Refusal::ShortTrail => "the trail has more keys than words are lent for it",
             Refusal::WrongPrice => "the prices are outside their range",
             Refusal::OtherIssue => "another issue of the key is listed",
             Refusal::Unknown(number) => {

@@ -76,32 +76,58 @@ fn accepted(tabulation: &[u16], r: u32, s: u32, station: u32, cards: Cards) -> u
     count
 }
 
-/// Random cards under the house book at random stations, 1,000 lists of each size: how many are listed when the first
-/// add is refused for want of room. The first lists of each size are made by the library, too, card by card.
+/// How many lists of each size are filled.
+const LISTS: usize = 1_000;
+
+/// Random cards under the house book at random stations: how many are listed in each list when the first add is refused
+/// for want of room, ascending. The first lists of each size are made by the library, too, card by card.
+fn counts(r: u32, s: u32) -> Vec<usize> {
+    let tabulation = house_tabulation();
+    let count = |list: usize| {
+        let seed = u64::from(r) << 32 | u64::from(s) << 16 | list as u64;
+        let station = random_station(&mut Rng::new(!seed));
+        let count = fitting(&tabulation, r, s, station, Cards::new(seed));
+        if list < 2 {
+            assert_eq!(accepted(&tabulation, r, s, station, Cards::new(seed)), count);
+        }
+        count
+    };
+    let mut counts: Vec<usize> = (0..LISTS).map(count).collect();
+    counts.sort_unstable();
+    counts
+}
+
+/// A row of README's table.
+fn row_of(r: u32, s: u32, counts: &[usize]) -> String {
+    let [least, one_in_100, median] = [0, LISTS / 100, LISTS / 2].map(|i| grouped(counts[i]));
+    let [slots, all] = [r, 2 * r + s].map(|number| grouped(number as usize));
+    format!("| {slots} | {s} | {all} | {least} | {one_in_100} | {median} |")
+}
+
 #[test]
 fn how_many_cards_fit() {
-    const LISTS: usize = 1_000;
-    let tabulation = house_tabulation();
     let sizes: [(u32, u32); 8] =
         [(16, 4), (64, 8), (128, 8), (256, 16), (512, 32), (1_024, 0), (1_024, 16), (1_024, 64)];
-    let row = |(r, s): (u32, u32)| {
-        let mut counts = Vec::new();
-        for list in 0..LISTS {
-            let seed = u64::from(r) << 32 | u64::from(s) << 16 | list as u64;
-            let station = random_station(&mut Rng::new(!seed));
-            let count = fitting(&tabulation, r, s, station, Cards::new(seed));
-            if list < 2 {
-                assert_eq!(accepted(&tabulation, r, s, station, Cards::new(seed)), count);
-            }
-            counts.push(count);
-        }
-        counts.sort_unstable();
-        let all = 2 * r + s;
-        let [least, one_in_100, median] = [0, LISTS / 100, LISTS / 2].map(|i| grouped(counts[i]));
-        let [r, all] = [r, all].map(|number| grouped(number as usize));
-        format!("| {r} | {s} | {all} | {least} | {one_in_100} | {median} |")
-    };
-    readme_has(&sizes.map(row));
+    readme_has(&sizes.map(|(r, s)| row_of(r, s, &counts(r, s))));
+    // Of a size in between README says to take the row with the next smaller r and s.
+    for ((r, s), (less_r, less_s)) in
+        [((100, 10), (64, 8)), ((300, 20), (256, 16)), ((800, 48), (512, 32))]
+    {
+        let (between, row) = (counts(r, s), counts(less_r, less_s));
+        assert!((0..LISTS).step_by(LISTS / 100).all(|i| row[i] <= between[i]), "r {r}, s {s}");
+    }
+}
+
+/// The places that README gives a till maker to try a hash of his own on.
+#[test]
+fn places_for_a_till() {
+    let tabulation = house_tabulation();
+    let places = [410_017, 999_001, u32::MAX].map(|card| {
+        let (answer, [first, second]) = hashes(&tabulation, 1_024, 17, card, [0, 0]);
+        assert_eq!(answer, 0);
+        format!("{card} {first} and {second}")
+    });
+    readme_has(&places);
 }
 
 /// A number as README writes it: 1,024.
