@@ -14,7 +14,7 @@ run:
 lib:
 	@scripts/need rt sha256sum strings
 	@echo 'Building the libraries. Nothing is built that is not proved, so all that they are made of is proved first: some minutes'
-	@echo 'the first time, nothing later.'
+	@echo 'the first time; later half a minute, since the kit checks a library once more when it writes it.'
 	@scripts/prove tabulation pinorange
 	@scripts/lib
 
