@@ -3,6 +3,7 @@
 
 use std::collections::BTreeSet;
 
+use library::beside::{Kind, ANSWERS};
 use library::room::Room;
 use library::Change::Insert;
 use library::{change, check, fresh, hashes, house, scratch_length, HEADER_LENGTH};
@@ -128,6 +129,29 @@ fn places_for_a_till() {
         format!("{card} {first} and {second}")
     });
     readme_has(&places);
+}
+
+/// README's table of what A and W lines are answered has each number that an insert and a remove can give, in the order
+/// in which they are tried, but for 1 to 4, which the console's own memory never gets.
+#[test]
+fn answers_at_the_bench() {
+    let rows: Vec<[&str; 2]> = README
+        .lines()
+        .skip_while(|line| *line != "| answer | on | what it says |")
+        .skip(2)
+        .map_while(|line| line.strip_prefix("| "))
+        .map(|row| {
+            let mut cells = row.split(" | ");
+            [cells.next().unwrap_or(""), cells.next().unwrap_or("")]
+        })
+        .collect();
+    for (letter, kind) in [("A", Kind::Insert), ("W", Kind::Remove)] {
+        let on_line = |row: &&[&str; 2]| row[1].split(", ").any(|on| on == letter);
+        let told: Vec<String> = rows.iter().filter(on_line).map(|row| row[0].to_string()).collect();
+        let (_, answers) = ANSWERS.iter().find(|(of, _)| *of == kind).expect("a row of the calls");
+        let given = answers.iter().filter(|answer| !(1..=4).contains(*answer));
+        assert_eq!(told, given.map(u32::to_string).collect::<Vec<_>>(), "on {letter} lines");
+    }
 }
 
 /// A number as README writes it: 1,024.
