@@ -2,7 +2,7 @@
 -- being its own, and answers the first that applies; 2 and 4 never do."
 use Prim.Native.Nat.{ℕ}
 use mathlib.Core.Bool.{Bool, not, cond, _&&_}
-use mathlib.Core.List.{List, [], _∷_}
+use mathlib.Core.List.{List, [], _∷_, _++_}
 use lib.Dec.{eqb, ltb}
 use lib.ListN.{length}
 use Rattle.basics.specs.Sets.{member}
@@ -65,9 +65,10 @@ module _ (P : Params) where
   abbrev pub too-short : ℕ → Bool
   too-short n = ltb n (scratch-length (P .slots) (P .places))
 
-  -- "9 (tier above 7) after 5; 10 (add of a listed card with another tier) just before 6"; "13 (another issue is listed) just before 10"
-  abbrev pub change-tests : Change → Lent → ℕ → ℕ → List Entry → List (ℕ × Bool)
-  change-tests (Insert tier) l n key L =
+  -- What is tried of an add before 8: "9 (tier above 7) after 5; 10 (add of a listed card with another tier) just before
+  -- 6"; "13 (another issue is listed) just before 10",
+  abbrev pub before-full : Lent → ℕ → ℕ → ℕ → List Entry → List (ℕ × Bool)
+  before-full l n key tier L =
       (wrong-tabulation, wrong-length l)
       ∷ (short-scratch, too-short n)
       ∷ (blank-key, blank key)
@@ -75,8 +76,14 @@ module _ (P : Params) where
       ∷ (other-issue, another-issue key (keys-of L))
       ∷ (other-tier, member key (keys-of L) && not (eqb (tier-of L key) tier))
       ∷ (key-present, member key (keys-of L))
-      ∷ (stash-full, not (fits P (with-key key (keys-of L))))
       ∷ []
+
+  -- and 8, the last
+  abbrev pub full-test : ℕ → List Entry → List (ℕ × Bool)
+  full-test key L = (stash-full, not (fits P (with-key key (keys-of L)))) ∷ []
+
+  abbrev pub change-tests : Change → Lent → ℕ → ℕ → List Entry → List (ℕ × Bool)
+  change-tests (Insert tier) l n key L = before-full l n key tier L ++ full-test key L
   change-tests Remove l n key L =
       (wrong-tabulation, wrong-length l)
       ∷ (short-scratch, too-short n)

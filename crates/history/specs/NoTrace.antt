@@ -26,7 +26,7 @@ use Rattle.counters.specs.declared.Counters.{Counters}
 use Rattle.outcome.specs.Held.{Holds, held-some, held-full}
 use Rattle.history.specs.Calls.{Lent, own, wrong, Call, Step, step, run, words-after, words-left}
 use Rattle.history.specs.Calls.{Allowed, none, more, Sequence, Like, Alike, end, then}
-use Rattle.history.specs.Model.{request, requests, wrong-length, too-short, change-tests, reply, model}
+use Rattle.history.specs.Model.{request, requests, wrong-length, too-short, before-full, full-test, change-tests, reply, model}
 use Rattle.history.specs.Model.{set-after, set-left}
 use Rattle.history.specs.Agrees.{wrong-lent}
 use Rattle.history.specs.Changes.{change-number, change-like}
@@ -57,10 +57,10 @@ pub record NoTrace (P : Params) (ws : List ℕ) (cs : List Call) : Type 0 where
   pub same-words : {ws′ : List ℕ} {cs′ : List Call} → Sequence P ws′ cs′
       → (words-left P ws cs ≡ words-left P ws′ cs′) ↔ (set-left P ws cs ≡ set-left P ws′ cs′)
   -- "and any later like call then answers the same": so do all later calls, of any kind, accepted or not, and they
-  -- leave the same words.
+  -- leave the same words. They may lend any book t, that of the sequence or another.
   pub same-later : {ws′ : List ℕ} {cs′ : List Call} → Sequence P ws′ cs′ → set-left P ws cs ≡ set-left P ws′ cs′
-      → {ds ds′ : List Call} → Alike (P .tabulation) ds ds′
-      → run (P .tabulation) (words-left P ws cs) ds ≡ run (P .tabulation) (words-left P ws′ cs′) ds′
+      → {t : List ℕ} {ds ds′ : List Call} → Alike t ds ds′
+      → run t (words-left P ws cs) ds ≡ run t (words-left P ws′ cs′) ds′
   -- "A call that comes to the full-drawer rule is refused by it exactly when no placement of the new set exists": at
   -- every insert of the sequence, after the calls cs₁ and before the calls cs₂.
   pub full : (cs₁ cs₂ : List Call) (l : Lent) (scratch : List ℕ) (counters : Counters) (key tier : ℕ)
@@ -166,24 +166,18 @@ module _ {P : Params} {ws : List ℕ} {cs : List Call} (q : Sequence P ws cs)
   insert-number = change-number (history q .final) (q .full-length) (Insert tier) l scratch key
 
   -- its refusals before 8, and 8
-  abbrev before-full : List (ℕ × Bool)
-  before-full =
-      (wrong-tabulation, wrong-length P l) ∷ (short-scratch, too-short P (length scratch)) ∷ (blank-key, blank key)
-      ∷ (wrong-tier, ltb max-tier tier) ∷ (other-issue, another-issue key (keys-of L)) ∷ (other-tier, member key (keys-of L) && not (eqb (tier-of L key) tier))
-      ∷ (key-present, member key (keys-of L)) ∷ []
+  abbrev before : List (ℕ × Bool)
+  before = before-full P l (length scratch) key tier L
 
-  abbrev full-test : List (ℕ × Bool)
-  full-test = (stash-full, not (fits P (with-key key (keys-of L)))) ∷ []
-
-  come : ComesToFull P L l (length scratch) key tier → answer ≡ first-refusal full-test
+  come : ComesToFull P L l (length scratch) key tier → answer ≡ first-refusal (full-test P key L)
   come h =
       insert-number
-      ∙ front-passes before-full full-test (and (h .right-length) (and (h .long-enough) (and (h .not-blank)
+      ∙ front-passes before (full-test P key L) (and (h .right-length) (and (h .long-enough) (and (h .not-blank)
       (and (le-ltb max-tier tier (h .small-tier)) (and (h .no-other) (and (rw (h .absent)) (and (h .absent) none)))))))
 
   came : (answer ≡ done) ⊎ (answer ≡ stash-full) → ComesToFull P L l (length scratch) key tier
   came d =
-      elim (front-none before-full full-test (sym insert-number) (elim d [ inl e ↦ rw e | inr e ↦ rw e ])) [
+      elim (front-none before (full-test P key L) (sym insert-number) (elim d [ inl e ↦ rw e | inr e ↦ rw e ])) [
         | and a (and b (and c (and s (and i (and o (and m none)))))) ↦ record {
           right-length = a;
           long-enough = b;
@@ -218,7 +212,7 @@ pub no-trace : {P : Params} {ws : List ℕ} {cs : List Call} → Sequence P ws c
 no-trace {P} q = record {
   follows = history q;
   same-words = λ q′. (words-say-set q q′, set-says-words q q′);
-  same-later = λ {ws′} {cs′} q′ e a. rw (set-says-words q q′ e) (alike-run (P .tabulation) (words-left P ws′ cs′) a);
+  same-later = λ {ws′} {cs′} q′ e {t} a. rw (set-says-words q q′ e) (alike-run t (words-left P ws′ cs′) a);
   full = λ cs₁ cs₂ l scratch counters key tier e h.
       full-insert (part cs₁ (Call.change (Insert tier) l scratch counters key ∷ cs₂) (rw e at q)) l scratch counters key tier h;
 }

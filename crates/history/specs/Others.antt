@@ -14,8 +14,8 @@ use Rattle.layout.specs.Layout.{Params}
 use Rattle.layout.specs.Answers.{fresh-refusal, fresh-words}
 use Rattle.outcome.specs.Held.{Holds}
 use Rattle.outcome.specs.Trail.{trail-outcome}
-use Rattle.outcome.specs.TrailLaws.{trail-words}
-use Rattle.history.specs.Calls.{Answer, Other, Call, step, OtherStands, refused, unchanged}
+use Rattle.outcome.specs.TrailLaws.{trail-words, trail-any-scratch}
+use Rattle.history.specs.Calls.{Answer, Other, Call, step, OtherStands, refused, unchanged, Like}
 use Rattle.history.specs.Model.{Request, reply}
 use Rattle.history.specs.Agrees.{Agrees}
 
@@ -49,6 +49,12 @@ init r s station = record {
   leaves = λ ws n. init-leaves ws r s station n;
 }
 
+-- Two inits with equal arguments are like: what the meter holds has no say, since an init's answer and words are made without it.
+pub init-like : (t : List ℕ) {r r′ s s′ station station′ : ℕ} → r ≡ r′ → s ≡ s′ → station ≡ station′
+    → Like t (Call.other (init r s station)) (Call.other (init r′ s′ station′))
+init-like t {r} {r′} {s} {s′} {station} {station′} e f g =
+    Like.other (init r s station) (init r′ s′ station′) (λ ws. rw (e, f, g)) (λ ws. rw (e, f, g))
+
 -- calls that only read the words
 
 abbrev pub reads : (List ℕ → Answer) → Other
@@ -76,3 +82,11 @@ trail tabulation scratch key sheet = record {
 -- It may stand on any words, too.
 pub trail-stands : (tabulation ws scratch : List ℕ) (key : ℕ) (sheet : List ℕ) → OtherStands ws (trail tabulation scratch key sheet)
 trail-stands tabulation ws scratch key sheet = unchanged (trail-words tabulation ws scratch key sheet)
+
+-- "Like arguments are equal ones, what the work sheet and the meter hold aside": two trails that differ only in what the scratch holds are like.
+pub trail-like : (t tabulation scratch scratch′ : List ℕ) (key : ℕ) (sheet : List ℕ) → length scratch ≡ length scratch′
+    → Like t (Call.other (trail tabulation scratch key sheet)) (Call.other (trail tabulation scratch′ key sheet))
+trail-like t tabulation scratch scratch′ key sheet e =
+    Like.other (trail tabulation scratch key sheet) (trail tabulation scratch′ key sheet)
+    (λ ws. rw (trail-any-scratch tabulation ws scratch scratch′ key sheet e))
+    (λ ws. rw (trail-any-scratch tabulation ws scratch scratch′ key sheet e))

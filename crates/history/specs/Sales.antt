@@ -15,7 +15,7 @@ use Rattle.layout.specs.Layout.{Params}
 use Rattle.outcome.specs.declared.Sale.{Sale}
 use Rattle.outcome.specs.Sale.{record-values, unpriced, sale-refusal, sale-of, sale-values, closed}
 use Rattle.outcome.specs.SaleLaws.{Priced, same-record, sale-done, opened-key, opened-priced, held-sale, held-tier}
-use Rattle.history.specs.Calls.{Answer, Other, Call, Step, step, run, words-after, words-left, Allowed, none, more, Sequence}
+use Rattle.history.specs.Calls.{Answer, Other, Call, Step, step, run, words-after, words-left, Allowed, none, more, Sequence, Like}
 use Rattle.history.specs.Model.{set-left}
 use Rattle.history.specs.Others.{reads, reads-stands}
 use Rattle.history.specs.History.{history}
@@ -74,6 +74,19 @@ pub record SaleOf (P : Params) (ws : List ℕ) (cs : List Call) (key base : ℕ)
       ≡ record { number = done; values = s .price ∷ [] }
 
 -- The laws
+
+-- "Like arguments are equal ones": an opening and a closing borrow no work sheet and move no meter, so that like ones have equal arguments.
+pub opening-like : (t : List ℕ) {tabulation tabulation′ : List ℕ} {key key′ base base′ : ℕ} {steps steps′ : List ℤ}
+    → tabulation ≡ tabulation′ → key ≡ key′ → base ≡ base′ → steps ≡ steps′
+    → Like t (Call.other (opening tabulation key base steps)) (Call.other (opening tabulation′ key′ base′ steps′))
+opening-like t {tabulation} {tabulation′} {key} {key′} {base} {base′} {steps} {steps′} e f g h =
+    Like.other (opening tabulation key base steps) (opening tabulation′ key′ base′ steps′) (λ ws. rw (e, f, g, h)) (λ ws. refl)
+
+-- Of the record a closing looks at the price alone.
+pub closing-like : (t : List ℕ) (s s′ : Sale) → s .price ≡ s′ .price → Like t (Call.other (closing s)) (Call.other (closing s′))
+unfolding closed
+closing-like t s s′ e =
+    Like.other (closing s) (closing s′) (λ ws. ap (λ (p : ℕ). record { number = done; values = p ∷ [] }) e) (λ ws. refl)
 
 -- "The list never shows that a sale is open": on any words, the same words are left, and each other call answers and leaves the same.
 pub same-words-left : (t ws : List ℕ) (acts : List Act) → words-after t ws (all-calls acts) ≡ words-after t ws (without-sales acts)

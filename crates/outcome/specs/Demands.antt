@@ -3,18 +3,18 @@
 -- itself. Assumes nothing.
 use Prim.Native.Nat.{ℕ}
 use mathlib.Core.Path.{_≡_, refl}
-use mathlib.Core.Logic.{_↔_}
+use mathlib.Core.Logic.{inl, _↔_}
 use mathlib.Core.List.{List, [], _∷_, List·Memᴰ as In}
 use borrow.Author.Tests.{ne-eqb}
 use lib.ListN.{length, replicate}
 use Rattle.refusals.specs.Refusal.{done}
 use Rattle.layout.specs.Entries.{Entry}
 use Rattle.layout.specs.Layout.{params-of, set-in}
-use Rattle.layout.specs.Canonical.{ImageOf}
+use Rattle.layout.specs.Canonical.{ImageOf, canonical-true}
 use Rattle.layout.specs.Answers.{lookup-values, fresh-refusal, fresh-words, fresh-answer-in}
 use Rattle.outcome.specs.declared.Change.{Change}
 use Rattle.outcome.specs.Outcome.{Outcome, changed, change-outcome, check-outcome}
-use Rattle.outcome.specs.Laws.{change-answers, check-answers, change-answer-in, check-answer-in, change-refused, change-scratch, check-words, check-scratch}
+use Rattle.outcome.specs.Laws.{change-answers, check-answers, change-answer-in, check-answer-in, change-passed, change-refused, change-scratch, check-words, check-scratch}
 use Rattle.outcome.specs.Held.{change-accepted, change-lookup}
 
 -- Demand 1: "Each refusal is one of the documents' numbers and leaves list and book unchanged and the work sheet all zeros." Of a call that may answer `answers`,
@@ -27,6 +27,8 @@ pub record Harmless (answers ws scratch : List ℕ) (o : Outcome) : Type 0 where
 -- Demand 2: "After an accepted add or withdrawal the list is, in every word, the canonical image of the new set. On such a list, with the same book, a look-up
 -- says yes exactly for the set's cards", with the tier of each.
 pub record Renewed (tabulation ws : List ℕ) (L : List Entry) (us : List ℕ) : Type 0 where
+  -- the old set, of which L is the change, is the one whose image the words were
+  pub was : ImageOf (params-of tabulation ws) (set-in tabulation ws) ws
   pub image : ImageOf (params-of tabulation ws) L us
   pub looked : (c t : ℕ) → (lookup-values tabulation us c ≡ 1 ∷ t ∷ []) ↔ In (record { key = c; tier = t }) L
 
@@ -59,6 +61,7 @@ init-harmless ws r s station = record {
 pub change-renewed : (kind : Change) (tabulation ws scratch : List ℕ) (key : ℕ) → change-outcome kind tabulation ws scratch key .answer ≡ done
     → Renewed tabulation ws (changed kind key (set-in tabulation ws)) (change-outcome kind tabulation ws scratch key .words)
 change-renewed kind tabulation ws scratch key e = record {
+  was = canonical-true tabulation ws (change-passed tabulation ws scratch kind key (inl e) .1);
   image = change-accepted kind tabulation ws scratch key e .is;
   looked = change-lookup kind tabulation ws scratch key e;
 }

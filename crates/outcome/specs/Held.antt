@@ -31,8 +31,9 @@ use Rattle.layout.specs.Look.{looked-entry, image-lookup-values}
 use Rattle.layout.specs.Fitting.{without-valid, without-fits, fits-length, fits-placement, full-placement}
 use Rattle.outcome.specs.declared.Change.{Change}
 use Rattle.outcome.specs.declared.Change.the-variants.{Insert, Remove}
-use Rattle.outcome.specs.Outcome.{keys-changed, tier-changed, changed, set-refusals, first-refusals, change-refusal, change-outcome, check-outcome}
-use Rattle.outcome.specs.Laws.{Ready, change-done, change-refused, change-set, change-passed}
+use Rattle.layout.specs.Ready.{first-refusals, Ready}
+use Rattle.outcome.specs.Outcome.{keys-changed, tier-changed, changed, set-refusals, change-refusal, change-outcome, check-outcome}
+use Rattle.outcome.specs.Laws.{change-done, change-refused, change-set, change-passed}
 
 -- The words are a dictionary that holds S: r, s and the station are in their ranges, and the words are the image of S, a set that fits.
 pub record Holds (P : Params) (L : List Entry) (ws : List ℕ) : Type 0 where

@@ -14,10 +14,11 @@ use Rattle.refusals.specs.Refusal.{done, wrong-tabulation, wrong-shape, short-s
 use Rattle.tabulation.specs.Hash.{tabulation-length, blank}
 use Rattle.layout.specs.Entries.{Entry}
 use Rattle.layout.specs.Layout.{Params, params-of, slots-of, places-of, scratch-length, shaped, image, set-in}
-use Rattle.layout.specs.Canonical.{canonical, ImageOf, canonical-iff, not-canonical-iff}
+use Rattle.layout.specs.Canonical.{canonical, ImageOf, canonical-iff}
 use Rattle.outcome.specs.declared.Change.{Change}
 use Rattle.outcome.specs.declared.Change.the-variants.{Insert, Remove}
-use Rattle.outcome.specs.Outcome.{Outcome, changed, set-refusals, early-refusals, first-refusals, change-refusal, change-outcome, check-outcome}
+use Rattle.layout.specs.Ready.{first-refusals, Ready, Late, late-first, Tampered, canonical-none, head-tabulation, head-shape, head-scratch, head-ready, head-passed, head-tampered}
+use Rattle.outcome.specs.Outcome.{Outcome, changed, set-refusals, change-refusal, change-outcome, check-outcome}
 
 -- the numbers
 
@@ -97,62 +98,6 @@ module _ (tabulation ws scratch scratch′ : List ℕ) (same : length scratch �
 
 -- The table, row by row: "They are tried in this order, and none is given otherwise."
 
--- an answer other than 1 to 4
-abbrev pub Late : ℕ → Type 0
-Late n = (n ≡ done) ⊎ (not-canonical < n)
-
-pub late-other : {n : ℕ} → Late n → member n (wrong-tabulation ∷ wrong-shape ∷ short-scratch ∷ not-canonical ∷ []) ≡ false
-late-other (inl e) = rw e
-late-other {n} (inr l) = rw (ne-eqb n 1 (omega arith), ne-eqb n 2 (omega arith), ne-eqb n 3 (omega arith), ne-eqb n 4 (omega arith))
-
-module _ (tabulation ws scratch : List ℕ) where
-  -- none of 1 to 3 applies
-  pub record Ready : Type 0 where
-    pub full-length : length tabulation ≡ tabulation-length
-    pub shape : shaped ws ≡ true
-    pub room : scratch-length (slots-of ws) (places-of ws) ≤ length scratch
-
-  pub ready-none : Ready → None (early-refusals tabulation ws (length scratch))
-  ready-none h = and (ap not (eq-eqb _ _ (h .full-length))) (and (ap not (h .shape)) (and (le-ltb _ _ (h .room)) none))
-
-  pub none-ready : None (early-refusals tabulation ws (length scratch)) → Ready
-  none-ready (and a (and b (and c none))) = record { full-length = eqb-true _ _ (not-false _ a); shape = not-false _ b; room = ltb-false _ _ c }
-
-  -- nor does 4
-  none-canonical : None (first-refusals tabulation ws scratch) → Ready × (canonical tabulation ws ≡ true)
-  none-canonical (and a (and b (and c (and d none)))) = (none-ready (and a (and b (and c none))), not-false _ d)
-
-  canonical-none : Ready → canonical tabulation ws ≡ true → None (first-refusals tabulation ws scratch)
-  canonical-none h c = elim (ready-none h) [ and x (and y (and z none)) ↦ and x (and y (and z (and (ap not c) none))) ]
-
-  -- 1 to 3, and what comes after them, where `rest` comes after 4
-  module _ (rest : List (ℕ × Bool)) where
-    abbrev pub head : ℕ
-    head = first-refusal (first-refusals tabulation ws scratch ++ rest)
-
-    pub head-tabulation : (length tabulation ≡ tabulation-length → ⊥) → head ≡ wrong-tabulation
-    head-tabulation n = rw (ne-eqb (length tabulation) tabulation-length n)
-
-    pub head-shape : length tabulation ≡ tabulation-length → shaped ws ≡ false → head ≡ wrong-shape
-    head-shape e f = rw (eq-eqb (length tabulation) tabulation-length e, f)
-
-    pub head-scratch : length tabulation ≡ tabulation-length → shaped ws ≡ true → length scratch < scratch-length (slots-of ws) (places-of ws)
-        → head ≡ short-scratch
-    head-scratch e f l =
-        rw (eq-eqb (length tabulation) tabulation-length e, f, lt-ltb (length scratch) (scratch-length (slots-of ws) (places-of ws)) l)
-
-    pub head-ready : Ready → head ≡ first-refusal ((not-canonical, not (canonical tabulation ws)) ∷ rest)
-    head-ready h =
-        front-passes (early-refusals tabulation ws (length scratch)) ((not-canonical, not (canonical tabulation ws)) ∷ rest) (ready-none h)
-
-    -- where none of 1 to 4 is given, none of them applies
-    head-passed : Late head → Ready × (canonical tabulation ws ≡ true)
-    head-passed late = none-canonical (front-none (first-refusals tabulation ws scratch) rest refl (late-other late))
-
--- none of 1 to 4 is among the refusals of a change that come after them
-pub late-first : (rs : List (ℕ × Bool)) → ((n : ℕ) → In n (numbers rs) → not-canonical < n) → Late (first-refusal rs)
-late-first rs f = elim (first-refusal-in rs) [ here q ↦ inl q | there i ↦ inr (f (first-refusal rs) i) ]
-
 rest-late : (kind : Change) (P : Params) (key : ℕ) (L : List Entry) → Late (first-refusal ((blank-key, blank key) ∷ set-refusals kind P key L))
 rest-late (Insert tier) P key L = late-first ((blank-key, blank key) ∷ set-refusals (Insert tier) P key L) (λ n i. elim i [
   | here q ↦ omega arith
@@ -173,21 +118,6 @@ rest-late Remove P key L = late-first ((blank-key, blank key) ∷ set-refusals R
 ])
 
 module _ (tabulation ws scratch : List ℕ) where
-  -- "the list is the canonical image of no set"
-  abbrev pub Tampered : Type 0
-  Tampered = (P : Params) (L : List Entry) → P .tabulation ≡ tabulation → ImageOf P L ws → ⊥
-
-  -- 4 is given exactly then, whatever comes after it, if that is none of 1 to 4
-  pub head-tampered : (rest : List (ℕ × Bool)) → Late (first-refusal rest) → Ready tabulation ws scratch
-      → (head tabulation ws scratch rest ≡ not-canonical) ↔ Tampered
-  head-tampered rest late h = (
-    λ e. not-canonical-iff tabulation ws (h .shape) .0 (elim (test (canonical tabulation ws)) [
-      | inl c ↦ absurd (true≢false (late-other (rw (rw c at (sym (head-ready tabulation ws scratch rest h) ∙ e)) at late)))
-      | inr c ↦ c
-    ]),
-    λ n. let c = not-canonical-iff tabulation ws (h .shape) .1 n in head-ready tabulation ws scratch rest h ∙ (rw c),
-  )
-
   -- rows 1 to 4 of insert and remove
   module _ (kind : Change) (key : ℕ) where
     abbrev rest : List (ℕ × Bool)
@@ -222,9 +152,9 @@ module _ (tabulation ws scratch : List ℕ) where
     unfolding change-outcome change-refusal
     change-passed = head-passed tabulation ws scratch rest
 
-    pub change-tampered : Ready tabulation ws scratch → (change-outcome kind tabulation ws scratch key .answer ≡ not-canonical) ↔ Tampered
+    pub change-tampered : Ready tabulation ws scratch → (change-outcome kind tabulation ws scratch key .answer ≡ not-canonical) ↔ Tampered tabulation ws
     unfolding change-outcome change-refusal
-    change-tampered = head-tampered rest (rest-late kind (params-of tabulation ws) key (set-in tabulation ws))
+    change-tampered = head-tampered tabulation ws scratch rest (rest-late kind (params-of tabulation ws) key (set-in tabulation ws))
 
   -- rows 1 to 4 of check, and its 0
   pub check-tabulation : (length tabulation ≡ tabulation-length → ⊥) → check-outcome tabulation ws scratch .answer ≡ wrong-tabulation
@@ -244,9 +174,9 @@ module _ (tabulation ws scratch : List ℕ) where
   unfolding check-outcome
   check-ready = head-ready tabulation ws scratch []
 
-  pub check-tampered : Ready tabulation ws scratch → (check-outcome tabulation ws scratch .answer ≡ not-canonical) ↔ Tampered
+  pub check-tampered : Ready tabulation ws scratch → (check-outcome tabulation ws scratch .answer ≡ not-canonical) ↔ Tampered tabulation ws
   unfolding check-outcome
-  check-tampered = head-tampered [] (inl refl)
+  check-tampered = head-tampered tabulation ws scratch [] (inl refl)
 
   pub check-done : (check-outcome tabulation ws scratch .answer ≡ done)
       ↔ (Ready tabulation ws scratch × ((L : List Entry) × ImageOf (params-of tabulation ws) L ws))

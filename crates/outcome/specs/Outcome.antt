@@ -7,11 +7,11 @@ use lib.Dec.{eqb, ltb}
 use lib.ListN.{length, replicate}
 use Rattle.basics.specs.Sets.{member, without}
 use Rattle.ordered.specs.Keys.{with-key}
-use Rattle.refusals.specs.Refusal.{done, wrong-tabulation, wrong-shape, short-scratch, not-canonical, blank-key, key-present, key-absent, stash-full, wrong-tier, other-tier, other-issue, first-refusal}
-use Rattle.tabulation.specs.Hash.{tabulation-length, blank}
+use Rattle.refusals.specs.Refusal.{done, blank-key, key-present, key-absent, stash-full, wrong-tier, other-tier, other-issue, first-refusal}
+use Rattle.tabulation.specs.Hash.{blank}
 use Rattle.layout.specs.Entries.{Entry, max-tier, keys-of, tier-of, tiered}
-use Rattle.layout.specs.Layout.{Params, another-issue, params-of, slots-of, places-of, scratch-length, shaped, fits, image, set-in}
-use Rattle.layout.specs.Canonical.{canonical}
+use Rattle.layout.specs.Layout.{Params, another-issue, params-of, fits, image, set-in}
+use Rattle.layout.specs.Ready.{first-refusals}
 use Rattle.outcome.specs.declared.Change.{Change}
 use Rattle.outcome.specs.declared.Change.the-variants.{Insert, Remove}
 
@@ -44,19 +44,6 @@ set-refusals (Insert tier) P key L =
     ∷ (stash-full, not (fits P (with-key key (keys-of L))))
     ∷ []
 set-refusals Remove P key L = (key-absent, not (member key (keys-of L))) ∷ []
-
--- the refusals that need no set: "wrong book", "wrong shape", and "short sheet", of scratch of n words
-abbrev pub early-refusals : List ℕ → List ℕ → ℕ → List (ℕ × Bool)
-early-refusals tabulation ws n =
-    (wrong-tabulation, not (eqb (length tabulation) tabulation-length))
-    ∷ (wrong-shape, not (shaped ws))
-    ∷ (short-scratch, ltb n (scratch-length (slots-of ws) (places-of ws)))
-    ∷ []
-
--- those that insert, remove and check have in common: these, and "tampered"
-abbrev pub first-refusals : List ℕ → List ℕ → List ℕ → List (ℕ × Bool)
-first-refusals tabulation ws scratch =
-    early-refusals tabulation ws (length scratch) ++ ((not-canonical, not (canonical tabulation ws)) ∷ [])
 
 -- "the set": the keys that stand in the words, with the tiers at which they are found. Where it is looked at, the words are its image (the law `canonical-iff` of layout).
 unfoldable pub change-refusal : Change → List ℕ → List ℕ → List ℕ → ℕ → ℕ

@@ -15,7 +15,7 @@ use Rattle.layout.specs.Entries.{keys-of}
 use Rattle.layout.specs.Layout.{Params, family, params-of, keys-in, set-in}
 use Rattle.outcome.specs.declared.Traced.{Traced}
 use Rattle.outcome.specs.declared.Traced.the-variants.{Length, Refused}
-use Rattle.outcome.specs.Outcome.{first-refusals}
+use Rattle.layout.specs.Ready.{first-refusals}
 
 -- "the call tells how many": the paper's number of the answer, and its values: how many keys the trail has
 abbrev pub number : Traced → ℕ

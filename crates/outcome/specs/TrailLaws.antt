@@ -22,8 +22,9 @@ use Rattle.layout.specs.Entries.{Entry, keys-of}
 use Rattle.layout.specs.Layout.{Params, ValidKeys, family, slots-of, places-of, scratch-length, shaped, keys-in}
 use Rattle.layout.specs.Canonical.{canonical, image-of-keys}
 use Rattle.outcome.specs.declared.Change.the-variants.{Remove}
-use Rattle.outcome.specs.Outcome.{first-refusals, change-refusal, change-outcome}
-use Rattle.outcome.specs.Laws.{Ready, late-first, Tampered, head-tabulation, head-shape, head-scratch, head-ready, head-tampered, later-refusals}
+use Rattle.layout.specs.Ready.{first-refusals, Ready, late-first, Tampered, head-tabulation, head-shape, head-scratch, head-ready, head-tampered}
+use Rattle.outcome.specs.Outcome.{change-refusal, change-outcome}
+use Rattle.outcome.specs.Laws.{later-refusals}
 use Rattle.outcome.specs.Held.{Holds, held-some, held-params, held-set-in, held-head}
 use Rattle.outcome.specs.Demands.{Harmless}
 use Rattle.outcome.specs.Trail.{trail-of, trail-in, trail-refusals, trail-refusal, TrailOutcome, trail-outcome}
@@ -90,7 +91,7 @@ module _ (tabulation ws scratch : List ℕ) (key : ℕ) where
     pub trail-set : Ready tabulation ws scratch → canonical tabulation ws ≡ true → o .number ≡ first-refusal (trail-refusals tabulation ws key (length sheet))
     trail-set h c = trail-ready h ∙ (rw c)
 
-    pub trail-tampered : Ready tabulation ws scratch → (o .number ≡ not-canonical) ↔ Tampered tabulation ws scratch
+    pub trail-tampered : Ready tabulation ws scratch → (o .number ≡ not-canonical) ↔ Tampered tabulation ws
     unfolding trail-outcome trail-refusal
     trail-tampered =
         head-tampered tabulation ws scratch (trail-refusals tabulation ws key (length sheet))
@@ -114,7 +115,13 @@ module _ (tabulation ws scratch : List ℕ) (key : ℕ) where
         front-passes (first-refusals tabulation ws scratch ++ later-refusals Remove tabulation ws key) ((short-trail, ltb (length sheet) (length L)) ∷ [])
         (front-none (first-refusals tabulation ws scratch ++ later-refusals Remove tabulation ws key) [] e refl)
 
--- Of scratch and trail only the length matters: to number and values, and accepted to the words of the trail, too.
+-- "Its old content has no effect": only the length of the scratch matters, to the whole outcome.
+pub trail-any-scratch : (tabulation ws scratch scratch′ : List ℕ) (key : ℕ) (sheet : List ℕ) → length scratch ≡ length scratch′
+    → trail-outcome tabulation ws scratch key sheet ≡ trail-outcome tabulation ws scratch′ key sheet
+unfolding trail-outcome trail-refusal
+trail-any-scratch tabulation ws scratch scratch′ key sheet e = rw e
+
+-- Of the trail, too, only the length matters: to number and values, and accepted to the words of the trail, too.
 module _ (tabulation ws : List ℕ) (key : ℕ) (scratch scratch′ sheet sheet′ : List ℕ) (e : length scratch ≡ length scratch′) (f : length sheet ≡ length sheet′) where
   pub trail-any-number : trail-outcome tabulation ws scratch key sheet .number ≡ trail-outcome tabulation ws scratch′ key sheet′ .number
   unfolding trail-outcome trail-refusal
