@@ -30,13 +30,13 @@ use Rattle.outcome.specs.declared.Change.the-variants.{Insert, Remove}
 use Rattle.outcome.specs.Outcome.{early-refusals, keys-changed, tier-changed, changed, set-refusals, change-refusal, change-outcome, check-outcome}
 use Rattle.outcome.specs.Laws.{Ready, change-refused, check-ready, change-ready, change-set}
 use Rattle.outcome.specs.Held.{one-too-many, changed-keys, keys-changed-valid}
-use Rattle.renewal.specs.declared.Reading.{Reading}
-use Rattle.renewal.specs.declared.Reading.the-variants.{Keys, NotCanonical}
+use Rattle.gateway.specs.declared.Reading.{Reading}
+use Rattle.gateway.specs.declared.Reading.the-variants.{Keys, NotCanonical}
 use Rattle.members.specs.Edges.{edge-with, Lined, lined-buildable}
 use Rattle.members.specs.Members.{keys-at, Placed, put-in, taken-out, lined-agree, lined-keys, lined-tier, lined-put, lined-taken}
 use Rattle.members.specs.Collected.{Listed}
-use Rattle.renewal.specs.Reading.{early-refusal, number, values, reading-refusal, reading-values, new-answer, new-words, Renewed, canonical-small}
-use Rattle.renewal.specs.Reading.{told-tampered, told-keys}
+use Rattle.gateway.specs.Reading.{early-refusal, number, values, reading-refusal, reading-values, new-answer, new-words, Renewed, canonical-small}
+use Rattle.gateway.specs.Reading.{told-tampered, told-keys}
 
 -- The words can be read, they are canonical, their n keys stand in scratch with their edges, and the key is not blank.
 pub record Settable (tabulation ws scratch : List ℕ) (n key : ℕ) : Type 0 where

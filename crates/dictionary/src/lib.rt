@@ -23,11 +23,11 @@ use refusals::OTHER_ISSUE;
 use refusals::OTHER_TIER;
 use refusals::STASH_FULL;
 use refusals::WRONG_TIER;
-use renewal::Reading;
-use renewal::clear;
-use renewal::early;
-use renewal::read_set;
-use renewal::renew;
+use gateway::Reading;
+use gateway::clear;
+use gateway::early;
+use gateway::read_set;
+use gateway::renew;
 use words::wide;
 
 // The set of the words stands in scratch, n keys and their edges, and the key is not blank: the set with the key.

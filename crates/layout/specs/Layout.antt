@@ -116,9 +116,13 @@ words-length r s = place-at r s
 abbrev pub scratch-length : ℕ → ℕ → ℕ
 scratch-length r s = 12 * r + 8 * s
 
--- the parameters that given words are read with
+-- the parameters that a heading tells, with a tabulation
+abbrev pub params-with : List ℕ → Header → Params
+params-with tabulation h = record { tabulation = tabulation; slots = h .slots; places = h .places; station = h .station }
+
+-- and those that given words are read with
 abbrev pub params-of : List ℕ → List ℕ → Params
-params-of tabulation ws = record { tabulation = tabulation; slots = slots-of ws; places = places-of ws; station = station-of ws }
+params-of tabulation ws = params-with tabulation (header-of ws)
 
 -- and the family that hashes their keys, at their own station
 abbrev pub family-of : List ℕ → List ℕ → Family

@@ -8,7 +8,7 @@ use Rattle.layout.specs.Layout.{params-of, family-of, slots-of, places-of, stat
 use Rattle.layout.specs.Shape.{Shaped, Sized, shape}
 use Rattle.build.specs.Scratch.{edges-at, used}
 use Rattle.codec.specs.Collect.{keys-in-few}
-use Rattle.outcome.specs.Laws.{Ready}
+use Rattle.layout.specs.Ready.{Ready}
 use Rattle.members.specs.Edges.{tier-found, edge-of, Lined, EdgesTo, edges-lined}
 
 -- The n keys that stand in the words have been collected: they stand in scratch from word 1 on. r, s and the station number are

@@ -35,10 +35,10 @@ use Rattle.outcome.specs.Laws.{Ready}
 use Rattle.outcome.specs.Trail.{number, values, trail-of, trail-in, trail-refusals, trail-refusal, trail-outcome}
 use Rattle.outcome.specs.Outcome.{early-refusals}
 use Rattle.outcome.specs.TrailLaws.{trail-ready, trail-set}
-use Rattle.renewal.specs.declared.Reading.{Reading}
-use Rattle.renewal.specs.declared.Reading.the-variants.{NotCanonical}
-use Rattle.renewal.specs.Reading.{early-refusal, reading-refusal, told-tampered}
-use Rattle.renewal.specs.Reading as reading
+use Rattle.gateway.specs.declared.Reading.{Reading}
+use Rattle.gateway.specs.declared.Reading.the-variants.{NotCanonical}
+use Rattle.gateway.specs.Reading.{early-refusal, reading-refusal, told-tampered}
+use Rattle.gateway.specs.Reading as reading
 use Rattle.walking.specs.Walk.{key-of, across, across-lt, Readable, Closed}
 use Rattle.walking.specs.Cut.{Cut, met-keys, first-visit, cut-trail}
 

@@ -1,7 +1,7 @@
 -- `dictionary::check_words` meets its contract: 1 to 3, then whether the words are the image of their keys.
 use mathlib.Core.Path.{_∙_}
 use Rattle.outcome.specs.Laws.{Ready}
-use Rattle.renewal.specs.Reading.{early-ready}
+use Rattle.gateway.specs.Reading.{early-ready}
 use Rattle.dictionary.specs.Core.{check-early, checked-tampered, checked-keys}
 use borrow.Author.Needs.{needs}
 use Rattle.dictionary.proofs.check_words.Statement.{statement}

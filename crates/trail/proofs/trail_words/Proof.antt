@@ -3,7 +3,7 @@ use mathlib.Core.Path.{_≡_, sym, _∙_}
 use mathlib.Core.Bool.{true}
 use Rattle.layout.specs.Canonical.{canonical}
 use Rattle.outcome.specs.Laws.{Ready}
-use Rattle.renewal.specs.Reading.{early-ready, told-keys}
+use Rattle.gateway.specs.Reading.{early-ready, told-keys}
 use Rattle.dictionary.specs.Core.{settable}
 use Rattle.trail.specs.Traced.{told-early, told-not-canonical, told-blank, told-set}
 use borrow.Author.Needs.{needs}

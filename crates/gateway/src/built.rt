@@ -4,7 +4,7 @@ ghost use mathlib.Core.Path.{_≡_};
 ghost use Rattle.layout.specs.Layout.{slots-of, places-of, words-length};
 ghost use Rattle.layout.specs.Shape.{Shaped};
 ghost use Rattle.build.specs.Scratch.{parts};
-ghost use Rattle.renewal.specs.Columns.{Readable, alike-in, written-in};
+ghost use Rattle.gateway.specs.Columns.{Readable, alike-in, written-in};
 ghost use lib.ListN.{length};
 use layout::Header;
 use parts::edges_start;

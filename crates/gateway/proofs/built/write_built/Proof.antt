@@ -1,10 +1,10 @@
--- `renewal::built::write_built` meets its contract: what is lent to `codec` are the parts of scratch, and the heading says r, s and n.
+-- `gateway::built::write_built` meets its contract: what is lent to `codec` are the parts of scratch, and the heading says r, s and n.
 use mathlib.Core.Path.{_∙_, ap}
 use lib.ListN.{length}
-use Rattle.renewal.specs.Columns.{Readable, readable-stash}
+use Rattle.gateway.specs.Columns.{Readable, readable-stash}
 use borrow.Author.Needs.{needs}
-use Rattle.renewal.proofs.built.write_built.Statement.{statement}
-use Rattle.renewal.proofs.built.write_built.Tie as tie
+use Rattle.gateway.proofs.built.write_built.Statement.{statement}
+use Rattle.gateway.proofs.built.write_built.Tie as tie
 
 wide-requires : tie.Need-wide-requires
 wide-requires c κs = search needs

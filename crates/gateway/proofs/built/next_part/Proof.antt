@@ -1,11 +1,11 @@
--- `renewal::built::next_part` meets its contract: as many words as there are keys, from where next begins.
+-- `gateway::built::next_part` meets its contract: as many words as there are keys, from where next begins.
 use Prim.Native.Nat.{_+_, _*_}
 use native.Mathlib.Omega.{arith}
 use Rattle.build.specs.Scratch.{parts, next-at}
-use Rattle.renewal.specs.Columns.{part-lent}
+use Rattle.gateway.specs.Columns.{part-lent}
 use borrow.Author.Needs.{needs}
-use Rattle.renewal.proofs.built.next_part.Statement.{statement}
-use Rattle.renewal.proofs.built.next_part.Tie as tie
+use Rattle.gateway.proofs.built.next_part.Statement.{statement}
+use Rattle.gateway.proofs.built.next_part.Tie as tie
 
 next-start-requires : tie.Need-next-start-requires
 next-start-requires c κs = search needs

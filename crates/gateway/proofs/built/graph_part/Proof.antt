@@ -1,11 +1,11 @@
--- `renewal::built::graph_part` meets its contract: from where held begins to the last of the n edges.
+-- `gateway::built::graph_part` meets its contract: from where held begins to the last of the n edges.
 use Prim.Native.Nat.{_+_, _*_}
 use native.Mathlib.Omega.{arith}
 use Rattle.build.specs.Scratch.{parts, held-at}
-use Rattle.renewal.specs.Columns.{part-lent}
+use Rattle.gateway.specs.Columns.{part-lent}
 use borrow.Author.Needs.{needs}
-use Rattle.renewal.proofs.built.graph_part.Statement.{statement}
-use Rattle.renewal.proofs.built.graph_part.Tie as tie
+use Rattle.gateway.proofs.built.graph_part.Statement.{statement}
+use Rattle.gateway.proofs.built.graph_part.Tie as tie
 
 held-start-requires : tie.Need-held-start-requires
 held-start-requires c κs = search needs

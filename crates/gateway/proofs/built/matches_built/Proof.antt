@@ -1,10 +1,10 @@
--- `renewal::built::matches_built` meets its contract: what is lent to `codec` are the parts of scratch, and the words say r and s.
+-- `gateway::built::matches_built` meets its contract: what is lent to `codec` are the parts of scratch, and the words say r and s.
 use mathlib.Core.Path.{_∙_, ap}
 use lib.ListN.{length}
-use Rattle.renewal.specs.Columns.{readable-stash}
+use Rattle.gateway.specs.Columns.{readable-stash}
 use borrow.Author.Needs.{needs}
-use Rattle.renewal.proofs.built.matches_built.Statement.{statement}
-use Rattle.renewal.proofs.built.matches_built.Tie as tie
+use Rattle.gateway.proofs.built.matches_built.Statement.{statement}
+use Rattle.gateway.proofs.built.matches_built.Tie as tie
 
 graph-part-requires : tie.Need-graph-part-requires
 graph-part-requires c κs = search needs

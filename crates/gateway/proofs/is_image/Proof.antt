@@ -1,43 +1,38 @@
--- `renewal::read_set` meets its contract: the keys that stand in the words get their edges, are one issue of each first part, are built, and the words compared
+-- `gateway::is_image` meets its contract: the keys that stand in the words get their edges, are one issue of each first part, are built, and the words compared
 -- with their image.
 use mathlib.Core.Path.{_≡_}
 use mathlib.Core.Bool.{true}
 use native.Mathlib.Omega.{arith}
 use borrow.Author.Tests.{not-true, not-false}
 use Rattle.layout.specs.Layout.{one-issue, keys-in}
-use Rattle.layout.specs.Shape.{shape}
+use Rattle.layout.specs.Shape.{shape, same-header}
 use Rattle.members.specs.Collected.{Collected, collected-room}
-use Rattle.renewal.specs.Reading.{collected-searchable, collected-issues, collected-buildable, built-readable}
-use Rattle.renewal.specs.Reading.{read-twice, read-full, read-same, read-other}
+use Rattle.gateway.specs.Building.{built-readable}
+use Rattle.gateway.specs.Loading.{collected-searchable, collected-issues, collected-buildable, read-twice, read-full, read-told}
 use borrow.Author.Needs.{needs}
-use Rattle.renewal.proofs.read_set.Statement.{statement}
-use Rattle.renewal.proofs.read_set.Tie as tie
-
-read-header-requires : tie.Need-read-header-requires
-read-header-requires c κs = omega (arith, shape _ (c .before .before .before .pre .shape))
+use Rattle.gateway.proofs.is_image.Statement.{statement}
+use Rattle.gateway.proofs.is_image.Tie as tie
 
 collect-keys-requires : tie.Need-collect-keys-requires
 collect-keys-requires c κs =
-    let p = c .before .before .before .before .before .pre in
+    let p = c .before .before .before .before .pre .0 in
     let h = shape _ (p .shape) in
     (h, omega (arith, p .room, h .sizes))
 
 -- the keys are collected
-abbrev headed : tie.After-collect-keys → tie.After-read-header
-headed k = k .before .before
-
 abbrev start : tie.After-collect-keys → tie.Start
-start k = headed k .before .before .before .before
+start k = k .before .before .before .before .before
 
-collected : (k : tie.After-collect-keys) → let a = start k .args in let h = headed k .read-header .result in
+collected : (k : tie.After-collect-keys) → let a = start k .args in let h = a .header in
     Collected (a .tabulation .now) (a .words .now) (k .collect-keys .last .1 .0) (h .slots) (h .places) (h .station) (k .collect-keys .result)
 collected k =
-    let p = start k .pre in
+    let p = start k .pre .0 in
+    let h = same-header (start k .pre .1) in
     record {
       ready = record { full-length = p .full-length; shape = p .shape; room = omega (arith, p .room, k .collect-keys .kept .1 .0) };
-      slots = headed k .read-header .ensures .0;
-      places = headed k .read-header .ensures .1 .0;
-      stationed = headed k .read-header .ensures .1 .1 .1 .1;
+      slots = h .slots;
+      places = h .places;
+      stationed = h .station;
       count = k .collect-keys .ensures .1;
       front = k .collect-keys .ensures .0;
     }
@@ -114,7 +109,7 @@ matches-built-requires c κs =
     let e = edges-at b in
     let k = keys-at e in
     let C = collected k in (
-      (shape _ (start k .pre .shape), (C .slots, C .places)),
+      (shape _ (start k .pre .0 .shape), (C .slots, C .places)),
       built-readable (collected-room C .0) (collected-buildable C (e .write-edges .kept .1 .1 .0) (e .write-edges .ensures)) (b .build .kept .0) (b .build .ensures)
           (q .count .given .1),
     )
@@ -128,26 +123,13 @@ same-length-3 c = search needs
 
 returns-3 : tie.Need-returns-3
 returns-3 c =
-    let m = c .before in
-    let q = counted m in
+    let q = counted c in
     let b = build-at q in
     let e = edges-at b in
-    read-same (collected (keys-at e)) (e .write-edges .kept .1 .1 .0) (e .write-edges .ensures) (single (passed b)) (b .build .kept .0) (b .build .ensures) (q .count .given .1)
-    (m .matches-built .ensures) (c .if2 .taken)
+    read-told (collected (keys-at e)) (e .write-edges .kept .1 .1 .0) (e .write-edges .ensures) (single (passed b)) (b .build .kept .0) (b .build .ensures) (q .count .given .1)
+    (c .matches-built .ensures)
 
-same-length-4 : tie.Need-same-length-4
-same-length-4 c = search needs
-
-returns-4 : tie.Need-returns-4
-returns-4 c =
-    let m = c .before in
-    let q = counted m in
-    let b = build-at q in
-    let e = edges-at b in
-    read-other (collected (keys-at e)) (e .write-edges .kept .1 .1 .0) (e .write-edges .ensures) (single (passed b)) (b .build .kept .0) (b .build .ensures) (q .count .given .1)
-    (m .matches-built .ensures) (c .if2 .left)
-
-pub read-set-spec : {M : Type 1} → statement M
-read-set-spec =
-    tie.close (tie.spec read-header-requires collect-keys-requires write-edges-requires one-issue-requires same-length returns build-requires enum-known-count
-    enum-told same-length-2 returns-2 matches-built-requires same-length-3 returns-3 same-length-4 returns-4)
+pub is-image-spec : {M : Type 1} → statement M
+is-image-spec =
+    tie.close (tie.spec collect-keys-requires write-edges-requires one-issue-requires same-length returns build-requires enum-known-count
+    enum-told same-length-2 returns-2 matches-built-requires same-length-3 returns-3)

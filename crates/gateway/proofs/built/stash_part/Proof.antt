@@ -1,10 +1,10 @@
--- `renewal::built::stash_part` meets its contract: s words from where the stash begins.
+-- `gateway::built::stash_part` meets its contract: s words from where the stash begins.
 use native.Mathlib.Omega.{arith}
 use Rattle.build.specs.Scratch.{parts, stashed-at}
-use Rattle.renewal.specs.Columns.{part-lent}
+use Rattle.gateway.specs.Columns.{part-lent}
 use borrow.Author.Needs.{needs}
-use Rattle.renewal.proofs.built.stash_part.Statement.{statement}
-use Rattle.renewal.proofs.built.stash_part.Tie as tie
+use Rattle.gateway.proofs.built.stash_part.Statement.{statement}
+use Rattle.gateway.proofs.built.stash_part.Tie as tie
 
 stashed-start-requires : tie.Need-stashed-start-requires
 stashed-start-requires c κs = search needs
