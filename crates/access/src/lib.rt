@@ -7,8 +7,8 @@ ghost use Prim.Native.Nat.{_+_, _*_, _≤_, _<_};
 ghost use lib.Dec.{eqb};
 ghost use lib.ListN.{length, getD, take, drop};
 ghost use Rattle.tabulation.specs.Hash.{tabulation-length, max-slots};
-ghost use Rattle.layout.specs.Layout.{header-words, header-length, slot-width, slots-of, places-of, key-count};
-ghost use Rattle.layout.specs.Layout.{stash-count, station-of, sizes-in-range, params-in-range, shaped, words-length};
+ghost use Rattle.layout.specs.Layout.{header-of, header-words, header-length, slot-width, slots-of};
+ghost use Rattle.layout.specs.Layout.{sizes-in-range, params-in-range, shaped, words-length};
 ghost use Rattle.layout.specs.Entries.{tier-of};
 ghost use Rattle.layout.specs.Layout.{scratch-length, key-at, stash-at, tier-at, slot-entry, stash-entries, looked-at};
 ghost use Rattle.layout.specs.Shape.{Sized, Shaped};
@@ -65,11 +65,7 @@ fn are_params(r: u32, s: u32, station: u32) -> bool
 // The heading of words that are long enough to have one.
 pub fn read_header(words: &[u32]) -> Header
     requires { ⌜ header-length ≤ length (now words) ⌝ }
-    ensures slots { λ h. ⌜ h .slots ≡ slots-of (now (words .entry)) ⌝ }
-    ensures places { λ h. ⌜ h .places ≡ places-of (now (words .entry)) ⌝ }
-    ensures keys { λ h. ⌜ h .keys ≡ key-count (now (words .entry)) ⌝ }
-    ensures stashed { λ h. ⌜ h .stashed ≡ stash-count (now (words .entry)) ⌝ }
-    ensures station { λ h. ⌜ h .station ≡ station-of (now (words .entry)) ⌝ }
+    ensures { λ h. ⌜ h ≡ header-of (now (words .entry)) ⌝ }
 {
     Header {
         slots: words[0],

@@ -1,6 +1,6 @@
 -- What the shape of words means, as facts about numbers: for callers, which use these laws and not the text of `shaped`.
 use Prim.Native.Nat.{ℕ, _≤_, _<_}
-use mathlib.Core.Path.{_≡_, refl, _∙_}
+use mathlib.Core.Path.{_≡_, refl, ap, _∙_}
 use mathlib.Core.Bool.{true, not, _&&_}
 use mathlib.Core.List.{List, []}
 use native.Mathlib.Omega.{arith}
@@ -12,6 +12,7 @@ use Rattle.refusals.specs.Refusal.{none, and, front-none}
 use Rattle.tabulation.specs.Hash.{Family, tables, slots-in-range, station-in-range, max-slots, max-station, in-range-pos, in-range-max, range-in, station-max, station-in}
 use Rattle.layout.specs.Layout.{family-of, header-length, slots-of, places-of, stash-count, station-of, max-places, sizes-in-range, params-in-range, shaped, words-length}
 use Rattle.layout.specs.Answers.{view-refusals, view-refusal}
+use Rattle.layout.specs.declared.Header.{Header}
 
 -- r and s are in their ranges
 pub record Sized (r s : ℕ) : Type 0 where
@@ -59,6 +60,24 @@ unfolding shaped
 shape-true ws h =
     rw (le-leb header-length (length ws) (omega arith), ranged-true (slots-of ws) (places-of ws) (station-of ws) (h .sizes) (h .station))
     (eq-eqb (length ws) (words-length (slots-of ws) (places-of ws)) (h .size))
+
+-- Equal headings have equal words: what a heading that was read off words (`header-of`) tells of them, one by one.
+pub record SameHeader (h g : Header) : Type 0 where
+  pub slots : h .slots ≡ g .slots
+  pub places : h .places ≡ g .places
+  pub keys : h .keys ≡ g .keys
+  pub stashed : h .stashed ≡ g .stashed
+  pub station : h .station ≡ g .station
+
+pub same-header : {h g : Header} → h ≡ g → SameHeader h g
+same-header e =
+    record {
+      slots = ap (λ (x : Header). x .slots) e;
+      places = ap (λ (x : Header). x .places) e;
+      keys = ap (λ (x : Header). x .keys) e;
+      stashed = ap (λ (x : Header). x .stashed) e;
+      station = ap (λ (x : Header). x .station) e;
+    }
 
 -- What is worked out with r and the station number as they are read off the words, is worked out by the family of the words.
 pub by-own-family : (f : Family → ℕ) (tabulation ws : List ℕ) {r station x : ℕ} → r ≡ slots-of ws → station ≡ station-of ws

@@ -3,7 +3,7 @@ use Prim.Native.Nat.{_+_, _<_}
 use mathlib.Core.Path.{_≡_, refl, _∙_}
 use native.Mathlib.Omega.{arith}
 use Rattle.tabulation.specs.Slots.{slot-0, slot-1, slot-0-lt, slot-1-lt}
-use Rattle.layout.specs.Shape.{by-own-family}
+use Rattle.layout.specs.Shape.{by-own-family, same-header}
 use Rattle.layout.specs.Layout.{family-of, slots-of}
 use borrow.Author.Needs.{needs}
 use Rattle.access.specs.Found.{own-listed, own-missed}
@@ -14,10 +14,10 @@ read-header-requires : tie.Need-read-header-requires
 read-header-requires c κs = search needs
 
 first-slot-requires : tie.Need-first-slot-requires
-first-slot-requires c κs = search needs
+first-slot-requires c κs = let h = same-header (c .read-header .ensures) in search needs
 
 second-slot-requires : tie.Need-second-slot-requires
-second-slot-requires c κs = search needs
+second-slot-requires c κs = let h = same-header (c .before .read-header .ensures) in search needs
 
 -- both slots are known
 abbrev start : tie.After-second-slot → tie.Start
@@ -27,15 +27,15 @@ first-is : (d : tie.After-second-slot) → let a = start d .args in
     d .before .first-slot .result ≡ slot-0 (family-of (a .tabulation .now) (a .words .now)) (a .key)
 first-is d =
     let a = start d .args in
-    let h = d .before .before .read-header .ensures in
-    by-own-family (λ F. slot-0 F (a .key)) (a .tabulation .now) (a .words .now) (h .0) (h .1 .1 .1 .1) (d .before .first-slot .ensures)
+    let h = same-header (d .before .before .read-header .ensures) in
+    by-own-family (λ F. slot-0 F (a .key)) (a .tabulation .now) (a .words .now) (h .slots) (h .station) (d .before .first-slot .ensures)
 
 second-is : (d : tie.After-second-slot) → let a = start d .args in
     d .second-slot .result ≡ slot-1 (family-of (a .tabulation .now) (a .words .now)) (a .key)
 second-is d =
     let a = start d .args in
-    let h = d .before .before .read-header .ensures in
-    by-own-family (λ F. slot-1 F (a .key)) (a .tabulation .now) (a .words .now) (h .0) (h .1 .1 .1 .1) (d .second-slot .ensures)
+    let h = same-header (d .before .before .read-header .ensures) in
+    by-own-family (λ F. slot-1 F (a .key)) (a .tabulation .now) (a .words .now) (h .slots) (h .station) (d .second-slot .ensures)
 
 first-in : (d : tie.After-second-slot) → d .before .first-slot .result < slots-of (start d .args .words .now)
 first-in d =

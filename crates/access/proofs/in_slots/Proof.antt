@@ -4,7 +4,7 @@ use mathlib.Core.Path.{_≡_, refl, sym, _∙_}
 use native.Mathlib.Omega.{arith}
 use lib.Dec.{eqb}
 use Rattle.tabulation.specs.Slots.{slot-0, slot-1, slot-0-lt, slot-1-lt}
-use Rattle.layout.specs.Shape.{by-own-family}
+use Rattle.layout.specs.Shape.{by-own-family, same-header}
 use Rattle.layout.specs.Layout.{family-of, slots-of, slot-entry}
 use borrow.Author.Needs.{needs}
 use Rattle.access.specs.Found.{found-first, found-second, found-neither}
@@ -15,7 +15,7 @@ read-header-requires : tie.Need-read-header-requires
 read-header-requires c κs = search needs
 
 first-slot-requires : tie.Need-first-slot-requires
-first-slot-requires c κs = search needs
+first-slot-requires c κs = let h = same-header (c .read-header .ensures) in search needs
 
 -- the first slot is known
 abbrev start : tie.After-first-slot → tie.Start
@@ -25,8 +25,8 @@ first-is : (f : tie.After-first-slot) → let a = start f .args in
     f .first-slot .result ≡ slot-0 (family-of (a .tabulation .now) (a .words .now)) (a .key)
 first-is f =
     let a = start f .args in
-    let h = f .before .read-header .ensures in
-    by-own-family (λ F. slot-0 F (a .key)) (a .tabulation .now) (a .words .now) (h .0) (h .1 .1 .1 .1) (f .first-slot .ensures)
+    let h = same-header (f .before .read-header .ensures) in
+    by-own-family (λ F. slot-0 F (a .key)) (a .tabulation .now) (a .words .now) (h .slots) (h .station) (f .first-slot .ensures)
 
 first-in : (f : tie.After-first-slot) → f .first-slot .result < slots-of (start f .args .words .now)
 first-in f =
@@ -51,7 +51,7 @@ returns c =
     (refl, found-first (a .tabulation .now) (a .words .now) (a .key) (sym (first-test i) ∙ c .before .if1 .taken) (rw (first-is (i .before)) at (c .slot-tier .ensures)))
 
 second-slot-requires : tie.Need-second-slot-requires
-second-slot-requires c κs = search needs
+second-slot-requires c κs = let h = same-header (c .before .before .before .read-header .ensures) in search needs
 
 -- it does not have the key, and the second is known
 abbrev earlier : tie.After-second-slot → tie.After-in-slot
@@ -61,8 +61,8 @@ second-is : (d : tie.After-second-slot) → let a = start (earlier d .before) .a
     d .second-slot .result ≡ slot-1 (family-of (a .tabulation .now) (a .words .now)) (a .key)
 second-is d =
     let a = start (earlier d .before) .args in
-    let h = earlier d .before .before .read-header .ensures in
-    by-own-family (λ F. slot-1 F (a .key)) (a .tabulation .now) (a .words .now) (h .0) (h .1 .1 .1 .1) (d .second-slot .ensures)
+    let h = same-header (earlier d .before .before .read-header .ensures) in
+    by-own-family (λ F. slot-1 F (a .key)) (a .tabulation .now) (a .words .now) (h .slots) (h .station) (d .second-slot .ensures)
 
 second-in : (d : tie.After-second-slot) → let w = start (earlier d .before) .args .words .now in d .second-slot .result < slots-of w + slots-of w
 second-in d =

@@ -1,6 +1,7 @@
 -- `access::in_stash` meets its contract: the stash lies inside words of the right shape.
 use mathlib.Core.Path.{_∙_, ap}
 use Rattle.layout.specs.Layout.{stash-at}
+use Rattle.layout.specs.Shape.{same-header}
 use borrow.Author.Needs.{needs}
 use Rattle.access.specs.Found.{found-stash}
 use Rattle.access.proofs.in_stash.Statement.{statement}
@@ -10,7 +11,7 @@ read-header-requires : tie.Need-read-header-requires
 read-header-requires c κs = search needs
 
 stash-start-requires : tie.Need-stash-start-requires
-stash-start-requires c κs = search needs
+stash-start-requires c κs = let h = same-header (c .read-header .ensures) in search needs
 
 wide-requires : tie.Need-wide-requires
 wide-requires c κs = search needs
@@ -31,18 +32,18 @@ part-find-place-start : tie.Need-part-find-place-start
 part-find-place-start c = search needs
 
 part-find-place-end : tie.Need-part-find-place-end
-part-find-place-end c = search needs
+part-find-place-end c = let h = same-header (c .before .before .read-header .ensures) in search needs
 
 find-place-requires : tie.Need-find-place-requires
-find-place-requires c κs = search needs
+find-place-requires c κs = let h = same-header (c .before .before .before .read-header .ensures) in search needs
 
 returns : tie.Need-returns
 returns c =
     let w = c .before .before in
     let s = w .before in
-    let h = s .before .read-header .ensures in (
+    let h = same-header (s .before .read-header .ensures) in (
       c .find-place .ensures .0,
-      found-stash _ _ (s .stash-start .ensures ∙ ap stash-at (h .0)) (w .wide .ensures ∙ h .1 .0) (c .find-place .ensures .1),
+      found-stash _ _ (s .stash-start .ensures ∙ ap stash-at (h .slots)) (w .wide .ensures ∙ h .places) (c .find-place .ensures .1),
     )
 
 pub in-stash-spec : {M : Type 1} → statement M

@@ -4,7 +4,7 @@ use mathlib.Core.Bool.{true}
 use native.Mathlib.Omega.{arith}
 use borrow.Author.Tests.{eq-eqb, ne-eqb, lt-ltb, le-ltb, not-true, not-false}
 use Rattle.layout.specs.Layout.{shaped}
-use Rattle.layout.specs.Shape.{shape}
+use Rattle.layout.specs.Shape.{shape, same-header}
 use Rattle.renewal.specs.Reading.{early-refusal}
 use borrow.Author.Needs.{needs}
 use Rattle.renewal.proofs.early.Statement.{statement}
@@ -29,22 +29,22 @@ read-header-requires : tie.Need-read-header-requires
 read-header-requires c κs = omega (arith, shape _ (formed c))
 
 scratch-for-requires : tie.Need-scratch-for-requires
-scratch-for-requires c κs = let h = c .read-header .ensures in rw (h .0, h .1 .0) (shape _ (formed (c .before)) .sizes)
+scratch-for-requires c κs = let h = same-header (c .read-header .ensures) in rw (h .slots, h .places) (shape _ (formed (c .before)) .sizes)
 
 returns-3 : tie.Need-returns-3
 unfolding early-refusal
 returns-3 c =
     let r = c .before .before in
-    let h = r .read-header .ensures in
-    let short = rw (c .before .scratch-for .ensures, h .0, h .1 .0) at (c .if3 .taken) in
+    let h = same-header (r .read-header .ensures) in
+    let short = rw (c .before .scratch-for .ensures, h .slots, h .places) at (c .if3 .taken) in
     rw (eq-eqb _ _ (r .before .before .before .if1 .left), formed (r .before), lt-ltb _ _ short)
 
 returns-4 : tie.Need-returns-4
 unfolding early-refusal
 returns-4 c =
     let r = c .before .before in
-    let h = r .read-header .ensures in
-    let long = rw (c .before .scratch-for .ensures, h .0, h .1 .0) at (c .if3 .left) in
+    let h = same-header (r .read-header .ensures) in
+    let long = rw (c .before .scratch-for .ensures, h .slots, h .places) at (c .if3 .left) in
     rw (eq-eqb _ _ (r .before .before .before .if1 .left), formed (r .before), le-ltb _ _ long)
 
 pub early-spec : {M : Type 1} → statement M

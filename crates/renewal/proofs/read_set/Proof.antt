@@ -5,7 +5,7 @@ use mathlib.Core.Bool.{true}
 use native.Mathlib.Omega.{arith}
 use borrow.Author.Tests.{not-true, not-false}
 use Rattle.layout.specs.Layout.{one-issue, keys-in}
-use Rattle.layout.specs.Shape.{shape}
+use Rattle.layout.specs.Shape.{shape, same-header}
 use Rattle.members.specs.Collected.{Collected, collected-room}
 use Rattle.renewal.specs.Reading.{collected-searchable, collected-issues, collected-buildable, built-readable}
 use Rattle.renewal.specs.Reading.{read-twice, read-full, read-same, read-other}
@@ -33,11 +33,12 @@ collected : (k : tie.After-collect-keys) → let a = start k .args in let h = he
     Collected (a .tabulation .now) (a .words .now) (k .collect-keys .last .1 .0) (h .slots) (h .places) (h .station) (k .collect-keys .result)
 collected k =
     let p = start k .pre in
+    let h = same-header (headed k .read-header .ensures) in
     record {
       ready = record { full-length = p .full-length; shape = p .shape; room = omega (arith, p .room, k .collect-keys .kept .1 .0) };
-      slots = headed k .read-header .ensures .0;
-      places = headed k .read-header .ensures .1 .0;
-      stationed = headed k .read-header .ensures .1 .1 .1 .1;
+      slots = h .slots;
+      places = h .places;
+      stationed = h .station;
       count = k .collect-keys .ensures .1;
       front = k .collect-keys .ensures .0;
     }

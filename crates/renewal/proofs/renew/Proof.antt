@@ -1,5 +1,6 @@
 -- `renewal::renew` meets its contract: the new set has no room, or its image is written.
 use native.Mathlib.Omega.{arith}
+use Rattle.layout.specs.Shape.{same-header}
 use Rattle.renewal.specs.Reading.{new-buildable, renew-full, renew-readable, renew-made}
 use borrow.Author.Needs.{needs}
 use Rattle.renewal.proofs.renew.Statement.{statement}
@@ -15,7 +16,8 @@ start h = h .before .before .before .before
 build-requires : tie.Need-build-requires
 build-requires c κs =
     let h = c .before in
-    new-buildable (h .read-header .ensures .0) (h .read-header .ensures .1 .0) (start h .pre .1) (start h .pre .0)
+    let e = same-header (h .read-header .ensures) in
+    new-buildable (e .slots) (e .places) (start h .pre .1) (start h .pre .0)
 
 -- the set is built
 abbrev headed : tie.After-build → tie.After-read-header
@@ -36,9 +38,9 @@ same-length-2 c = search needs
 returns : tie.Need-returns
 returns c =
     let b = c .before .before .before .before in
-    let h = headed b .read-header .ensures in
+    let h = same-header (headed b .read-header .ensures) in
     let p = start (headed b) .pre in
-    renew-full (h .0) (h .1 .0) (p .1) (p .0) (b .build .kept .0) (b .build .ensures) (c .enum-told .given .1)
+    renew-full (h .slots) (h .places) (p .1) (p .0) (b .build .kept .0) (b .build .ensures) (c .enum-told .given .1)
 
 -- it has room
 abbrev build-at : tie.After-count → tie.After-build
@@ -51,9 +53,9 @@ write-built-requires : tie.Need-write-built-requires
 write-built-requires c κs =
     let q = c .before .before .before in
     let b = build-at q in
-    let h = headed b .read-header .ensures in
+    let h = same-header (headed b .read-header .ensures) in
     let p = start (headed b) .pre in
-    renew-readable (h .0) (h .1 .0) (p .1) (p .0) (b .build .kept .0) (b .build .ensures) (q .count .given .1)
+    renew-readable (h .slots) (h .places) (p .1) (p .0) (b .build .kept .0) (b .build .ensures) (q .count .given .1)
 
 same-length-3 : tie.Need-same-length-3
 same-length-3 c = search needs
@@ -66,9 +68,9 @@ returns-2 c =
     let w = c .before .before in
     let q = w .before .before .before .before in
     let b = build-at q in
-    let h = headed b .read-header .ensures in
+    let h = same-header (headed b .read-header .ensures) in
     let p = start (headed b) .pre in
-    renew-made (h .0) (h .1 .0) (p .1) (p .0) (b .build .kept .0) (b .build .ensures) (q .count .given .1) (h .1 .1 .1 .1) (w .write-built .ensures)
+    renew-made (h .slots) (h .places) (p .1) (p .0) (b .build .kept .0) (b .build .ensures) (q .count .given .1) (h .station) (w .write-built .ensures)
 
 pub renew-spec : {M : Type 1} → statement M
 renew-spec =

@@ -4,6 +4,7 @@ use Prim.Native.Nat.{_*_}
 use native.Mathlib.Omega.{arith}
 use lib.ListN.{length-set}
 use Rattle.layout.specs.Layout.{header-length, slot-width, stash-at}
+use Rattle.layout.specs.Shape.{same-header}
 use Rattle.codec.specs.Collect.{non-blank-few, gathered-front}
 use borrow.Author.Needs.{needs}
 use Rattle.codec.proofs.collect.gather_keys.Statement.{statement}
@@ -29,10 +30,12 @@ mul-gather : tie.Need-mul-gather
 mul-gather c = search needs
 
 gather-requires : tie.Need-gather-requires
-gather-requires c κs = (search needs, search needs, simp length-set (omega arith))
+gather-requires c κs =
+    let h = same-header (c .before .before .read-header .ensures) in
+    (search needs, search needs, simp length-set (omega arith))
 
 stash-start-requires : tie.Need-stash-start-requires
-stash-start-requires c κs = search needs
+stash-start-requires c κs = let h = same-header (slots (c .before .before) .before .read-header .ensures) in search needs
 
 wide-requires-2 : tie.Need-wide-requires-2
 wide-requires-2 c κs = search needs
@@ -40,6 +43,7 @@ wide-requires-2 c κs = search needs
 gather-requires-2 : tie.Need-gather-requires-2
 gather-requires-2 c κs =
     let g = c .before .before .before .before .before in
+    let h = same-header (slots g .before .read-header .ensures) in
     let l = non-blank-few (start (slots g) .args .words .now) header-length slot-width (2 * slots g .wide .result) in
     let e = simp length-set at (g .gather .kept .1 .1 .1 .1 .0) in
     (search needs, omega arith, omega arith)
@@ -59,11 +63,11 @@ returns c =
     let stash = second .before .before .before in
     let first = stash .before .before .before in
     let w = slots first in
-    let h = w .before .read-header .ensures in
+    let h = same-header (w .before .read-header .ensures) in
     let s = start w in
-    let f = rw (w .wide .ensures ∙ h .0) at (first .gather .ensures) in
-    let e = second .before .before .wide2 .ensures ∙ h .1 .0 in
-    let g = rw (stash .stash-start .ensures ∙ ap stash-at (h .0), e, f .0) at (second .gather2 .ensures) in
+    let f = rw (w .wide .ensures ∙ h .slots) at (first .gather .ensures) in
+    let e = second .before .before .wide2 .ensures ∙ h .places in
+    let g = rw (stash .stash-start .ensures ∙ ap stash-at (h .slots), e, f .0) at (second .gather2 .ensures) in
     gathered-front (s .args .words .now) (s .pre .0) (s .args .scratch .now) _ (second .gather2 .result) (omega arith) (g .0) (omega (arith, f .1, g .1))
 
 pub gather-keys-spec : {M : Type 1} → statement M
