@@ -4,8 +4,8 @@ use native.Mathlib.Omega.{arith}
 use lib.ListN.{length}
 use Rattle.tabulation.specs.Hash.{Hashing}
 use Rattle.layout.specs.Entries.{max-tier}
-use Rattle.layout.specs.Layout.{slots-of, places-of}
-use Rattle.layout.specs.Shape.{shape}
+use Rattle.layout.specs.Layout.{header-of, slots-of, places-of}
+use Rattle.layout.specs.Shape.{shape, SameHeader, same-header}
 use Rattle.build.specs.Scratch.{used}
 use Rattle.dictionary.specs.Core.{searchable, in-range, at-le, at-lt, placed}
 use Rattle.dictionary.specs.Core.{insert-large, insert-issue, insert-other, insert-present, insert-crowded, insert-buildable, insert-renewed}
@@ -30,9 +30,13 @@ read-header-requires c κs = omega (arith, shape _ (origin (c .before) .pre .rea
 abbrev start : tie.After-read-header → tie.Start
 start h = origin (h .before .before)
 
+-- what it tells of the words
+abbrev told : (h : tie.After-read-header) → SameHeader (h .read-header .result) (header-of (start h .args .words .now))
+told h = same-header (h .read-header .ensures)
+
 ranges : (h : tie.After-read-header) → let a = start h .args in let r = h .read-header .result .slots in let s = h .read-header .result .places in
     Hashing (a .tabulation .now) r (h .read-header .result .station) × ((s ≤ 64) × ((a .n ≤ 2 * r + s) × (used r s ≤ length (a .scratch .now))))
-ranges h = let e = h .read-header .ensures in in-range (start h .pre) (e .0) (e .1 .0) (e .1 .1 .1 .1)
+ranges h = in-range (start h .pre) (told h .slots) (told h .places) (told h .station)
 
 place-of-requires : tie.Need-place-of-requires
 place-of-requires c κs = searchable (start (c .before) .pre)
@@ -92,7 +96,7 @@ returns-3 c =
     let y = t .before .before in
     let p = place (y .before) in
     let h = headed p in
-    insert-other (start h .pre) (p .place-of .ensures) (y .before .is-at .ensures) (y .if3 .taken) (h .read-header .ensures .0) (h .read-header .ensures .1 .0)
+    insert-other (start h .pre) (p .place-of .ensures) (y .before .is-at .ensures) (y .if3 .taken) (told h .slots) (told h .places)
     (t .tier-at .ensures) (small (h .before .before)) (λ q. c .if4 .taken q)
 
 same-length-5 : tie.Need-same-length-5
@@ -107,7 +111,7 @@ returns-4 c =
     let y = t .before .before in
     let p = place (y .before) in
     let h = headed p in
-    insert-present (start h .pre) (p .place-of .ensures) (y .before .is-at .ensures) (y .if3 .taken) (h .read-header .ensures .0) (h .read-header .ensures .1 .0)
+    insert-present (start h .pre) (p .place-of .ensures) (y .before .is-at .ensures) (y .if3 .taken) (told h .slots) (told h .places)
     (t .tier-at .ensures) (small (h .before .before)) (c .if4 .left)
 
 mul-wide : tie.Need-mul-wide
@@ -133,7 +137,7 @@ returns-5 c =
     let w = c .before .wide .ensures in
     let l = c .if5 .taken in
     insert-crowded (start h .pre) (p .place-of .ensures) (e .before .is-at .ensures) (e .if3 .left) (single (e .before) .before .other-issue .ensures) (single (e .before) .if2 .left) (small (h .before .before))
-    (omega (arith, h .read-header .ensures .0, h .read-header .ensures .1 .0))
+    (omega (arith, told h))
 
 -- there is room for one more
 abbrev tested : tie.Else5 → tie.Else3
@@ -141,10 +145,10 @@ tested o = o .before .before
 
 few : (o : tie.Else5) → let a = start (headed (place (tested o .before))) .args in a .n < 2 * slots-of (a .words .now) + places-of (a .words .now)
 few o =
-    let h = headed (place (tested o .before)) .read-header .ensures in
+    let h = told (headed (place (tested o .before))) in
     let w = o .before .wide .ensures in
     let l = o .if5 .left in
-    omega (arith, h .0, h .1 .0)
+    omega arith
 
 put-key-requires : tie.Need-put-key-requires
 put-key-requires c κs =
@@ -155,7 +159,7 @@ put-key-requires c κs =
       ((b .0, omega (arith, small (h .before .before))), b .1 .0),
       (
         at-le (start h .pre) (p .place-of .ensures),
-        (omega (arith, few o, h .read-header .ensures .0, h .read-header .ensures .1 .0), b .1 .1 .1),
+        (omega (arith, few o, told h), b .1 .1 .1),
       ),
     )
 
@@ -173,8 +177,8 @@ renew-requires c κs =
     let e = tested o in
     let p = place (e .before) in
     let h = headed p in
-    insert-buildable (start h .pre) (p .place-of .ensures) (e .before .is-at .ensures) (e .if3 .left) (single (e .before) .before .other-issue .ensures) (single (e .before) .if2 .left) (small (h .before .before)) (h .read-header .ensures .0)
-    (h .read-header .ensures .1 .0) (h .read-header .ensures .1 .1 .1 .1) (few o) (k .put-key .ensures) (k .put-key .kept .1 .0)
+    insert-buildable (start h .pre) (p .place-of .ensures) (e .before .is-at .ensures) (e .if3 .left) (single (e .before) .before .other-issue .ensures) (single (e .before) .if2 .left) (small (h .before .before))
+    (told h .slots) (told h .places) (told h .station) (few o) (k .put-key .ensures) (k .put-key .kept .1 .0)
 
 same-length-9 : tie.Need-same-length-9
 same-length-9 c = search needs
@@ -190,8 +194,8 @@ returns-6 c =
     let e = tested o in
     let p = place (e .before) in
     let h = headed p in
-    insert-renewed (start h .pre) (p .place-of .ensures) (e .before .is-at .ensures) (e .if3 .left) (single (e .before) .before .other-issue .ensures) (single (e .before) .if2 .left) (small (h .before .before)) (h .read-header .ensures .0)
-    (h .read-header .ensures .1 .0) (h .read-header .ensures .1 .1 .1 .1) (few o) (k .put-key .ensures) (k .put-key .kept .1 .0) (w .renew .ensures)
+    insert-renewed (start h .pre) (p .place-of .ensures) (e .before .is-at .ensures) (e .if3 .left) (single (e .before) .before .other-issue .ensures) (single (e .before) .if2 .left) (small (h .before .before))
+    (told h .slots) (told h .places) (told h .station) (few o) (k .put-key .ensures) (k .put-key .kept .1 .0) (w .renew .ensures)
 
 pub insert-key-spec : {M : Type 1} → statement M
 insert-key-spec =

@@ -5,7 +5,8 @@ use mathlib.Core.Bool.{true}
 use mathlib.Core.Logic.{inl, inr}
 use denote.Enum.Declared.{tagOf}
 use Rattle.basics.specs.Sets.{member}
-use Rattle.layout.specs.Shape.{shape}
+use Rattle.layout.specs.Layout.{header-of}
+use Rattle.layout.specs.Shape.{shape, SameHeader, same-header}
 use Rattle.layout.proofs.Found.{the-type}
 use Rattle.members.specs.Members.{keys-at, looked-listed, looked-absent}
 use Rattle.dictionary.specs.Core.{searchable, in-range, at-lt, remove-absent, remove-buildable, remove-renewed}
@@ -20,6 +21,10 @@ read-header-requires c κs = omega (arith, shape _ (c .before .before .before .b
 abbrev start : tie.After-read-header → tie.Start
 start h = h .before .before .before .before .before
 
+-- what it tells of the words
+abbrev told : (h : tie.After-read-header) → SameHeader (h .read-header .result) (header-of (start h .args .words .now))
+told h = same-header (h .read-header .ensures)
+
 place-of-requires : tie.Need-place-of-requires
 place-of-requires c κs = searchable (start (c .before) .pre)
 
@@ -31,7 +36,7 @@ look-requires : tie.Need-look-requires
 look-requires c κs =
     let p = c .before in
     let h = headed p in
-    let b = in-range (start h .pre) (h .read-header .ensures .0) (h .read-header .ensures .1 .0) (h .read-header .ensures .1 .1 .1 .1) in
+    let b = in-range (start h .pre) (told h .slots) (told h .places) (told h .station) in
     ((searchable (start h .pre), p .place-of .ensures), ((b .0 .slots-bound, b .1 .0), omega (arith, b .1 .1)))
 
 enum-told : tie.Need-enum-told
@@ -75,7 +80,7 @@ take-key-requires c κs =
     let e = c .before in
     let p = placed (looked e) in
     let h = headed p in
-    let b = in-range (start h .pre) (h .read-header .ensures .0) (h .read-header .ensures .1 .0) (h .read-header .ensures .1 .1 .1 .1) in
+    let b = in-range (start h .pre) (told h .slots) (told h .places) (told h .station) in
     ((b .0 .slots-bound, b .1 .0), (at-lt (start h .pre) (p .place-of .ensures) refl (here e), b .1 .1))
 
 -- it is taken out
@@ -94,7 +99,7 @@ renew-requires c κs =
     let e = k .before .before in
     let p = placed (looked e) in
     let h = headed p in
-    remove-buildable (start h .pre) (p .place-of .ensures) refl (here e) (h .read-header .ensures .0) (h .read-header .ensures .1 .0) (k .take-key .ensures)
+    remove-buildable (start h .pre) (p .place-of .ensures) refl (here e) (told h .slots) (told h .places) (k .take-key .ensures)
     (k .take-key .kept .0)
 
 same-length-3 : tie.Need-same-length-3
@@ -110,7 +115,7 @@ returns-2 c =
     let e = k .before .before in
     let p = placed (looked e) in
     let h = headed p in
-    remove-renewed (start h .pre) (p .place-of .ensures) refl (here e) (h .read-header .ensures .0) (h .read-header .ensures .1 .0) (k .take-key .ensures)
+    remove-renewed (start h .pre) (p .place-of .ensures) refl (here e) (told h .slots) (told h .places) (k .take-key .ensures)
     (k .take-key .kept .0) (w .renew .ensures)
 
 pub remove-key-spec : {M : Type 1} → statement M

@@ -5,7 +5,7 @@ use native.Mathlib.Omega.{arith}
 use borrow.Author.Tests.{eq-eqb, ne-eqb}
 use Rattle.layout.specs.Layout.{stash-at, stash-count, place-width}
 use Rattle.layout.specs.Answers.{view-refusal}
-use Rattle.layout.specs.Shape.{viewed}
+use Rattle.layout.specs.Shape.{viewed, same-header}
 use Rattle.pinorange.specs.Out.{offset-out, length-out}
 use borrow.Author.Needs.{needs}
 use Rattle.pinorange.proofs.pinorange_stash.Statement.{statement}
@@ -29,10 +29,10 @@ read-header-requires : tie.Need-read-header-requires
 read-header-requires c κs = omega (arith, viewed _ (accepted c))
 
 stash-start-requires : tie.Need-stash-start-requires
-stash-start-requires c κs = omega (arith, c .read-header .ensures .0, viewed _ (accepted (c .before)))
+stash-start-requires c κs = omega (arith, same-header (c .read-header .ensures), viewed _ (accepted (c .before)))
 
 cast-offset : tie.Need-cast-offset
-cast-offset c = omega (arith, c .stash-start .ensures, c .before .read-header .ensures .0, viewed _ (accepted (c .before .before)))
+cast-offset c = omega (arith, c .stash-start .ensures, same-header (c .before .read-header .ensures), viewed _ (accepted (c .before .before)))
 
 wide-requires : tie.Need-wide-requires
 wide-requires c κs = search needs
@@ -42,7 +42,7 @@ abbrev read : tie.After-wide → tie.After-read-header
 read w = w .before .before
 
 filled : (w : tie.After-wide) → w .wide .result ≡ stash-count (read w .before .before .before .before .args .words .now)
-filled w = w .wide .ensures ∙ read w .read-header .ensures .1 .1 .1 .0
+filled w = w .wide .ensures ∙ same-header (read w .read-header .ensures) .stashed
 
 mul-length : tie.Need-mul-length
 mul-length c = omega (arith, filled c, viewed _ (accepted (read c .before)))
@@ -54,9 +54,9 @@ returns-2 : tie.Need-returns-2
 unfolding offset-out length-out
 returns-2 c =
     let n = accepted (read c .before) in
-    let h = read c .read-header .ensures in
+    let h = same-header (read c .read-header .ensures) in
     let t = eq-eqb _ 0 n in
-    (sym n, (simp t (c .before .stash-start .ensures ∙ ap stash-at (h .0)), simp t (ap (λ (k : ℕ). place-width * k) (filled c))))
+    (sym n, (simp t (c .before .stash-start .ensures ∙ ap stash-at (h .slots)), simp t (ap (λ (k : ℕ). place-width * k) (filled c))))
 
 pub pinorange-stash-spec : {M : Type 1} → statement M
 pinorange-stash-spec =

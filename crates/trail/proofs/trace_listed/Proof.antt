@@ -2,7 +2,7 @@
 use native.Mathlib.Omega.{arith}
 use mathlib.Core.Path.{sym, _∙_}
 use borrow.Author.Tests.{not-true, not-false}
-use Rattle.layout.specs.Shape.{shape}
+use Rattle.layout.specs.Shape.{shape, same-header}
 use Rattle.dictionary.specs.Core.{searchable, stands-listed}
 use Rattle.trail.specs.Traced.{settable-traceable, told-absent, told-listed}
 use borrow.Author.Needs.{needs}
@@ -36,7 +36,10 @@ returns c =
     told-absent _ _ _ _ (sym (stands-listed (s .pre) (i .is-at .ensures)) ∙ not-true _ (c .if1 .taken))
 
 trace-requires : tie.Need-trace-requires
-trace-requires c κs = let h = headed (c .before .before .before) in settable-traceable (start h .pre) (h .read-header .ensures .0) (h .read-header .ensures .1 .1 .1 .1)
+trace-requires c κs =
+    let h = headed (c .before .before .before) in
+    let e = same-header (h .read-header .ensures) in
+    settable-traceable (start h .pre) (e .slots) (e .station)
 
 same-length-2 : tie.Need-same-length-2
 same-length-2 c = search needs
