@@ -18,7 +18,7 @@ use Rattle.forest.specs.Edges.{Edges, end-0, end-1, other-end, ends-fit, ends-a
 use Rattle.build.specs.EachSlot.{listed, is-listed}
 use Rattle.build.specs.Link.{Linking, unlinked, link-keys, link-length, Linked, Marked, link-all, forest-few}
 use Rattle.build.specs.Labels.{Labels, Words, labelled, labelled-length, labels-all, words-all, label-fit}
-use Rattle.build.specs.Notes.{pair, split-pair, lows, Lows, lows-all, found, none-of, Noting, Going, none-yet, one-seen, nothing-noted, noted, Stashed, over, fit, stashed, Smallest}
+use Rattle.build.specs.Notes.{pair-base, split-pair, lows, Lows, lows-all, found, none-of, Noting, Going, none-yet, one-seen, nothing-noted, noted, Stashed, over, fit, stashed, Smallest}
 use Rattle.build.specs.Finish.{finish-ranks, Occupied, note-smallest, finish-all}
 use Rattle.build.specs.Next.{Chaining, nexts, next-all, next-held}
 
@@ -84,7 +84,7 @@ pub data Right (a b : ℕ → ℕ) (S : List ℕ) (m s : ℕ) (out : Built) : Ty
       → ((v : ℕ) → v < m → getD nx (slot-key a b S v) 0 ≡ slot-next a b S v) → Right a b S m s out
 
 module _ {a b : ℕ → ℕ} {other : ℕ → ℕ → ℕ} (turn : (c v w : ℕ) → Ends a b c v w → other v c ≡ w) {m : ℕ} (few : m ≤ max-points)
-    (fits : (c : ℕ) → (a c < m) × (b c < m)) (two : (c : ℕ) → a c ≡ b c → ⊥) (n : ℕ) (small : n < pair) (words : List ℕ) (long : n < length words) where
+    (fits : (c : ℕ) → (a c < m) × (b c < m)) (two : (c : ℕ) → a c ≡ b c → ⊥) (n : ℕ) (small : n < pair-base) (words : List ℕ) (long : n < length words) where
   abbrev S : List ℕ
   S = ranks n
 
@@ -149,20 +149,20 @@ module _ {a b : ℕ → ℕ} {other : ℕ → ℕ → ℕ} (turn : (c v w : ℕ)
     noting-is = stashed m fits asc labels-is words-is (λ x i. let k = within x i in (k .0, omega arith, omega (arith, labels-long))) low-is (replicate s 0)
 
     module _ (G : Going a b m S lab (labels a b other m n words) (low a b other m n words) [] N) where
-      inner : (x : ℕ) → In x S → (0 < x) × (x < pair)
+      inner : (x : ℕ) → In x S → (0 < x) × (x < pair-base)
       inner x i = let k = within x i in (k .0, omega arith)
 
       held-is : Occupied a b (seated a b S) m (held a b other m n words s)
       unfolding held
       held-is = finish-all turn m fits asc (λ c i. two c) (linking-is .0 .whole) (forest-few asc (linking-is .0)) labels-is words-is low-is inner G (linking-is .0 .size)
 
-      notes-are : (l : ℕ) → l < m → Smallest a b S lab l (getD (N .notes) l 0 % pair)
+      notes-are : (l : ℕ) → l < m → Smallest a b S lab l (getD (N .notes) l 0 % pair-base)
       notes-are = note-smallest turn m fits asc (λ c i. two c) (linking-is .0 .whole) (forest-few asc (linking-is .0)) labels-is words-is low-is inner G
 
       abbrev before : Chaining
       before = record { notes = N .notes; next = N .next }
 
-      in-next : (x : ℕ) → In x S → (0 < x) × (x < pair) × (x < length (N .next))
+      in-next : (x : ℕ) → In x S → (0 < x) × (x < pair-base) × (x < length (N .next))
       in-next x i = let k = within x i in (k .0, omega arith, omega (arith, G .next-size, labels-long))
 
       chain-is : (c : ℕ) → In c (seated a b S) → getD (chain a b other m n words s) c 0 ≡ next a b (seated a b S) c
@@ -175,11 +175,11 @@ module _ {a b : ℕ → ℕ} {other : ℕ → ℕ → ℕ} (turn : (c v w : ℕ)
           held-is (omega (arith, G .next-size, labels-long)) v f
 
     -- a rank that is noted as closing a cycle is one of them
-    pub closing-few : N .overflow ≡ false → (l : ℕ) → l < m → getD (N .notes) l 0 / pair ≤ n
+    pub closing-few : N .overflow ≡ false → (l : ℕ) → l < m → getD (N .notes) l 0 / pair-base ≤ n
     closing-few e l f = elim noting-is [
       | over k o ↦ absurd (zero-one (ap (λ (t : Bool). cond t 1 0) (sym e ∙ o)))
       | fit k o c w G ↦
-          let small-low : getD (low a b other m n words) l 0 < pair = elim (low-is .at l f) [ found i q h ↦ omega (arith, within _ i) | none-of q h ↦ omega arith ] in
+          let small-low : getD (low a b other m n words) l 0 < pair-base = elim (low-is .at l f) [ found i q h ↦ omega (arith, within _ i) | none-of q h ↦ omega arith ] in
           elim (G .seen l f) [
             | none-yet q h ↦ omega arith
             | one-seen d q i t h o′ ↦ omega (arith, within d i, split-pair (getD (low a b other m n words) l 0) d small-low)
@@ -202,6 +202,6 @@ module _ {a b : ℕ → ℕ} {other : ℕ → ℕ → ℕ} (turn : (c v w : ℕ)
         ]
 
 -- The same for edges in a list, one for each rank.
-module _ {r : ℕ} {edges : List ℕ} (P : Edges r edges) (n : ℕ) (small : n < pair) (words : List ℕ) (long : n < length words) (s : ℕ) where
+module _ {r : ℕ} {edges : List ℕ} (P : Edges r edges) (n : ℕ) (small : n < pair-base) (words : List ℕ) (long : n < length words) (s : ℕ) where
   pub built-edges : Right (end-0 r edges) (end-1 r edges) (ranks n) (2 * r) s (built (end-0 r edges) (end-1 r edges) (other-end r edges) (2 * r) n words s)
   built-edges = built-is (ends-turn P) (omega (arith, P .most)) (ends-fit P) (ends-apart P) n small words long s

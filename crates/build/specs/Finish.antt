@@ -19,7 +19,7 @@ use Rattle.cuckoo.specs.Seating.{Ends, occupant-from}
 use Rattle.forest.specs.Oriented.{OrientedForest, Oriented, end-near, recast}
 use Rattle.forest.specs.Finish.{Finished, Spanned, TreeComponent, CycleComponent, finish-tree, finish-cycle, finishes-tree, finishes-cycle}
 use Rattle.build.specs.Labels.{Labels, Words, label-fit, same-label}
-use Rattle.build.specs.Notes.{pair, Noting, Going, none-yet, one-seen, Lows, Smallest, empty, rank, smallest-of, split-pair}
+use Rattle.build.specs.Notes.{pair-base, Noting, Going, none-yet, one-seen, Lows, Smallest, empty, rank, smallest-of, split-pair}
 
 -- the m held words are the occupants of the slots
 pub record Occupied (a b : ℕ → ℕ) (T : List ℕ) (m : ℕ) (held : List ℕ) : Type 0 where
@@ -32,7 +32,7 @@ module _ (a b : ℕ → ℕ) (other : ℕ → ℕ → ℕ) (m : ℕ) (next notes
   finish-rank c held =
       let l = getD next c 0 in
       let x = getD notes l 0 in
-      cond (ltb l m) (cond (eqb (x % pair) c) (cond (ltb x pair) (finish-tree a b other (suc m) held c) (finish-cycle a b other (suc m) held (x / pair))) held) held
+      cond (ltb l m) (cond (eqb (x % pair-base) c) (cond (ltb x pair-base) (finish-tree a b other (suc m) held c) (finish-cycle a b other (suc m) held (x / pair-base))) held) held
 
   -- ascending over the ranks
   unfoldable pub finish-ranks : List ℕ → List ℕ → List ℕ
@@ -93,7 +93,7 @@ module _ {a b : ℕ → ℕ} {other : ℕ → ℕ → ℕ} (turn : (c v w : ℕ)
     {S : List ℕ} (asc : Asc S) (two : (c : ℕ) → In c S → a c ≡ b c → ⊥)
     {h₀ : List ℕ} (W : OrientedForest a b (forest a b S) h₀) (few : length (forest a b S) ≤ m)
     {lab : ℕ → ℕ} (L : Labels a b S m lab) {words : List ℕ} (X : Words a b S m lab words) {low : List ℕ} (lowest : Lows m S words low)
-    (inside : (x : ℕ) → In x S → (0 < x) × (x < pair)) {N : Noting} (G : Going a b m S lab words low [] N) where
+    (inside : (x : ℕ) → In x S → (0 < x) × (x < pair-base)) {N : Noting} (G : Going a b m S lab words low [] N) where
   abbrev T : List ℕ
   T = seated a b S
 
@@ -180,12 +180,12 @@ module _ {a b : ℕ → ℕ} {other : ℕ → ℕ → ℕ} (turn : (c v w : ℕ)
       ]
 
   -- a note tells the smallest rank
-  note-low : (l : ℕ) → l < m → getD (N .notes) l 0 % pair ≡ lo l
+  note-low : (l : ℕ) → l < m → getD (N .notes) l 0 % pair-base ≡ lo l
   note-low l f =
-      let s : lo l < pair = elim (low-of l f) [ empty z n ↦ omega arith | rank o k h ↦ inside (lo l) (forest-in a b S (lo l) o) .1 ] in
+      let s : lo l < pair-base = elim (low-of l f) [ empty z n ↦ omega arith | rank o k h ↦ inside (lo l) (forest-in a b S (lo l) o) .1 ] in
       elim (G .seen l f) [ none-yet e h ↦ omega arith | one-seen d e k w h n ↦ rw e (split-pair (lo l) d s .0) ]
 
-  pub note-smallest : (l : ℕ) → l < m → Smallest a b S lab l (getD (N .notes) l 0 % pair)
+  pub note-smallest : (l : ℕ) → l < m → Smallest a b S lab l (getD (N .notes) l 0 % pair-base)
   note-smallest l f = rw (note-low l f) (low-of l f)
 
   -- the smallest rank of a label: a tree, or a cycle
@@ -197,20 +197,20 @@ module _ {a b : ℕ → ℕ} {other : ℕ → ℕ → ℕ} (turn : (c v w : ℕ)
       let fl = label-fit L fits c in
       let x = getD (N .notes) l 0 in
       let fc = inside c ic .1 in
-      rw (w, lt-ltb l m fl, eq-eqb (x % pair) c (note-low l fl ∙ top)) (elim (G .seen l fl) [
+      rw (w, lt-ltb l m fl, eq-eqb (x % pair-base) c (note-low l fl ∙ top)) (elim (G .seen l fl) [
         | none-yet e h ↦
             let all : (z : ℕ) → In z S → lab (a z) ≡ l → In z F × (c ≤ z) = λ z i q. (
               elim (in? z F) [ inl o ↦ o | inr o ↦ elim (h z i (rw q at (X .off z i o))) [ ] ],
               elim (low-of l fl) [ empty y n ↦ absurd (n z i q) | rank o k g ↦ omega (arith, g z i q) ],
             ) in
-            rw (lt-ltb x pair (omega arith)) (after st ic up top refl
+            rw (lt-ltb x pair-base (omega arith)) (after st ic up top refl
             (finishes-tree turn m fits (spanned a b S asc nonzero) (suc m) (omega arith)
             (tree-component a b S asc f (λ z i j. all z i (same-label L fits (jsym j)))) (tree-here st ic up top refl) (st .size)))
         | one-seen d e i q h n ↦
             let o : In d F → ⊥ = λ o. omega (arith, X .on d i o, label-fit L fits d) in
             let ed : lab (a d) ≡ l = omega (arith, X .off d i o) in
-            let y : x / pair ≡ d = rw e (split-pair (lo l) d (omega arith) .1) in
-            rw (le-ltb x pair (omega (arith, inside d i .0)), y) (after st ic up top ed
+            let y : x / pair-base ≡ d = rw e (split-pair (lo l) d (omega arith) .1) in
+            rw (le-ltb x pair-base (omega (arith, inside d i .0)), y) (after st ic up top ed
             (finishes-cycle turn m fits (spanned a b S asc nonzero) (suc m) (omega arith)
             (cycle-component a b S asc i o (λ z k p j. h z k (rw (same-label L fits j ∙ ed) at (X .off z k p)))) (tree-here st ic up top ed) (st .size) (nonzero d i) (two d i)))
       ])
@@ -230,7 +230,7 @@ module _ {a b : ℕ → ℕ} {other : ℕ → ℕ → ℕ} (turn : (c v w : ℕ)
             let fl = label-fit L fits c in
             elim (eq? (lo l) c) [
               | inl q ↦ finish-top st ic up (elim (low-of l fl) [ empty z n ↦ absurd (nonzero c ic (sym q ∙ z)) | rank o k h ↦ rw q at o ]) q w
-              | inr n ↦ rw (w, lt-ltb l m fl, ne-eqb (getD (N .notes) l 0 % pair) c (λ q. n (sym (note-low l fl) ∙ q)))
+              | inr n ↦ rw (w, lt-ltb l m fl, ne-eqb (getD (N .notes) l 0 % pair-base) c (λ q. n (sym (note-low l fl) ∙ q)))
                   (pass (λ k g q. n (ap (λ (l : ℕ). lo l) (label-low g ic q) ∙ q)) st)
             ]
       ]

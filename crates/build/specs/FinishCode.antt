@@ -14,7 +14,7 @@ use Rattle.forest.specs.Edges.{end-0, end-1, other-end}
 use Rattle.forest.specs.Finish.{finish-tree, finish-cycle, exchange, length-finish-tree, length-finish-cycle}
 use Rattle.forest.specs.Graph.{Graph, Fit, held-in, edges-in, with-held, fit-set, fit-reroot, held-long, held-with, drop-with, edges-with, graph-with, with-own}
 use Rattle.forest.specs.Graph.{finished-tree, finished-cycle}
-use Rattle.build.specs.Notes.{pair}
+use Rattle.build.specs.Notes.{pair-base}
 use Rattle.build.specs.Finish.{finish-rank, finish-ranks}
 use Rattle.build.specs.Scratch.{Parts, with-graph}
 
@@ -37,7 +37,7 @@ module _ (r : ℕ) where
   pub record Finishable (n : ℕ) (P : Parts) : Type 0 where
     pub graph : Graph r (P .graph)
     pub many : n < length (edges-in r (P .graph))
-    pub closing : (l : ℕ) → l < 2 * r → getD (P .sets) l 0 / pair ≤ n
+    pub closing : (l : ℕ) → l < 2 * r → getD (P .sets) l 0 / pair-base ≤ n
 
 -- one rank, by what is found of it
 module _ (r : ℕ) (P : Parts) (rank : ℕ) where
@@ -52,18 +52,18 @@ module _ (r : ℕ) (P : Parts) (rank : ℕ) where
     unfolding finish-rank
     rank-aside l = rw (le-ltb label (2 * r) l) (sym unmoved)
 
-    pub rank-other : label < 2 * r → (getD (P .sets) label 0 % pair ≡ rank → ⊥) → P ≡ rank-finished r rank P
+    pub rank-other : label < 2 * r → (getD (P .sets) label 0 % pair-base ≡ rank → ⊥) → P ≡ rank-finished r rank P
     unfolding finish-rank
-    rank-other l n = rw (lt-ltb label (2 * r) l, ne-eqb (getD (P .sets) label 0 % pair) rank n) (sym unmoved)
+    rank-other l n = rw (lt-ltb label (2 * r) l, ne-eqb (getD (P .sets) label 0 % pair-base) rank n) (sym unmoved)
 
-  module _ {Q : Parts} (l : label < 2 * r) (e : getD (P .sets) label 0 % pair ≡ rank) where
-    pub rank-tree : getD (P .sets) label 0 < pair → Q ≡ with-graph P (finished-tree r (P .graph) rank) → Q ≡ rank-finished r rank P
+  module _ {Q : Parts} (l : label < 2 * r) (e : getD (P .sets) label 0 % pair-base ≡ rank) where
+    pub rank-tree : getD (P .sets) label 0 < pair-base → Q ≡ with-graph P (finished-tree r (P .graph) rank) → Q ≡ rank-finished r rank P
     unfolding finish-rank
-    rank-tree s q = rw (lt-ltb label (2 * r) l, eq-eqb (getD (P .sets) label 0 % pair) rank e, lt-ltb (getD (P .sets) label 0) pair s) q
+    rank-tree s q = rw (lt-ltb label (2 * r) l, eq-eqb (getD (P .sets) label 0 % pair-base) rank e, lt-ltb (getD (P .sets) label 0) pair-base s) q
 
-    pub rank-cycle : pair ≤ getD (P .sets) label 0 → Q ≡ with-graph P (finished-cycle r (P .graph) (getD (P .sets) label 0 / pair)) → Q ≡ rank-finished r rank P
+    pub rank-cycle : pair-base ≤ getD (P .sets) label 0 → Q ≡ with-graph P (finished-cycle r (P .graph) (getD (P .sets) label 0 / pair-base)) → Q ≡ rank-finished r rank P
     unfolding finish-rank
-    rank-cycle s q = rw (lt-ltb label (2 * r) l, eq-eqb (getD (P .sets) label 0 % pair) rank e, le-ltb (getD (P .sets) label 0) pair s) q
+    rank-cycle s q = rw (lt-ltb label (2 * r) l, eq-eqb (getD (P .sets) label 0 % pair-base) rank e, le-ltb (getD (P .sets) label 0) pair-base s) q
 
 -- the held words keep their number, and stay ranks that have an edge
 module _ (a b : ℕ → ℕ) (other : ℕ → ℕ → ℕ) (m n : ℕ) where
@@ -78,7 +78,7 @@ module _ (a b : ℕ → ℕ) (other : ℕ → ℕ → ℕ) (m n : ℕ) where
       let f = fit-reroot other k h 0 (a y) F o in
       fit-reroot other k _ _ _ (fit-reroot other k _ y (b y) (fit-set _ 0 f o) l) (f .at _)
 
-  module _ (next notes : List ℕ) (closing : (l : ℕ) → l < m → getD notes l 0 / pair < n) where
+  module _ (next notes : List ℕ) (closing : (l : ℕ) → l < m → getD notes l 0 / pair-base < n) where
     keeps : (c : ℕ) {h : List ℕ} → c < n → Fit n h
         → (length (finish-rank a b other m next notes c h) ≡ length h) × Fit n (finish-rank a b other m next notes c h)
     unfolding finish-rank
@@ -86,11 +86,11 @@ module _ (a b : ℕ → ℕ) (other : ℕ → ℕ → ℕ) (m n : ℕ) where
         let x = getD notes (getD next c 0) 0 in
         elim (le? m (getD next c 0)) [
           | inl k ↦ rw (le-ltb (getD next c 0) m k) (refl, F)
-          | inr k ↦ rw (lt-ltb (getD next c 0) m k) (elim (test (eqb (x % pair) c)) [
+          | inr k ↦ rw (lt-ltb (getD next c 0) m k) (elim (test (eqb (x % pair-base) c)) [
             | inr t ↦ rw t (refl, F)
-            | inl t ↦ rw t (elim (test (ltb x pair)) [
+            | inl t ↦ rw t (elim (test (ltb x pair-base)) [
               | inl s ↦ rw s (length-finish-tree a b other (suc m) h c, fit-tree (suc m) c F l)
-              | inr s ↦ rw s (length-finish-cycle a b other (suc m) h (x / pair), fit-cycle (suc m) (x / pair) F (closing (getD next c 0) k))
+              | inr s ↦ rw s (length-finish-cycle a b other (suc m) h (x / pair-base), fit-cycle (suc m) (x / pair-base) F (closing (getD next c 0) k))
             ])
           ])
         ]

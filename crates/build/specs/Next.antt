@@ -17,7 +17,7 @@ use Rattle.cuckoo.specs.Settling.{seated-asc, seated-sub, seated-forest}
 use Rattle.cuckoo.specs.Seating.{occupant-from}
 use Rattle.cuckoo.specs.Next.{larger, around, next-is}
 use Rattle.build.specs.Labels.{Labels, label-fit, same-label, label-joined}
-use Rattle.build.specs.Notes.{pair, lows, lows-least, found, none-of, Placed, Smallest, empty, rank}
+use Rattle.build.specs.Notes.{pair-base, lows, lows-least, found, none-of, Placed, Smallest, empty, rank}
 use Rattle.build.specs.Finish.{Occupied, down, raise}
 
 -- the notes, and the words of the ranks, each a label or already a next rank
@@ -30,7 +30,7 @@ chained m [] P = P
 chained m (c ∷ R) P =
     let Q = chained m R P in
     let l = getD (Q .next) c 0 in
-    cond (ltb l m) (record { notes = set (Q .notes) l c; next = set (Q .next) c (getD (Q .notes) l 0 % pair) }) Q
+    cond (ltb l m) (record { notes = set (Q .notes) l c; next = set (Q .next) c (getD (Q .notes) l 0 % pair-base) }) Q
 
 -- at the end no rank, 0, gets 0, so that an empty slot needs no test
 unfoldable pub nexts : ℕ → List ℕ → Chaining → List ℕ
@@ -42,7 +42,7 @@ module _ (m : ℕ) where
   chained-skip c R P f = rw (le-ltb (getD (chained m R P .next) c 0) m f)
 
   chained-put : (c : ℕ) (R : List ℕ) (P : Chaining) (l : ℕ) → getD (chained m R P .next) c 0 ≡ l → l < m
-      → chained m (c ∷ R) P ≡ record { notes = set (chained m R P .notes) l c; next = set (chained m R P .next) c (getD (chained m R P .notes) l 0 % pair) }
+      → chained m (c ∷ R) P ≡ record { notes = set (chained m R P .notes) l c; next = set (chained m R P .next) c (getD (chained m R P .notes) l 0 % pair-base) }
   unfolding chained
   chained-put c R P l e f = rw (e, lt-ltb l m f)
 
@@ -53,7 +53,7 @@ module _ (m : ℕ) where
       let Q = chained m R P in
       elim (le? m (getD (Q .next) c 0)) [
         | inl l ↦ rw (le-ltb (getD (Q .next) c 0) m l) (chained-length R P)
-        | inr l ↦ rw (lt-ltb (getD (Q .next) c 0) m l) (length-set (Q .next) c (getD (Q .notes) (getD (Q .next) c 0) 0 % pair) ∙ chained-length R P)
+        | inr l ↦ rw (lt-ltb (getD (Q .next) c 0) m l) (length-set (Q .next) c (getD (Q .notes) (getD (Q .next) c 0) 0 % pair-base) ∙ chained-length R P)
       ]
 
   -- the word of a rank stays until its turn
@@ -65,7 +65,7 @@ module _ (m : ℕ) where
       let ih = chained-still R P x (λ i. n (there i)) in
       elim (le? m (getD (Q .next) c 0)) [
         | inl l ↦ rw (le-ltb (getD (Q .next) c 0) m l) ih
-        | inr l ↦ rw (lt-ltb (getD (Q .next) c 0) m l) (getD-set-other (Q .next) c x (getD (Q .notes) (getD (Q .next) c 0) 0 % pair) 0 (λ q. n (here q)) ∙ ih)
+        | inr l ↦ rw (lt-ltb (getD (Q .next) c 0) m l) (getD-set-other (Q .next) c x (getD (Q .notes) (getD (Q .next) c 0) 0 % pair-base) 0 (λ q. n (here q)) ∙ ih)
       ]
 
   -- so the notes are those of step 3, for the words as they are now
@@ -81,14 +81,14 @@ module _ (m : ℕ) where
       ]
 
 module _ {a b : ℕ → ℕ} (m : ℕ) (fits : (c : ℕ) → (a c < m) × (b c < m)) {S : List ℕ} (asc : Asc S) {lab : ℕ → ℕ} (L : Labels a b S m lab)
-    (P : Chaining) (sz : length (P .notes) ≡ m) (inside : (x : ℕ) → In x S → (0 < x) × (x < pair) × (x < length (P .next)))
-    (placed : (x : ℕ) → In x S → Placed a b S m lab (P .next) x) (low : (l : ℕ) → l < m → Smallest a b S lab l (getD (P .notes) l 0 % pair)) where
+    (P : Chaining) (sz : length (P .notes) ≡ m) (inside : (x : ℕ) → In x S → (0 < x) × (x < pair-base) × (x < length (P .next)))
+    (placed : (x : ℕ) → In x S → Placed a b S m lab (P .next) x) (low : (l : ℕ) → l < m → Smallest a b S lab l (getD (P .notes) l 0 % pair-base)) where
   abbrev T : List ℕ
   T = seated a b S
 
   -- what is read at the seated rank c, when the larger ranks R have been seen
   last-next : (R : List ℕ) {c : ℕ} → In c T → Asc R → Sub R S → ((x : ℕ) → In x R → c < x) → ((x : ℕ) → In x S → c < x → In x R)
-      → getD (lows m (P .next) R (P .notes)) (lab (a c)) 0 % pair ≡ next a b T c
+      → getD (lows m (P .next) R (P .notes)) (lab (a c)) 0 % pair-base ≡ next a b T c
   last-next R {c} ic ordered sub up cover =
       let l = lab (a c) in
       let f = label-fit L fits c in
@@ -97,7 +97,7 @@ module _ {a b : ℕ → ℕ} (m : ℕ) (fits : (c : ℕ) → (a c < m) × (b c <
       sym (next-is a b (seated-asc a b S asc) ic (elim (lows-least m (P .next) (P .notes) sz R ordered l f) [
         | found i e h ↦
             let d = getD (lows m (P .next) R (P .notes)) l 0 in
-            let same : d % pair ≡ d = omega (arith, inside d (sub d i) .1) in
+            let same : d % pair-base ≡ d = omega (arith, inside d (sub d i) .1) in
             rw same (elim (in? d T) [
               | inl t ↦ larger t (down a b S asc (label-joined L fits c d (sym e ∙ word d t))) (up d i)
                   (λ x ix j g. h x (cover x (s x ix) g) (word x ix ∙ sym (same-label L fits (raise a b S asc j))))
@@ -106,8 +106,8 @@ module _ {a b : ℕ → ℕ} (m : ℕ) (fits : (c : ℕ) → (a c < m) × (b c <
         | none-of e n ↦ rw e (elim (low l f) [
           | empty z no′ ↦ absurd (no′ c (s c ic) refl)
           | rank o k h ↦
-              let t = seated-forest a b S asc (getD (P .notes) l 0 % pair) o in
-              around t (down a b S asc (label-joined L fits c (getD (P .notes) l 0 % pair) (sym k)))
+              let t = seated-forest a b S asc (getD (P .notes) l 0 % pair-base) o in
+              around t (down a b S asc (label-joined L fits c (getD (P .notes) l 0 % pair-base) (sym k)))
               (λ x ix j g. n x (cover x (s x ix) g) (word x ix ∙ sym (same-label L fits (raise a b S asc j))))
               (λ x ix j. h x (s x ix) (sym (same-label L fits (raise a b S asc j))))
         ])
@@ -126,10 +126,10 @@ module _ {a b : ℕ → ℕ} (m : ℕ) (fits : (c : ℕ) → (a c < m) × (b c <
       elim (in? c T) [
         | inl tc ↦
             let w = e ∙ placed c ic .on tc in
-            let z = getD (Q .notes) (lab (a c)) 0 % pair in
+            let z = getD (Q .notes) (lab (a c)) 0 % pair-base in
             rw (chained-put m c R P (lab (a c)) w (label-fit L fits c)) (elim (eq? x c) [
               | inl q ↦ rw q (getD-set-same (Q .next) c z 0 (omega (arith, chained-length m R P, inside c ic .2))
-                  ∙ ap (λ (M : List ℕ). getD M (lab (a c)) 0 % pair) (chained-notes m R P ordered) ∙ last-next R tc ordered sub′ up cover′)
+                  ∙ ap (λ (M : List ℕ). getD M (lab (a c)) 0 % pair-base) (chained-notes m R P ordered) ∙ last-next R tc ordered sub′ up cover′)
               | inr n ↦ getD-set-other (Q .next) c x z 0 n ∙ ih (elim i [ here q ↦ absurd (n q) | there k ↦ k ])
             ])
         | inr n ↦

@@ -7,7 +7,7 @@ use native.Mathlib.Omega.{arith}
 use lib.ListN.{getD, set}
 use borrow.Author.Tests.{lt-ltb, le-ltb}
 use Rattle.cuckoo.specs.Renaming.{from, ranks, ranks-more}
-use Rattle.build.specs.Notes.{pair}
+use Rattle.build.specs.Notes.{pair-base}
 use Rattle.build.specs.Next.{Chaining, chained, nexts}
 use Rattle.build.specs.Scratch.{Parts, with-sets, with-next}
 
@@ -38,7 +38,7 @@ module _ (m : ℕ) where
 
   chained-put-last : (k : ℕ) (C : Chaining) → getD (C .next) (suc k) 0 < m → chained m (ranks (suc k)) C
       ≡ chained m (ranks k)
-      (record { notes = set (C .notes) (getD (C .next) (suc k) 0) (suc k); next = set (C .next) (suc k) (getD (C .notes) (getD (C .next) (suc k) 0) 0 % pair) })
+      (record { notes = set (C .notes) (getD (C .next) (suc k) 0) (suc k); next = set (C .next) (suc k) (getD (C .notes) (getD (C .next) (suc k) 0) 0 % pair-base) })
   unfolding chained
   chained-put-last k C l = rw (ranks-more k, chained-append (ranks k) (suc k ∷ []) C, chained, lt-ltb (getD (C .next) (suc k) 0) m l)
 
@@ -74,12 +74,12 @@ module _ {r n : ℕ} {P₀ : Parts} where
       chain-skip l = record { rest = L .rest; to-come = by-last ∙ chained-skip-last (2 * r) (rank - 1) (chaining-in P) (rw (← last) l) }
 
       module _ (label note : ℕ) (is-label : label ≡ getD (P .next) rank 0) (low : label < 2 * r) (is-note : note ≡ getD (P .sets) label 0) where
-        pub chain-put : {M Q : Parts} → M ≡ with-next P (set (P .next) rank (note % pair)) → Q ≡ with-sets M (set (M .sets) label rank)
+        pub chain-put : {M Q : Parts} → M ≡ with-next P (set (P .next) rank (note % pair-base)) → Q ≡ with-sets M (set (M .sets) label rank)
             → Linked r n P₀ (rank - 1) Q
         chain-put {M} {Q} e f =
-            let all : Q ≡ with-sets (with-next P (set (P .next) rank (note % pair))) (set (P .sets) label rank) = f ∙ (rw e) in
+            let all : Q ≡ with-sets (with-next P (set (P .next) rank (note % pair-base))) (set (P .sets) label rank) = f ∙ (rw e) in
             record {
-              rest = rest-kept P₀ (record { notes = set (P .sets) label rank; next = set (P .next) rank (note % pair) }) (L .rest) all;
+              rest = rest-kept P₀ (record { notes = set (P .sets) label rank; next = set (P .next) rank (note % pair-base) }) (L .rest) all;
               to-come =
                   by-last ∙ chained-put-last (2 * r) (rank - 1) (chaining-in P) (rw (← last, ← is-label) low)
                   ∙ rw (all, ← last, ← is-label, ← is-note) refl;

@@ -99,9 +99,9 @@ smaller-near {a} {b} S {c} two i = elim (in? c (forest a b S)) [
       (r .0, f, mono (λ d k. forest-in a b S d (below-in (suc c) F k)) (ends-near (r .1 .ends) (r .1 .c-in)), omega arith)
 ]
 
--- A word of the notes has two ranks: the smallest of the forest, and `pair` times the first of the others.
-abbrev pub pair : ℕ
-pair = 4096
+-- A word of the notes has two ranks: the smallest of the forest, and `pair-base` times the first of the others.
+abbrev pub pair-base : ℕ
+pair-base = 4096
 
 -- the notes, a word for each label; the words of the ranks; the stash words, of which the first `count` are written; and whether one more was wanted
 pub record Noting : Type 0 where
@@ -113,7 +113,7 @@ pub record Noting : Type 0 where
 
 -- the rank c is noted at label l, and its word is the label
 abbrev pub note-at : ℕ → ℕ → Noting → Noting
-note-at l c N = record { notes = set (N .notes) l (getD (N .notes) l 0 + pair * c); next = set (N .next) c l; stash = N .stash; count = N .count; overflow = N .overflow }
+note-at l c N = record { notes = set (N .notes) l (getD (N .notes) l 0 + pair-base * c); next = set (N .next) c l; stash = N .stash; count = N .count; overflow = N .overflow }
 
 -- the rank c goes to the stash, and its word is m
 abbrev pub stash-rank : ℕ → ℕ → Noting → Noting
@@ -132,7 +132,7 @@ noted m [] N = N
 noted m (c ∷ R) N =
     let w = getD (N .next) c 0 in
     cond (ltb w m) (noted m R N)
-    (cond (ltb (getD (N .notes) (w - m) 0) pair) (noted m R (note-at (w - m) c N))
+    (cond (ltb (getD (N .notes) (w - m) 0) pair-base) (noted m R (note-at (w - m) c N))
     (cond (ltb (N .count) (length (N .stash))) (noted m R (stash-rank m c N)) (overflowed N)))
 
 module _ (m c : ℕ) (R : List ℕ) (N : Noting) where
@@ -144,22 +144,22 @@ module _ (m c : ℕ) (R : List ℕ) (N : Noting) where
     label-is : getD (N .next) c 0 - m ≡ l
     label-is = omega arith
 
-    pub noted-first : getD (N .notes) l 0 < pair → noted m (c ∷ R) N ≡ noted m R (note-at l c N)
+    pub noted-first : getD (N .notes) l 0 < pair-base → noted m (c ∷ R) N ≡ noted m R (note-at l c N)
     unfolding noted
-    noted-first f = rw (le-ltb (getD (N .next) c 0) m (omega arith), label-is, lt-ltb (getD (N .notes) l 0) pair f)
+    noted-first f = rw (le-ltb (getD (N .next) c 0) m (omega arith), label-is, lt-ltb (getD (N .notes) l 0) pair-base f)
 
-    pub noted-later : pair ≤ getD (N .notes) l 0 → N .count < length (N .stash) → noted m (c ∷ R) N ≡ noted m R (stash-rank m c N)
+    pub noted-later : pair-base ≤ getD (N .notes) l 0 → N .count < length (N .stash) → noted m (c ∷ R) N ≡ noted m R (stash-rank m c N)
     unfolding noted
-    noted-later f r = rw (le-ltb (getD (N .next) c 0) m (omega arith), label-is, le-ltb (getD (N .notes) l 0) pair f, lt-ltb (N .count) (length (N .stash)) r)
+    noted-later f r = rw (le-ltb (getD (N .next) c 0) m (omega arith), label-is, le-ltb (getD (N .notes) l 0) pair-base f, lt-ltb (N .count) (length (N .stash)) r)
 
-    pub noted-full : pair ≤ getD (N .notes) l 0 → length (N .stash) ≤ N .count → noted m (c ∷ R) N ≡ overflowed N
+    pub noted-full : pair-base ≤ getD (N .notes) l 0 → length (N .stash) ≤ N .count → noted m (c ∷ R) N ≡ overflowed N
     unfolding noted
-    noted-full f r = rw (le-ltb (getD (N .next) c 0) m (omega arith), label-is, le-ltb (getD (N .notes) l 0) pair f, le-ltb (N .count) (length (N .stash)) r)
+    noted-full f r = rw (le-ltb (getD (N .next) c 0) m (omega arith), label-is, le-ltb (getD (N .notes) l 0) pair-base f, le-ltb (N .count) (length (N .stash)) r)
 
 -- What stands at label l when the ranks R are still to come.
 pub data Seen (m : ℕ) (S next low R : List ℕ) (l x : ℕ) : Type 0 where
   none-yet : x ≡ getD low l 0 → ((y : ℕ) → In y S → getD next y 0 ≡ m + l → In y R) → Seen m S next low R l x
-  one-seen : (d : ℕ) → x ≡ getD low l 0 + pair * d → In d S → getD next d 0 ≡ m + l → ((y : ℕ) → In y S → getD next y 0 ≡ m + l → d ≤ y) → (In d R → ⊥)
+  one-seen : (d : ℕ) → x ≡ getD low l 0 + pair-base * d → In d S → getD next d 0 ≡ m + l → ((y : ℕ) → In y S → getD next y 0 ≡ m + l → d ≤ y) → (In d R → ⊥)
       → Seen m S next low R l x
 
 -- the word of a rank after this step
@@ -188,7 +188,7 @@ module _ (a b : ℕ → ℕ) (m : ℕ) (S : List ℕ) (lab : ℕ → ℕ) (next 
         → out .stash ≡ stash a b S ++ drop (length (stash a b S)) words → Going [] out → Stashed words out
 
 module _ {a b : ℕ → ℕ} (m : ℕ) (fits : (c : ℕ) → (a c < m) × (b c < m)) {S : List ℕ} (asc : Asc S) {lab : ℕ → ℕ} (L : Labels a b S m lab)
-    {next : List ℕ} (W : Words a b S m lab next) (inside : (x : ℕ) → In x S → (0 < x) × (x < pair) × (x < length next))
+    {next : List ℕ} (W : Words a b S m lab next) (inside : (x : ℕ) → In x S → (0 < x) × (x < pair-base) × (x < length next))
     {low : List ℕ} (lowest : Lows m S next low) where
   abbrev F : List ℕ
   F = forest a b S
@@ -199,7 +199,7 @@ module _ {a b : ℕ → ℕ} (m : ℕ) (fits : (c : ℕ) → (a c < m) × (b c <
   abbrev Run : List ℕ → Noting → Type 0
   Run R N = Going a b m S lab next low R N
 
-  low-lt : (l : ℕ) → l < m → getD low l 0 < pair
+  low-lt : (l : ℕ) → l < m → getD low l 0 < pair-base
   low-lt l f = elim (lowest .at l f) [ found i e q ↦ inside (getD low l 0) i .1 | none-of e q ↦ omega arith ]
 
   -- a rank of the forest is passed over
@@ -220,7 +220,7 @@ module _ {a b : ℕ → ℕ} (m : ℕ) (fits : (c : ℕ) → (a c < m) × (b c <
 
   module _ {R : List ℕ} {c : ℕ} {N : Noting} (ic : In c S) (off : In c F → ⊥) (up : (x : ℕ) → In x R → c < x) (Q : Run (c ∷ R) N) where
     -- the first of a label stays,
-    first-stays : getD (N .notes) (lab (a c)) 0 < pair
+    first-stays : getD (N .notes) (lab (a c)) 0 < pair-base
         → In c T × (getD (N .notes) (lab (a c)) 0 ≡ getD low (lab (a c)) 0) × ((y : ℕ) → In y S → getD next y 0 ≡ m + lab (a c) → c ≤ y)
     first-stays f = elim (Q .seen (lab (a c)) (label-fit L fits c)) [
       | none-yet e h ↦
@@ -230,7 +230,7 @@ module _ {a b : ℕ → ℕ} (m : ℕ) (fits : (c : ℕ) → (a c < m) × (b c <
     ]
 
     -- and a later one does not
-    later-goes : pair ≤ getD (N .notes) (lab (a c)) 0 → In c T → ⊥
+    later-goes : pair-base ≤ getD (N .notes) (lab (a c)) 0 → In c T → ⊥
     later-goes f t = elim (Q .seen (lab (a c)) (label-fit L fits c)) [
       | none-yet e h ↦ omega (arith, low-lt (lab (a c)) (label-fit L fits c))
       | one-seen d e i q h n ↦ elim (seated-is a b S asc c t) [
@@ -242,11 +242,11 @@ module _ {a b : ℕ → ℕ} (m : ℕ) (fits : (c : ℕ) → (a c < m) × (b c <
       ]
     ]
 
-    going-first : getD (N .notes) (lab (a c)) 0 < pair → Run R (note-at (lab (a c)) c N)
+    going-first : getD (N .notes) (lab (a c)) 0 < pair-base → Run R (note-at (lab (a c)) c N)
     going-first f =
         let r = first-stays f in
         let l = lab (a c) in
-        let z = getD (N .notes) l 0 + pair * c in
+        let z = getD (N .notes) l 0 + pair-base * c in
         record {
           notes-size = length-set (N .notes) l z ∙ Q .notes-size;
           next-size = length-set (N .next) c l ∙ Q .next-size;
@@ -272,7 +272,7 @@ module _ {a b : ℕ → ℕ} (m : ℕ) (fits : (c : ℕ) → (a c < m) × (b c <
           ];
         }
 
-    going-later : pair ≤ getD (N .notes) (lab (a c)) 0 → Run R (stash-rank m c N)
+    going-later : pair-base ≤ getD (N .notes) (lab (a c)) 0 → Run R (stash-rank m c N)
     going-later f =
         let goes = later-goes f in
         record {
@@ -328,7 +328,7 @@ module _ {a b : ℕ → ℕ} (m : ℕ) (fits : (c : ℕ) → (a c < m) × (b c <
         | inr n ↦
             let l = lab (a c) in
             let e : getD (N .next) c 0 ≡ m + l = Q .ahead c (here refl) ∙ W .off c ic n in
-            elim (le? pair (getD (N .notes) l 0)) [
+            elim (le? pair-base (getD (N .notes) l 0)) [
               | inr g ↦
                   rw (noted-first m c R N l e g, in-member (first-stays ic n up Q g .0))
                   (along l c (noted-from R (note-at l c N) ordered sub′ room (going-first ic n up Q g)))
@@ -380,5 +380,5 @@ smallest-of {a} {b} m fits {S} two {lab} L {next} W {low} lowest l f =
     ]
 
 -- a word of the notes taken apart
-pub split-pair : (z d : ℕ) → z < pair → ((z + pair * d) % pair ≡ z) × ((z + pair * d) / pair ≡ d)
+pub split-pair : (z d : ℕ) → z < pair-base → ((z + pair-base * d) % pair-base ≡ z) × ((z + pair-base * d) / pair-base ≡ d)
 split-pair z d l = (omega arith, omega arith)

@@ -12,7 +12,7 @@ use lib.Seq.{getD-set-same, getD-set-other, set-out}
 use borrow.Author.Tests.{lt-ltb, le-ltb}
 use Rattle.basics.specs.Tests.{test, eq?, le?, zero-one}
 use Rattle.cuckoo.specs.Renaming.{from, ranks, ranks-more}
-use Rattle.build.specs.Notes.{lows, pair, Noting, note-at, stash-rank, overflowed, noted, noted-on, noted-first, noted-later, noted-full}
+use Rattle.build.specs.Notes.{lows, pair-base, Noting, note-at, stash-rank, overflowed, noted, noted-on, noted-first, noted-later, noted-full}
 use Rattle.build.specs.Access.{Enough}
 use Rattle.build.specs.Scratch.{Parts, parts, with-stash, with-sets, with-next}
 use Rattle.build.specs.Build.{number, values}
@@ -84,7 +84,7 @@ module _ (m : ℕ) where
   pub noted-turn : (c : ℕ) (R : List ℕ) (N : Noting) → noted m (c ∷ []) N .overflow ≡ false
       → noted m (c ∷ R) N ≡ noted m R (noted m (c ∷ []) N)
   unfolding noted
-  noted-turn c R N e = go (ltb (getD (N .next) c 0) m) (ltb (getD (N .notes) (getD (N .next) c 0 - m) 0) pair) (ltb (N .count) (length (N .stash))) e
+  noted-turn c R N e = go (ltb (getD (N .next) c 0) m) (ltb (getD (N .notes) (getD (N .next) c 0 - m) 0) pair-base) (ltb (N .count) (length (N .stash))) e
     where
       go : (p q t : Bool)
           → cond p N (cond q (note-at (getD (N .next) c 0 - m) c N) (cond t (stash-rank m c N) (overflowed N))) .overflow ≡ false
@@ -98,7 +98,7 @@ module _ (m : ℕ) where
   pub noted-over : (c : ℕ) (R : List ℕ) (N : Noting) → noted m (c ∷ []) N .overflow ≡ true → N .overflow ≡ false
       → noted m (c ∷ R) N ≡ noted m (c ∷ []) N
   unfolding noted
-  noted-over c R N e o = go (ltb (getD (N .next) c 0) m) (ltb (getD (N .notes) (getD (N .next) c 0 - m) 0) pair) (ltb (N .count) (length (N .stash))) e
+  noted-over c R N e o = go (ltb (getD (N .next) c 0) m) (ltb (getD (N .notes) (getD (N .next) c 0 - m) 0) pair-base) (ltb (N .count) (length (N .stash))) e
     where
       go : (p q t : Bool)
           → cond p N (cond q (note-at (getD (N .next) c 0 - m) c N) (cond t (stash-rank m c N) (overflowed N))) .overflow ≡ true
@@ -156,15 +156,15 @@ module _ (r rank count : ℕ) (P : Parts) where
   rank-on l = noted-on (2 * r) rank [] (noting-in P count) l
 
   module _ (label : ℕ) (e : word ≡ 2 * r + label) where
-    pub rank-first : getD (P .sets) label 0 < pair → rank-noted r rank count P ≡ note-at label rank (noting-in P count)
+    pub rank-first : getD (P .sets) label 0 < pair-base → rank-noted r rank count P ≡ note-at label rank (noting-in P count)
     unfolding noted
     rank-first l = noted-first (2 * r) rank [] (noting-in P count) label e l
 
-    pub rank-later : pair ≤ getD (P .sets) label 0 → count < length (P .stash) → rank-noted r rank count P ≡ stash-rank (2 * r) rank (noting-in P count)
+    pub rank-later : pair-base ≤ getD (P .sets) label 0 → count < length (P .stash) → rank-noted r rank count P ≡ stash-rank (2 * r) rank (noting-in P count)
     unfolding noted
     rank-later l k = noted-later (2 * r) rank [] (noting-in P count) label e l k
 
-    pub rank-full : pair ≤ getD (P .sets) label 0 → length (P .stash) ≤ count → rank-noted r rank count P ≡ overflowed (noting-in P count)
+    pub rank-full : pair-base ≤ getD (P .sets) label 0 → length (P .stash) ≤ count → rank-noted r rank count P ≡ overflowed (noting-in P count)
     unfolding noted
     rank-full l k = noted-full (2 * r) rank [] (noting-in P count) label e l k
 
@@ -175,7 +175,7 @@ rank-labelled {r} {n} rank count P o k L =
     let w = getD (P .next) rank 0 in
     elim (le? (2 * r) w) [
       | inr l ↦ rw (lt-ltb w (2 * r) l) L
-      | inl l ↦ rw (le-ltb w (2 * r) l) (go (ltb (getD (P .sets) (w - 2 * r) 0) pair) (ltb count (length (P .stash))))
+      | inl l ↦ rw (le-ltb w (2 * r) l) (go (ltb (getD (P .sets) (w - 2 * r) 0) pair-base) (ltb count (length (P .stash))))
     ]
   where
     go : (q t : Bool) → Labelled r n (cond q (note-at (getD (P .next) rank 0 - 2 * r) rank (noting-in P count))

@@ -13,7 +13,7 @@ use Rattle.forest.specs.Edges.{Edges, end-0, end-1, other-end, ends-fit, ends-t
 use Rattle.forest.specs.Graph.{Graph, held-in, edges-in, held-with, edges-with, edges-length}
 use Rattle.build.specs.EachSlot.{listed}
 use Rattle.build.specs.Link.{Linking}
-use Rattle.build.specs.Notes.{Noting, pair}
+use Rattle.build.specs.Notes.{Noting, pair-base}
 use Rattle.build.specs.Built as Built
 use Rattle.build.specs.Scratch.{Parts, parts, PartsSized}
 use Rattle.build.specs.Access.{Enough, parts-fit}
@@ -55,7 +55,7 @@ module _ (r s n : ℕ) (P : Parts) where
       → k ≡ answer (ranks-noted r n 0 0 Q) → (R ≡ noted-from r s n P) × (k ≡ answer (whole-noting r s n P))
   noted-whole e f g = (f ∙ (rw e), g ∙ (rw e))
 
-module _ {r s n : ℕ} (P : Parts) (G : Edges r (edges-in r (P .graph))) (Z : PartsSized r s n P) (small : n < pair) where
+module _ {r s n : ℕ} (P : Parts) (G : Edges r (edges-in r (P .graph))) (Z : PartsSized r s n P) (small : n < pair-base) where
   abbrev E : List ℕ
   E = edges-in r (P .graph)
 
@@ -185,7 +185,7 @@ module _ {r s n : ℕ} {before : List ℕ} (B : Buildable r s n before) where
   pub enough : Enough r s n before
   enough = record { slots-bound = B .edges .most; places-bound = B .places-bound; long = B .room; few = B .few }
 
-  pub ranks-small : n < pair
+  pub ranks-small : n < pair-base
   ranks-small = omega (arith, B .few, B .edges .most, B .places-bound)
 
 module _ {r s n : ℕ} {before : List ℕ} (mid : List ℕ) (B : Buildable r s n before)

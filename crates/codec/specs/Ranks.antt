@@ -1,6 +1,6 @@
--- An image told by ranks, as the build leaves it: the keys by rank, what each slot holds, the edges (with the tier of each rank above its slots), the next of each
+-- An image told by ranks, as the build leaves it: the keys by rank, what each slot holds, the edges (with the tier of each rank), the next of each
 -- rank, and the stash. The columns of the image are these with the key, or the tier, put in for each rank. Assumes nothing.
-use Prim.Native.Nat.{ℕ, _+_, _-_, _*_, _/_, _≤_, _<_}
+use Prim.Native.Nat.{ℕ, _+_, _-_, _*_, _≤_, _<_}
 use mathlib.Core.Path.{_≡_}
 use mathlib.Core.Bool.{Bool}
 use mathlib.Core.List.{List, map, _++_}
@@ -9,16 +9,13 @@ use lib.ListN.{length, getD, take, drop}
 use lib.Seq.{getD-take, length-take-le}
 use Rattle.layout.specs.Layout.{header-length, header-words, slot-width, place-width, slots-of, stash-at}
 use Rattle.layout.specs.declared.Header.{Header}
+use Rattle.edges.specs.Edge.{tier-of-edge}
 use Rattle.forest.specs.Graph.{held-in}
 use Rattle.codec.specs.Image.{slots-alike, places-alike, slots-put, places-put, alike, written}
 
--- the tier stands above the two slots in an edge
-abbrev pub tier-unit : ℕ
-tier-unit = 4194304
-
--- The tier of a rank. Before the first edge stands the last held word, a rank, which has nothing above: so 0, which is no key, has tier 0.
+-- The tier of a rank, from its edge. Before the first edge stands the last held word, a rank, which is small: so 0, which is no key, has tier 0.
 abbrev pub tier-by : ℕ → List ℕ → ℕ → ℕ
-tier-by r graph rank = getD graph (2 * r + rank - 1) 0 / tier-unit
+tier-by r graph rank = tier-of-edge (getD graph (2 * r + rank - 1) 0)
 
 abbrev pub key-column : List ℕ → List ℕ → List ℕ
 key-column keys ranks = map (λ k. getD keys k 0) ranks

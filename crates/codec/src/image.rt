@@ -16,15 +16,12 @@ use access::SLOT_WIDTH;
 use layout::Header;
 use words::wide;
 
-// The tier stands above the two slots in an edge.
-pub const TIER_UNIT: u32 = 4_194_304;
-
 // The tier of a rank. Before the first edge stands the last held rank, which is small: so 0 has tier 0.
 fn tier_of(r: usize, graph: &[u32], rank: usize) -> u32
     requires { ⌜ (0 < r) × (2 * r + rank ≤ length (now graph)) ⌝ }
     ensures { λ t. ⌜ t ≡ tier-by r (now (graph .entry)) rank ⌝ }
 {
-    graph[2 * r + rank - 1] / TIER_UNIT
+    edges::tier(graph[2 * r + rank - 1])
 }
 
 // Whether the slot that begins at `at` has the key, the next and the tier of a rank.

@@ -1,6 +1,6 @@
 -- The steps of insert, remove and check as definitions: what a set that was read leads to. The contracts of the inner functions cite them, and the laws at the
 -- end put them together with reading and renewing to the outcomes. Assumes nothing.
-use Prim.Native.Nat.{ℕ, _+_, _*_, _-_, _/_, _≤_, _<_}
+use Prim.Native.Nat.{ℕ, _+_, _*_, _-_, _≤_, _<_}
 use mathlib.Core.Path.{_≡_, refl, sym, _∙_, ap}
 use mathlib.Core.Bool.{Bool, true, false, not, cond, true≢false}
 use mathlib.Core.List.{List, [], _∷_, List·Memᴰ as In}
@@ -22,8 +22,7 @@ use Rattle.layout.specs.Standing.{keys-in-valid}
 use Rattle.layout.specs.Issues.{listed-alone}
 use Rattle.layout.specs.Fitting.{without-fits}
 use Rattle.codec.specs.Collect.{keys-in-few}
-use Rattle.codec.specs.Ranks.{tier-unit}
-use Rattle.build.specs.Scratch.{edges-at, used}
+use Rattle.build.specs.Scratch.{used}
 use Rattle.build.specs.Build.{Buildable}
 use Rattle.outcome.specs.declared.Change.{Change}
 use Rattle.outcome.specs.declared.Change.the-variants.{Insert, Remove}
@@ -33,7 +32,7 @@ use Rattle.outcome.specs.Held.{one-too-many, changed-keys, keys-changed-valid}
 use Rattle.gateway.specs.declared.Reading.{Reading}
 use Rattle.gateway.specs.declared.Reading.the-variants.{Keys, NotCanonical}
 use Rattle.members.specs.Edges.{edge-with, Lined, lined-buildable}
-use Rattle.members.specs.Members.{keys-at, Placed, put-in, taken-out, lined-agree, lined-keys, lined-tier, lined-put, lined-taken}
+use Rattle.members.specs.Members.{keys-at, Placed, tier-placed, put-in, taken-out, lined-agree, lined-keys, lined-tier, lined-put, lined-taken}
 use Rattle.members.specs.Collected.{Listed}
 use Rattle.gateway.specs.Reading.{early-refusal, number, values, reading-refusal, reading-values, new-answer, new-words, Renewed, canonical-small}
 use Rattle.gateway.specs.Reading.{told-tampered, told-keys}
@@ -185,7 +184,7 @@ module _ {tabulation ws scratch : List ℕ} {n key : ℕ} (Z : Settable tabulati
       pub at-lt : at < n
       at-lt = omega (arith, at-rank, rank-found key K (valid .asc) here .1, Z .count)
 
-      module _ {r s : ℕ} (e : r ≡ slots-of ws) (f : s ≡ places-of ws) {t : ℕ} (read : t ≡ getD scratch (edges-at r s + at) 0 / tier-unit) where
+      module _ {r s : ℕ} (e : r ≡ slots-of ws) (f : s ≡ places-of ws) {t : ℕ} (read : t ≡ tier-placed r s at scratch) where
         tier-is : tier-of (set-in tabulation ws) key ≡ t
         tier-is = sym (read ∙ (rw (at-rank, e, f) (lined-tier (Z .lined) room (valid .asc) key (sizes .sizes) here ∙ set-tier here)))
 

@@ -1,7 +1,6 @@
--- The two slots of each rank, read from its edge: a word with its slot in table 0 and 2,048 times its slot in table 1; what stands above does not count
--- here. Rank 0, which is no key, has an edge too, and past the list there is one as good as any: so every number has two slots, and no law needs to ask whether
--- it is a rank. Assumes nothing.
-use Prim.Native.Nat.{ℕ, zero, suc, _*_, _%_, _/_, _<_, _≤_}
+-- The two slots of each rank, read from its edge (`edges`); its tier does not count here. Rank 0, which is no key, has an edge too, and past the list there is
+-- one as good as any: so every number has two slots, and no law needs to ask whether it is a rank. Assumes nothing.
+use Prim.Native.Nat.{ℕ, zero, suc, _*_, _<_, _≤_}
 use mathlib.Core.Path.{_≡_, refl, sym}
 use mathlib.Core.Bool.{cond}
 use mathlib.Core.Logic.{inl, inr}
@@ -12,18 +11,7 @@ use lib.ListN.{length, getD, List·getD-eq-default}
 use borrow.Author.Tests.{lt-ltb, le-ltb}
 use Rattle.basics.specs.Tests.{le?}
 use Rattle.cuckoo.specs.Seating.{Ends, from-a, from-b}
-
-abbrev pub first-of : ℕ → ℕ
-first-of word = word % 2048
-
-abbrev pub second-of : ℕ → ℕ
-second-of word = word / 2048 % 2048
-
--- an edge between the tables, with r slots to a table
-pub record Edge (r word : ℕ) : Type 0 where
-  pub in-0 : first-of word < r
-  pub from-1 : r ≤ second-of word
-  pub in-1 : second-of word < 2 * r
+use Rattle.edges.specs.Edge.{first-of, second-of, Edge, no-edge, no-edge-between}
 
 pub record Edges (r : ℕ) (edges : List ℕ) : Type 0 where
   pub some : 0 < r
@@ -31,7 +19,7 @@ pub record Edges (r : ℕ) (edges : List ℕ) : Type 0 where
   pub each : (i : ℕ) → i < length edges → Edge r (getD edges i 0)
 
 unfoldable pub edge-at : ℕ → List ℕ → ℕ → ℕ
-edge-at r edges rank = getD edges rank (2048 * r)
+edge-at r edges rank = getD edges rank (no-edge r)
 
 -- the slots of a rank, and the other slot of a rank that stands in a slot
 unfoldable pub end-0 : ℕ → List ℕ → ℕ → ℕ
@@ -51,14 +39,14 @@ default-free (x ∷ xs) (suc i) d e l = default-free xs i d e (omega arith)
 -- what code reads
 pub edge-read : (r : ℕ) (edges : List ℕ) (rank : ℕ) → rank < length edges → edge-at r edges rank ≡ getD edges rank 0
 unfolding edge-at
-edge-read r edges rank l = default-free edges rank (2048 * r) 0 l
+edge-read r edges rank l = default-free edges rank (no-edge r) 0 l
 
 module _ {r : ℕ} {edges : List ℕ} (P : Edges r edges) where
   edge-good : (rank : ℕ) → Edge r (edge-at r edges rank)
   unfolding edge-at
   edge-good rank = elim (le? (length edges) rank) [
-    | inl l ↦ rw (List·getD-eq-default edges (2048 * r) l) (record { in-0 = omega (arith, P .some); from-1 = omega (arith, P .most); in-1 = omega (arith, P .some, P .most) })
-    | inr l ↦ rw (default-free edges rank (2048 * r) 0 l) (P .each rank l)
+    | inl l ↦ rw (List·getD-eq-default edges (no-edge r) l) (no-edge-between (P .most) (P .some))
+    | inr l ↦ rw (default-free edges rank (no-edge r) 0 l) (P .each rank l)
   ]
 
   pub ends-fit : (rank : ℕ) → (end-0 r edges rank < 2 * r) × (end-1 r edges rank < 2 * r)

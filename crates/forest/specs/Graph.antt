@@ -9,6 +9,7 @@ use native.Mathlib.Omega.{arith}
 use lib.ListN.{length, getD, set, take, drop, length-append, length-take, length-drop, length-set, take-append-drop}
 use lib.Seq.{getD-take, getD-drop, getD-set-same, getD-set-other, set-out, take-at, drop-at, take-set-lt, drop-set-lt, length-front}
 use Rattle.basics.specs.Tests.{eq?, le?}
+use Rattle.edges.specs.Edge.{no-edge, no-edge-first}
 use Rattle.forest.specs.Edges.{Edges, edge-at, edge-read, end-0, end-1, other-end}
 use Rattle.forest.specs.Reroot.{reroot, reroot-none, reroot-stop, reroot-step, length-reroot}
 use Rattle.forest.specs.Way.{lowest-slot}
@@ -20,7 +21,7 @@ held-in r g = take (2 * r) g
 
 -- the edges by rank; that of 0, which has no word, is between the first slots of the tables
 unfoldable pub edges-in : ℕ → List ℕ → List ℕ
-edges-in r g = 2048 * r ∷ drop (2 * r) g
+edges-in r g = no-edge r ∷ drop (2 * r) g
 
 -- the graph with other held words
 abbrev pub with-held : ℕ → List ℕ → List ℕ → List ℕ
@@ -98,7 +99,7 @@ module _ (r : ℕ) (g : List ℕ) where
   -- rank 0 has the first slot
   pub first-none : first-slot r g 0 ≡ 0
   unfolding edges-in end-0 edge-at
-  first-none = omega arith
+  first-none = no-edge-first r
 
   -- other held words, as many: the edges stay
   module _ (h : List ℕ) (size : length h ≡ 2 * r) where
@@ -110,7 +111,7 @@ module _ (r : ℕ) (g : List ℕ) where
 
     pub edges-with : edges-in r (with-held r g h) ≡ edges-in r g
     unfolding edges-in
-    edges-with = ap (λ (E : List ℕ). 2048 * r ∷ E) drop-with
+    edges-with = ap (λ (E : List ℕ). no-edge r ∷ E) drop-with
 
 -- and it is a graph if each of them is a rank or 0
 module _ {r : ℕ} {g : List ℕ} (G : Graph r g) where
@@ -144,7 +145,7 @@ module _ {r : ℕ} {before : List ℕ} (G : Graph r before) where
   module _ {after : List ℕ} (K : Kept r before after) where
     pub kept-edges : edges-in r after ≡ edges-in r before
     unfolding edges-in
-    kept-edges = ap (λ (E : List ℕ). 2048 * r ∷ E) (K .same)
+    kept-edges = ap (λ (E : List ℕ). no-edge r ∷ E) (K .same)
 
     pub kept-graph : Graph r after
     kept-graph = record { edges = rw kept-edges (G .edges); long = omega (arith, G .long, K .size); fit = rw kept-edges (K .fit) }

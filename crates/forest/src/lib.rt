@@ -10,9 +10,6 @@ ghost use Rattle.forest.specs.Graph.{Graph, edges-in, first-slot, second
 ghost use Rattle.forest.specs.Graph.{finished-tree, exchanged, finished-cycle};
 use words::wide;
 
-// An edge has the slot in table 0, and this times the slot in table 1.
-pub const SLOTS: u32 = 2_048;
-
 // The edge of a rank.
 fn edge(graph: &[u32], r: u32, rank: u32) -> u32
     requires { ⌜ Graph r (now graph) × (0 < rank) × (rank < length (edges-in r (now graph))) ⌝ }
@@ -30,7 +27,7 @@ fn first_slot(graph: &[u32], r: u32, rank: u32) -> u32
     if rank == 0 {
         return 0;
     }
-    edge(graph, r, rank) % SLOTS
+    edges::first(edge(graph, r, rank))
 }
 
 // The slot of a rank in table 1.
@@ -38,7 +35,7 @@ fn second_slot(graph: &[u32], r: u32, rank: u32) -> u32
     requires { ⌜ Graph r (now graph) × (0 < rank) × (rank < length (edges-in r (now graph))) ⌝ }
     ensures { λ v. ⌜ (v ≡ second-slot r (now (graph .entry)) rank) × (v < 2 * r) ⌝ }
 {
-    edge(graph, r, rank) / SLOTS % SLOTS
+    edges::second(edge(graph, r, rank))
 }
 
 // The other slot of a rank that stands in `slot`.

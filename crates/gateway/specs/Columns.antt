@@ -19,6 +19,7 @@ use Rattle.cuckoo.specs.Next.{next-in}
 use Rattle.cuckoo.specs.Filled.{stash-sub}
 use Rattle.cuckoo.specs.Renaming.{ranks, from-in, from-asc, ranked, Renames, ranked-renames, ranked-stash, ranked-slot-key, ranked-slot-next}
 use Rattle.tabulation.specs.Slots.{slot-0, slot-1}
+use Rattle.edges.specs.Edge.{tier-of-edge, low-tier}
 use Rattle.forest.specs.Edges.{end-0, end-1}
 use Rattle.forest.specs.Graph.{held-in, edges-in}
 use Rattle.layout.specs.Entries.{Entry, tier-of, tiered, keys-tiered, tier-tiered, tier-absent}
@@ -30,7 +31,7 @@ use Rattle.layout.specs.declared.Header.{Header}
 use Rattle.build.specs.EachSlot.{listed-at}
 use Rattle.build.specs.Scratch.{Parts, parts, used, PartsSized, parts-sized}
 use Rattle.build.specs.Build.{edges-of, stash-ranks, slot-rank, next-rank, Standing}
-use Rattle.codec.specs.Ranks.{tier-unit, tier-by, key-column, next-column, tier-column, ranks-alike, ranks-written, Ranked}
+use Rattle.codec.specs.Ranks.{tier-by, key-column, next-column, tier-column, ranks-alike, ranks-written, Ranked}
 use Rattle.codec.specs.Image.{ImageColumns}
 use Rattle.members.specs.Edges.{edge-of, Lined, edge-tier, lined-at, lined-first, lined-second}
 
@@ -173,11 +174,11 @@ module _ {P : Params} {t : ℕ → ℕ} {S scratch : List ℕ} (valid : ValidKey
     tier-is zero l =
         let e : 2 * r + 0 - 1 ≡ 2 * r - 1 = omega arith in
         let m : getD (A .graph) (2 * r - 1) 0 ≤ n = standing-readable sizes few room W .ranked .held (2 * r - 1) (omega (arith, sizes)) in
-        rw (e, none-at-zero) (omega (arith, sizes))
+        rw (e, none-at-zero) (low-tier (omega (arith, sizes)))
     tier-is (suc i) l =
         let e : 2 * r + suc i - 1 ≡ 2 * r + i = omega arith in
         rw (e, ← getD-drop (2 * r) (A .graph) i 0)
-        (ap (λ (x : ℕ). x / tier-unit) (edge-word i l) ∙ edge-tier (family P) (sizes .has-slots) (sizes .slots-bound) t (getD S i 0)
+        (ap tier-of-edge (edge-word i l) ∙ edge-tier (family P) (sizes .has-slots) (sizes .slots-bound) t (getD S i 0)
         ∙ sym (tier-tiered t S (getD-in S i l)))
 
     -- what a slot holds is the key of its rank, and so with its next; what a place holds, too

@@ -12,7 +12,6 @@ ghost use Rattle.build.specs.Scratch.{parts, with-graph, with-sets};
 ghost use Rattle.build.specs.Access.{Enough};
 ghost use Rattle.build.specs.LinkCode.{Found, Linkable, rank-linked, ranks-linked, unlinked-parts, linked-parts};
 ghost use Rattle.build.specs.LinkCode.{Marks, labelled-parts};
-use forest::SLOTS;
 use parts::edges_start;
 use parts::held_start;
 use parts::next_start;
@@ -78,8 +77,8 @@ fn ends_of(scratch: &[u32], r: u32, s: u32, n: usize, rank: u32) -> Ends
         (parts r s n (now (scratch .entry)) .sets) rank (e .first) (e .second) (e .one) (e .two) ⌝ }
 {
     let edge = parts::edge(scratch, r, s, n, rank);
-    let first = edge % SLOTS;
-    let second = edge / SLOTS % SLOTS;
+    let first = edges::first(edge);
+    let second = edges::second(edge);
     let one = set_of(scratch, r, s, n, first);
     let two = set_of(scratch, r, s, n, second);
     Ends {
@@ -166,7 +165,7 @@ pub fn label_ranks(scratch: &mut [u32], r: u32, s: u32, n: usize)
     let mut i = 0;
     while i < last {
         i += 1;
-        let slot = parts::edge(&*scratch, r, s, n, i) % SLOTS;
+        let slot = edges::first(parts::edge(&*scratch, r, s, n, i));
         let label = set_of(&*scratch, r, s, n, slot);
         let mark = word(&*scratch, r, s, n, i);
         put_word(&mut *scratch, r, s, n, i, mark + label);

@@ -1,6 +1,5 @@
--- The edge of a key: one word with its two slots and its tier, as the build and `codec` read it. And a set in scratch: its keys, each at its rank, and their
--- edges. The definitions come first; the laws say that such a set can be built, and that its ranks have the slots of its keys. Assumes nothing.
-use Prim.Native.Nat.{ℕ, zero, suc, _+_, _*_, _/_, _≤_, _<_}
+-- The edge of a key: its two slots and its tier in one word (`edges`). And a set in scratch: its keys, each at its rank, and their edges. The definitions come first; the laws say that such a set can be built, and that its ranks have the slots of its keys. Assumes nothing.
+use Prim.Native.Nat.{ℕ, zero, suc, _+_, _*_, _≤_, _<_}
 use mathlib.Core.Path.{_≡_, refl, sym, _∙_, ap}
 use mathlib.Core.Bool.{cond}
 use mathlib.Core.Logic.{inl, inr}
@@ -12,9 +11,11 @@ use lib.ListN.{length, getD, take, drop, set, length-map, length-set, length-tak
 use lib.Seq.{take-add, drop-drop, drop-at, take-take, getD-take, getD-drop, getD-set-same, getD-set-other, ext-getD}
 use Rattle.basics.specs.Tests.{eq?, le?}
 use Rattle.basics.specs.Lists.{at-map}
+use Rattle.edges.specs.Edge.{second-base, packed, first-of, second-of, tier-of-edge, Packable, Edge, no-edge}
+use Rattle.edges.specs.Edge.{packed-first, packed-second, packed-tier, packed-edge, no-edge-between}
 use Rattle.tabulation.specs.Hash.{Family, tables}
 use Rattle.tabulation.specs.Slots.{slot-0, slot-1, slot-0-lt, slot-1-le, slot-1-lt}
-use Rattle.forest.specs.Edges.{Edge, Edges, first-of, second-of, edge-at, edge-read, end-0, end-1}
+use Rattle.forest.specs.Edges.{Edges, edge-at, edge-read, end-0, end-1}
 use Rattle.forest.specs.Graph.{edges-in}
 use Rattle.layout.specs.Entries.{max-tier, tier-of}
 use Rattle.layout.specs.Layout.{Params, family, family-of, slots-of, station-of, slot-entry, stash-entries, tier-in}
@@ -22,7 +23,6 @@ use Rattle.layout.specs.Shape.{Sized, by-own-family}
 use Rattle.build.specs.Scratch.{parts, held-at, edges-at, used}
 use Rattle.build.specs.Build.{edges-of, Built, Buildable}
 use Rattle.build.specs.declared.StashCount.{StashCount}
-use Rattle.codec.specs.Ranks.{tier-unit}
 
 -- No set has a tier above 7. In an edge 0 stands for it: the words have the large one, so that they are never the image with 0.
 abbrev pub small-tier : ℕ → ℕ
@@ -31,10 +31,6 @@ small-tier tier = cond (ltb max-tier tier) 0 tier
 -- the tier at which a key is found in words, as its edge has it
 abbrev pub tier-found : List ℕ → List ℕ → ℕ → ℕ
 tier-found tabulation ws key = small-tier (tier-in tabulation ws key)
-
--- two slots and a tier in one word
-abbrev pub packed : ℕ → ℕ → ℕ → ℕ
-packed first second tier = first + 2048 * second + tier-unit * tier
 
 -- the edge of a key with a tier, and with the tier that t gives
 abbrev pub edge-with : Family → ℕ → ℕ → ℕ
@@ -56,28 +52,29 @@ small-le tier = elim (le? tier max-tier) [ inl l ↦ rw (le-ltb max-tier tier l)
 pub small-same : (tier : ℕ) → tier ≤ max-tier → small-tier tier ≡ tier
 small-same tier l = rw (le-ltb max-tier tier l)
 
--- an edge is read back
+-- the edge of a key is read back
 module _ (F : Family) (some : 0 < F .slots) (most : F .slots ≤ 1024) (t : ℕ → ℕ) (key : ℕ) where
+  first-low : slot-0 F key < second-base
+  first-low = omega (arith, slot-0-lt F some key)
+
+  second-low : slot-1 F key < second-base
+  second-low = omega (arith, slot-1-lt F some key)
+
   pub edge-first : first-of (edge-of F t key) ≡ slot-0 F key
   unfolding edge-of
-  edge-first = omega (arith, slot-0-lt F some key, slot-1-lt F some key)
+  edge-first = packed-first first-low second-low (t key)
 
   pub edge-second : second-of (edge-of F t key) ≡ slot-1 F key
   unfolding edge-of
-  edge-second =
-      let e : edge-of F t key / 2048 ≡ slot-1 F key + 2048 * t key = omega (arith, slot-0-lt F some key, slot-1-lt F some key) in
-      rw e (omega (arith, slot-1-lt F some key))
+  edge-second = packed-second first-low second-low (t key)
 
-  pub edge-tier : edge-of F t key / tier-unit ≡ t key
+  pub edge-tier : tier-of-edge (edge-of F t key) ≡ t key
   unfolding edge-of
-  edge-tier = omega (arith, slot-0-lt F some key, slot-1-lt F some key)
+  edge-tier = packed-tier first-low second-low (t key)
 
   edge-good : Edge (F .slots) (edge-of F t key)
-  edge-good = record {
-    in-0 = rw edge-first (slot-0-lt F some key);
-    from-1 = rw edge-second (slot-1-le F some key);
-    in-1 = omega (arith, edge-second, slot-1-lt F some key);
-  }
+  unfolding edge-of
+  edge-good = packed-edge most (slot-0-lt F some key) (slot-1-le F some key) (omega (arith, slot-1-lt F some key)) (t key)
 
 -- The edge as code makes it: the slots are hashed with r, and the tier is found by them.
 module _ (tabulation : List ℕ) (r station key : ℕ) (some : 0 < r) (most : r ≤ 1024) {first second : ℕ} (f : first ≡ slot-0 (tables tabulation r station) key)
@@ -85,8 +82,8 @@ module _ (tabulation : List ℕ) (r station key : ℕ) (some : 0 < r) (most : r 
   pub slots-in : (first < 2 * r) × (second < 2 * r)
   slots-in = let F = tables tabulation r station in (omega (arith, slot-0-lt F some key), omega (arith, slot-1-lt F some key))
 
-  pub packable : {tier : ℕ} → tier ≤ max-tier → (first < 2048) × ((second < 2048) × (tier ≤ max-tier))
-  packable l = (omega (arith, slots-in), (omega (arith, slots-in), l))
+  pub packable : {tier : ℕ} → tier ≤ max-tier → Packable first second tier
+  packable l = record { first-bound = omega (arith, slots-in); second-bound = omega (arith, slots-in); tier-bound = omega arith }
 
 pub edge-made : (tabulation ws : List ℕ) (key : ℕ) {r station first second tier small x : ℕ} → r ≡ slots-of ws → station ≡ station-of ws
     → first ≡ slot-0 (tables tabulation r station) key → second ≡ slot-1 (tables tabulation r station) key
@@ -100,7 +97,7 @@ edge-made tabulation ws key e d f g h k q =
 
 -- the edges in scratch, by rank
 pub edges-cut : (r s n : ℕ) (scratch : List ℕ) → used r s ≤ length scratch
-    → edges-of r s n scratch ≡ 2048 * r ∷ take n (drop (edges-at r s) scratch)
+    → edges-of r s n scratch ≡ no-edge r ∷ take n (drop (edges-at r s) scratch)
 unfolding edges-in parts
 edges-cut r s n scratch room =
     let xs = drop (held-at r s) scratch in
@@ -112,8 +109,8 @@ module _ {P : Params} {t : ℕ → ℕ} {S scratch : List ℕ} (D : Lined P t S 
   abbrev E : List ℕ
   E = edges-of (P .slots) (P .places) (length S) scratch
 
-  pub lined-edges : E ≡ 2048 * P .slots ∷ map (edge-of (family P) t) S
-  lined-edges = edges-cut (P .slots) (P .places) (length S) scratch room ∙ ap (λ (X : List ℕ). 2048 * P .slots ∷ X) (D .edges)
+  pub lined-edges : E ≡ no-edge (P .slots) ∷ map (edge-of (family P) t) S
+  lined-edges = edges-cut (P .slots) (P .places) (length S) scratch room ∙ ap (λ (X : List ℕ). no-edge (P .slots) ∷ X) (D .edges)
 
   pub lined-length : length E ≡ suc (length S)
   lined-length = ap length lined-edges ∙ ap suc (length-map S (edge-of (family P) t))
@@ -126,7 +123,7 @@ module _ {P : Params} {t : ℕ → ℕ} {S scratch : List ℕ} (D : Lined P t S 
     lined-good = record { some = Z .has-slots; most = Z .slots-bound; each = each }
       where
         each : (i : ℕ) → i < length E → Edge (P .slots) (getD E i 0)
-        each zero l = rw lined-edges (record { in-0 = omega (arith, Z); from-1 = omega (arith, Z); in-1 = omega (arith, Z) })
+        each zero l = rw lined-edges (no-edge-between (Z .slots-bound) (Z .has-slots))
         each (suc i) l =
             let m : i < length S = omega (arith, lined-length) in
             rw (lined-at i m) (edge-good (family P) (Z .has-slots) (Z .slots-bound) t (getD S i 0))

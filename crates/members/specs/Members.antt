@@ -1,6 +1,6 @@
 -- A set in scratch, its keys and their edges: two columns that move together. Where a key stands in it, or another issue of it, its tier, and the set with a key
 -- put in or taken out. The definitions come first: contracts cite them. Assumes nothing.
-use Prim.Native.Nat.{ℕ, _+_, _*_, _-_, _/_, _≤_, _<_}
+use Prim.Native.Nat.{ℕ, _+_, _*_, _-_, _≤_, _<_}
 use mathlib.Core.Path.{_≡_, refl, sym, _∙_, ap}
 use mathlib.Core.Bool.{Bool, true, false, cond}
 use mathlib.Core.Logic.{inl, inr}
@@ -17,6 +17,7 @@ use Rattle.basics.specs.Lists.{at-map, map-same, map-take, map-drop}
 use Rattle.ordered.specs.Keys.{rank-of, with-key}
 use Rattle.ordered.specs.Place.{rank-le, rank-found, member-at, member-past, with-parts, without-parts, length-with, length-without}
 use Rattle.ordered.specs.Shift.{opened, closed, opened-column, closed-column, opened-length, closed-length, opened-behind, closed-behind}
+use Rattle.edges.specs.Edge.{tier-of-edge}
 use Rattle.tabulation.specs.Hash.{first-part, blank}
 use Rattle.tabulation.specs.Issues.{not-blank-iff}
 use Rattle.layout.specs.Layout.{Params, another-issue, OneIssue, family}
@@ -26,16 +27,19 @@ use Rattle.layout.specs.Answers.{values}
 use Rattle.layout.specs.declared.Found.{Found}
 use Rattle.layout.specs.declared.Found.the-variants.{Listed, Absent, Refused}
 use Rattle.build.specs.Scratch.{edges-at, used}
-use Rattle.codec.specs.Ranks.{tier-unit}
 use Rattle.members.specs.Edges.{edge-with, edge-of, Lined, edge-tier}
 
 -- the n keys from word 1 on
 abbrev pub keys-at : ℕ → List ℕ → List ℕ
 keys-at n scratch = take n (drop 1 scratch)
 
--- what a lookup gives of a key whose place is `at`: 1 and the tier, which stands in its edge, or 0
+-- the tier of the key whose place is `at`: it stands in its edge
+abbrev pub tier-placed : (r s at : ℕ) → List ℕ → ℕ
+tier-placed r s at scratch = tier-of-edge (getD scratch (edges-at r s + at) 0)
+
+-- what a lookup gives of a key whose place is `at`: 1 and the tier, or 0
 abbrev pub looked-in : (r s n at key : ℕ) → List ℕ → List ℕ
-looked-in r s n at key scratch = cond (member key (keys-at n scratch)) (1 ∷ getD scratch (edges-at r s + at) 0 / tier-unit ∷ []) (0 ∷ [])
+looked-in r s n at key scratch = cond (member key (keys-at n scratch)) (1 ∷ tier-placed r s at scratch ∷ []) (0 ∷ [])
 
 -- n keys and their edges, with a key and its edge put in at a place, and with those at a place taken out
 abbrev pub put-in : (r s n at key edge : ℕ) → List ℕ → List ℕ
@@ -187,10 +191,10 @@ module _ {P : Params} {t : ℕ → ℕ} {S scratch : List ℕ} (D : Lined P t S 
       at = rank-of S key
 
       -- the tier of one of its keys is in the edge at its rank
-      pub lined-tier : Sized r s → In key S → getD scratch (edges-at r s + at) 0 / tier-unit ≡ t key
+      pub lined-tier : Sized r s → In key S → tier-placed r s at scratch ≡ t key
       lined-tier z i =
           let k = rank-found key S asc i in
-          ap (λ (x : ℕ). x / tier-unit)
+          ap tier-of-edge
           (sym (getD-take n (drop (edges-at r s) scratch) at 0 (k .1) ∙ getD-drop (edges-at r s) scratch at 0)
           ∙ ap (λ (X : List ℕ). getD X at 0) (D .edges) ∙ at-map (f t) S at (k .1) ∙ ap (f t) (k .0))
           ∙ edge-tier (family P) (z .has-slots) (z .slots-bound) t key

@@ -2,8 +2,8 @@
 // in or taken out. Both columns move together, at the same place. Issues of one first part are neighbours in ascending
 // order, so none is searched for.
 ghost use mathlib.Core.Path.{_≡_};
-ghost use Prim.Native.Nat.{_+_, _*_, _/_, _≤_, _<_};
-ghost use lib.ListN.{length, getD};
+ghost use Prim.Native.Nat.{_+_, _*_, _≤_, _<_};
+ghost use lib.ListN.{length};
 ghost use Rattle.basics.specs.Sets.{member, Asc};
 ghost use Rattle.ordered.specs.Keys.{rank-of};
 ghost use Rattle.tabulation.specs.Hash.{tables, Hashing};
@@ -12,11 +12,9 @@ ghost use Rattle.layout.specs.Entries.{max-tier};
 ghost use Rattle.layout.specs.Layout.{ValidKeys, another-issue, one-issue};
 ghost use Rattle.layout.specs.Answers.{number, values};
 ghost use Rattle.build.specs.Scratch.{edges-at, used};
-ghost use Rattle.codec.specs.Ranks.{tier-unit};
 ghost use Rattle.members.specs.Edges.{edge-with};
-ghost use Rattle.members.specs.Members.{keys-at, Placed, looked-in, put-in, taken-out};
-use edges::edge_given;
-use edges::edge_tier;
+ghost use Rattle.members.specs.Members.{keys-at, Placed, tier-placed, looked-in, put-in, taken-out};
+use hashing::edge_given;
 use layout::Found;
 use ordered::close_at;
 use ordered::open_at;
@@ -24,7 +22,7 @@ use ordered::rank;
 use parts::edges_start;
 use tabulation::first_part;
 
-pub mod edges;
+pub mod hashing;
 
 // How many of the n keys are smaller than `key`: its place, if it is there, and the place where it belongs, if not.
 pub fn place_of(scratch: &[u32], n: usize, key: u32) -> usize
@@ -89,10 +87,10 @@ pub fn other_issue(scratch: &[u32], n: usize, at: usize, key: u32) -> bool
 // The tier of the key at place `at`.
 pub fn tier_at(scratch: &[u32], r: u32, s: u32, at: usize) -> u32
     requires { ⌜ ((r ≤ 1024) × (s ≤ 64)) × (edges-at r s + at < length (now scratch)) ⌝ }
-    ensures { λ t. ⌜ t ≡ getD (now (scratch .entry)) (edges-at r s + at) 0 / tier-unit ⌝ }
+    ensures { λ t. ⌜ t ≡ tier-placed r s at (now (scratch .entry)) ⌝ }
 {
     let start = edges_start(r, s);
-    edge_tier(scratch[start + at])
+    edges::tier(scratch[start + at])
 }
 
 // What a lookup says of a key, by the set in scratch: its tier, or that it is not there; `at` is its place.

@@ -7,7 +7,7 @@ ghost use Rattle.build.specs.Access.{Enough};
 ghost use Rattle.build.specs.NotesCode.{cleared-parts, smallest-parts, with-noting, answer, rank-noted, ranks-noted};
 ghost use Rattle.build.specs.NotesCode.{Labelled};
 use build::StashCount;
-use parts::PAIR;
+use parts::PAIR_BASE;
 use parts::next_start;
 use parts::note;
 use parts::put_note;
@@ -63,8 +63,8 @@ fn note_rank(scratch: &mut [u32], r: u32, s: u32, n: usize, rank: u32, count: u3
     }
     let label = mark - m;
     let noted = note(&*scratch, r, s, n, label);
-    if noted < PAIR {
-        put_note(&mut *scratch, r, s, n, label, noted + PAIR * rank);
+    if noted < PAIR_BASE {
+        put_note(&mut *scratch, r, s, n, label, noted + PAIR_BASE * rank);
         put_word(&mut *scratch, r, s, n, rank, label);
         return StashCount::Ranks(count);
     }

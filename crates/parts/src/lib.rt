@@ -11,7 +11,7 @@ ghost use Rattle.build.specs.Access.{Enough};
 use words::wide;
 
 // A note has the smallest rank of the forest, and this times the one that closes the cycle: ranks are smaller.
-pub const PAIR: u32 = 4_096;
+pub const PAIR_BASE: u32 = 4_096;
 
 pub fn held_start(r: u32, s: u32) -> usize
     requires { ⌜ (r ≤ 1024) × (s ≤ 64) ⌝ }

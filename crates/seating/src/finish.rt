@@ -7,7 +7,7 @@ ghost use Rattle.forest.specs.Graph.{Graph, edges-in, finished-tree, finished-c
 ghost use Rattle.build.specs.Scratch.{parts, with-graph};
 ghost use Rattle.build.specs.Access.{Enough};
 ghost use Rattle.build.specs.FinishCode.{Finishable, rank-finished, ranks-finished};
-use parts::PAIR;
+use parts::PAIR_BASE;
 use parts::edges_start;
 use parts::held_start;
 use parts::note;
@@ -46,13 +46,13 @@ fn finish_rank(scratch: &mut [u32], r: u32, s: u32, n: usize, rank: u32)
         return;
     }
     let noted = note(&*scratch, r, s, n, label);
-    if noted % PAIR != rank {
+    if noted % PAIR_BASE != rank {
         return;
     }
-    if noted < PAIR {
+    if noted < PAIR_BASE {
         finish_tree(&mut *scratch, r, s, n, rank);
     } else {
-        finish_cycle(&mut *scratch, r, s, n, noted / PAIR);
+        finish_cycle(&mut *scratch, r, s, n, noted / PAIR_BASE);
     }
 }
 

@@ -4,7 +4,7 @@ ghost use mathlib.Core.Path.{_≡_};
 ghost use Rattle.build.specs.Scratch.{parts};
 ghost use Rattle.build.specs.Access.{Enough};
 ghost use Rattle.build.specs.NextCode.{chained-parts};
-use parts::PAIR;
+use parts::PAIR_BASE;
 use parts::note;
 use parts::put_note;
 use parts::put_word;
@@ -21,7 +21,7 @@ pub fn chain_ranks(scratch: &mut [u32], r: u32, s: u32, n: usize)
         let label = word(&*scratch, r, s, n, rank);
         if label < m {
             let last = note(&*scratch, r, s, n, label);
-            put_word(&mut *scratch, r, s, n, rank, last % PAIR);
+            put_word(&mut *scratch, r, s, n, rank, last % PAIR_BASE);
             put_note(&mut *scratch, r, s, n, label, rank);
         }
         rank -= 1;

@@ -1,6 +1,7 @@
 -- `forest::first_slot` meets its contract.
 use native.Mathlib.Omega.{arith}
-use mathlib.Core.Path.{sym}
+use mathlib.Core.Path.{sym, _∙_, ap}
+use Rattle.edges.specs.Edge.{first-of}
 use Rattle.forest.specs.Edges.{end-0, ends-fit}
 use Rattle.forest.specs.Graph.{first-none}
 use borrow.Author.Needs.{needs}
@@ -16,12 +17,15 @@ returns c =
 edge-requires : tie.Need-edge-requires
 edge-requires c κs = search needs
 
+first-requires : tie.Need-first-requires
+first-requires c κs = search needs
+
 returns-2 : tie.Need-returns-2
 unfolding end-0
 returns-2 c =
-    let s = c .before .before .before in
-    let e = c .edge .ensures in
-    (rw e, omega (arith, e, ends-fit (s .pre .0 .edges) (s .args .rank) .0))
+    let s = c .before .before .before .before in
+    let e = c .first .ensures ∙ ap first-of (c .before .edge .ensures) in
+    (e, omega (arith, e, ends-fit (s .pre .0 .edges) (s .args .rank) .0))
 
 pub first-slot-spec : {M : Type 1} → statement M
-first-slot-spec = tie.close (tie.spec returns edge-requires returns-2)
+first-slot-spec = tie.close (tie.spec returns edge-requires first-requires returns-2)

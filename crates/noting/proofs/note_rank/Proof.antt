@@ -6,14 +6,14 @@ use native.Mathlib.Numerals.{add-one}
 use lib.ListN.{getD, set}
 use Rattle.build.specs.Scratch.{Parts, parts, with-stash, with-sets, with-next}
 use Rattle.build.specs.Access.{enough-kept, parts-fit}
-use Rattle.build.specs.Notes.{pair, note-at, stash-rank}
+use Rattle.build.specs.Notes.{pair-base, note-at, stash-rank}
 use Rattle.build.specs.NotesCode.{noting-in, with-noting, rank-on, rank-first, rank-later, rank-full}
 use borrow.Author.Needs.{needs}
 use Rattle.noting.proofs.note_rank.Statement.{statement}
 use Rattle.noting.proofs.note_rank.Tie as tie
 
 -- the words of a note and a rank written, and those of a stash place and a rank
-first : (P : Parts) {Q R : Parts} (label rank noted count : ℕ) → Q ≡ with-sets P (set (P .sets) label (noted + pair * rank)) → R ≡ with-next Q (set (Q .next) rank label)
+first : (P : Parts) {Q R : Parts} (label rank noted count : ℕ) → Q ≡ with-sets P (set (P .sets) label (noted + pair-base * rank)) → R ≡ with-next Q (set (Q .next) rank label)
     → noted ≡ getD (P .sets) label 0 → R ≡ with-noting P (note-at label rank (noting-in P count))
 first P label rank noted count e f n = f ∙ rw (e, n) refl
 

@@ -5,7 +5,7 @@ use mathlib.Core.Path.{_≡_, _∙_, ap}
 use lib.ListN.{getD}
 use Rattle.forest.specs.Graph.{finished-cycle}
 use Rattle.build.specs.Scratch.{Parts, parts, with-graph}
-use Rattle.build.specs.Notes.{pair}
+use Rattle.build.specs.Notes.{pair-base}
 use Rattle.build.specs.FinishCode.{rank-aside, rank-other, rank-tree, rank-cycle}
 use borrow.Author.Needs.{needs}
 use Rattle.seating.proofs.finish.finish_rank.Statement.{statement}
@@ -27,7 +27,7 @@ low k = let w = worded k in omega (arith, w .word .ensures, k .before .before .i
 noted : (k : tie.After-note) → let w = worded k in k .note .result ≡ getD (before w .sets) (getD (before w .next) (start w .args .rank) 0) 0
 noted k = let w = worded k in k .note .ensures ∙ ap (λ (l : ℕ). getD (before w .sets) l 0) (w .word .ensures)
 
-closing-few : (k : tie.After-note) → let w = worded k in k .note .result / pair ≤ start w .args .n
+closing-few : (k : tie.After-note) → let w = worded k in k .note .result / pair-base ≤ start w .args .n
 closing-few k =
     let w = worded k in
     let s = start w in
@@ -60,7 +60,7 @@ returns-2 c =
     let k = c .before in
     let w = worded k in
     let s = start w in
-    rank-other (s .args .r) (before w) (s .args .rank) (s .pre .2 .graph) (low k) (λ q. c .if2 .taken (ap (λ (x : ℕ). x % pair) (noted k) ∙ q))
+    rank-other (s .args .r) (before w) (s .args .rank) (s .pre .2 .graph) (low k) (λ q. c .if2 .taken (ap (λ (x : ℕ). x % pair-base) (noted k) ∙ q))
 
 finish-tree-requires : tie.Need-finish-tree-requires
 finish-tree-requires c κs =
@@ -97,7 +97,7 @@ returns-4 c =
     let s = start w in
     let e = noted k in
     rank-cycle (s .args .r) (before w) (s .args .rank) (low k) (rw e at (t .before .if2 .left)) (rw e at (t .if3 .left))
-    (f .finish-cycle .ensures ∙ ap (λ (x : ℕ). with-graph (before w) (finished-cycle (s .args .r) (before w .graph) (x / pair))) e)
+    (f .finish-cycle .ensures ∙ ap (λ (x : ℕ). with-graph (before w) (finished-cycle (s .args .r) (before w .graph) (x / pair-base))) e)
 
 pub finish-rank-spec : {M : Type 1} → statement M
 finish-rank-spec = tie.close (tie.spec word-requires mul-if1 same-length returns note-requires same-length-2 returns-2 finish-tree-requires finish-cycle-requires same-length-3 returns-3 same-length-4 returns-4)

@@ -1,35 +1,19 @@
-// The edges of keys: each key is hashed here, once, and found in the words, once. One word then has all that the build
-// and `codec` need of it: first slot, second slot, tier.
+// From keys to their edges: each key is hashed here, once, and found in the words, once. One word then has all that the
+// build and `codec` need of it (crate `edges`).
 ghost use mathlib.Core.Path.{_≡_};
-ghost use Prim.Native.Nat.{_/_, _≤_, _<_};
+ghost use Prim.Native.Nat.{_≤_};
 ghost use lib.ListN.{length};
 ghost use Rattle.tabulation.specs.Hash.{tabulation-length, tables, Hashing};
 ghost use Rattle.layout.specs.Entries.{max-tier};
 ghost use Rattle.layout.specs.Layout.{family-of, slots-of, station-of};
 ghost use Rattle.layout.specs.Shape.{Shaped};
-ghost use Rattle.codec.specs.Ranks.{tier-unit};
-ghost use Rattle.members.specs.Edges.{packed, small-tier, tier-found, edge-with, edge-of};
+ghost use Rattle.members.specs.Edges.{small-tier, tier-found, edge-with, edge-of};
 ghost use Rattle.members.specs.Collected.{Collected, Listed};
 use access::MAX_TIER;
-use codec::image::TIER_UNIT;
-use forest::SLOTS;
+use edges::pack;
 use parts::edges_start;
 use tabulation::first_slot;
 use tabulation::second_slot;
-
-fn pack(first: u32, second: u32, tier: u32) -> u32
-    requires { ⌜ (first < 2048) × ((second < 2048) × (tier ≤ max-tier)) ⌝ }
-    ensures { λ e. ⌜ e ≡ packed first second tier ⌝ }
-{
-    first + SLOTS * second + TIER_UNIT * tier
-}
-
-// The tier in an edge.
-pub fn edge_tier(edge: u32) -> u32
-    ensures { λ t. ⌜ t ≡ edge / tier-unit ⌝ }
-{
-    edge / TIER_UNIT
-}
 
 // A tier above 7, which no set has, counts as 0. Then the words are not canonical, and the comparison will say so.
 fn fitting(tier: u32) -> u32
