@@ -7,7 +7,7 @@ use mathlib.Core.List.{List, List·Memᴰ as In}
 use native.Mathlib.Omega.{arith}
 use lib.ListN.{length}
 use Rattle.basics.specs.Sets.{member, Asc}
-use Rattle.tabulation.specs.Hash.{Hashing}
+use Rattle.hashing.specs.Hash.{Hashing}
 use Rattle.layout.specs.declared.Header.{Header}
 use Rattle.layout.specs.Entries.{keys-of, tier-of, keys-tiered, tier-tiered}
 use Rattle.layout.specs.Layout.{Params, ValidKeys, OneIssue, header-of, params-of, slots-of, places-of, key-count, image, image-by, keys-in, tier-in, set-in}

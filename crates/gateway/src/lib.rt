@@ -15,7 +15,7 @@ use built::matches_built;
 use built::write_built;
 use codec::collect::collect_keys;
 use layout::Header;
-use members::hashing::write_edges;
+use members::edge_column::write_edges;
 use members::one_issue;
 use refusals::NOT_CANONICAL;
 use refusals::SHORT_SCRATCH;

@@ -13,7 +13,7 @@ use Rattle.basics.specs.Tests.{test}
 use Rattle.basics.specs.Sets.{member}
 use Rattle.refusals.specs.Refusal.{done, wrong-tabulation, wrong-shape, short-scratch, not-canonical, first-refusal, None, none, and, numbers, first-refusal-in}
 use Rattle.refusals.specs.Refusal.{front-passes, front-none}
-use Rattle.tabulation.specs.Hash.{tabulation-length}
+use Rattle.hashing.specs.Hash.{tabulation-length}
 use Rattle.layout.specs.Entries.{Entry}
 use Rattle.layout.specs.Layout.{Params, slots-of, places-of, scratch-length, shaped}
 use Rattle.layout.specs.Canonical.{canonical, ImageOf, not-canonical-iff}

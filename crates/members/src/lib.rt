@@ -6,7 +6,7 @@ ghost use Prim.Native.Nat.{_+_, _*_, _≤_, _<_};
 ghost use lib.ListN.{length};
 ghost use Rattle.basics.specs.Sets.{member, Asc};
 ghost use Rattle.ordered.specs.Keys.{rank-of};
-ghost use Rattle.tabulation.specs.Hash.{tables, Hashing};
+ghost use Rattle.hashing.specs.Hash.{tables, Hashing};
 ghost use Rattle.refusals.specs.Refusal.{done};
 ghost use Rattle.layout.specs.Entries.{max-tier};
 ghost use Rattle.layout.specs.Layout.{ValidKeys, another-issue, one-issue};
@@ -14,7 +14,7 @@ ghost use Rattle.layout.specs.Answers.{number, values};
 ghost use Rattle.build.specs.Scratch.{edges-at, used};
 ghost use Rattle.members.specs.Edges.{edge-with};
 ghost use Rattle.members.specs.Members.{keys-at, Placed, tier-placed, looked-in, put-in, taken-out};
-use hashing::edge_given;
+use edge_column::edge_given;
 use layout::Found;
 use ordered::close_at;
 use ordered::open_at;
@@ -22,7 +22,7 @@ use ordered::rank;
 use parts::edges_start;
 use tabulation::first_part;
 
-pub mod hashing;
+pub mod edge_column;
 
 // How many of the n keys are smaller than `key`: its place, if it is there, and the place where it belongs, if not.
 pub fn place_of(scratch: &[u32], n: usize, key: u32) -> usize

@@ -8,7 +8,7 @@ use lib.ListN.{length, replicate}
 use Rattle.basics.specs.Sets.{member, without}
 use Rattle.ordered.specs.Keys.{with-key}
 use Rattle.refusals.specs.Refusal.{done, blank-key, key-present, key-absent, stash-full, wrong-tier, other-tier, other-issue, first-refusal}
-use Rattle.tabulation.specs.Hash.{blank}
+use Rattle.hashing.specs.Hash.{blank}
 use Rattle.layout.specs.Entries.{Entry, max-tier, keys-of, tier-of, tiered}
 use Rattle.layout.specs.Layout.{Params, another-issue, params-of, fits, image, set-in}
 use Rattle.layout.specs.Ready.{first-refusals}

@@ -1,12 +1,12 @@
 // The hashes of a key (document 01's "places of a card"): one function for both tables, and the public call that gives
-// both hashes or a refusal. Crates above use what it promises and the laws of specs/; the worked rows K1 to K12 alone
-// compute with its text. The till maker links it alone.
+// both hashes or a refusal. What it promises is in `hashing`. The till maker links it alone.
 ghost use mathlib.Core.Path.{_≡_};
 ghost use Prim.Native.Nat.{_<_};
-ghost use Rattle.tabulation.specs.Slots.{slot-0, slot-1};
-ghost use Rattle.tabulation.specs.Hash.{slots-in-range, station-in-range, tables, Hashing};
-ghost use Rattle.tabulation.specs.Hash.{first-part, blank, hash};
-ghost use Rattle.tabulation.specs.Answer.{number, values, hashes-refusal, hashes-values, written};
+ghost use Rattle.hashing.specs.Slots.{slot-0, slot-1};
+ghost use Rattle.hashing.specs.Hash.{slots-in-range, station-in-range, tables, Hashing};
+ghost use Rattle.hashing.specs.Hash.{first-part, blank, hash};
+ghost use Rattle.hashing.specs.Answer.{number, values, hashes-refusal, hashes-values, written};
+use edge_column::Hashed;
 use refusals::BLANK_KEY;
 use refusals::WRONG_SHAPE;
 use refusals::WRONG_TABULATION;
@@ -22,12 +22,6 @@ const STATION_STRETCH: usize = 1024;
 pub const MAX_SLOTS: u32 = 1024;
 
 pub const MAX_STATION: u32 = 255;
-
-// Both hashes of a key, in table 0 and in table 1, or the number of the refusal.
-pub enum Hashed {
-    At(u32, u32),
-    Refused(u32),
-}
 
 // How many issues a first part has: as many as there are decimal digits. Keys below it have no first part.
 const ISSUES: u32 = 10;

@@ -8,8 +8,8 @@ use native.Mathlib.Omega.{arith}
 use borrow.Author.Needs.{needs}
 use lib.ListN.{getD, take, drop}
 use lib.Seq.{getD-drop, getD-take}
-use Rattle.tabulation.specs.Hash.{first-part, entry, turned}
-use Rattle.tabulation.specs.Sum.{total, total-step, total-hash}
+use Rattle.hashing.specs.Hash.{first-part, entry, turned}
+use Rattle.hashing.specs.Sum.{total, total-step, total-hash}
 use Rattle.tabulation.proofs.hash_in.Statement.{statement}
 use Rattle.tabulation.proofs.hash_in.Tie as tie
 

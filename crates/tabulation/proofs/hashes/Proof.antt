@@ -4,8 +4,8 @@ use mathlib.Core.Path.{_≡_, _∙_, sym}
 use mathlib.Core.Bool.{true}
 use native.Mathlib.Omega.{arith}
 use lib.ListN.{length}
-use Rattle.tabulation.specs.Hash.{tabulation-length, slots-in-range, station-in-range, Hashing, hashing}
-use Rattle.tabulation.specs.Answer.{hashes-refusal, hashes-values}
+use Rattle.hashing.specs.Hash.{tabulation-length, slots-in-range, station-in-range, Hashing, hashing}
+use Rattle.hashing.specs.Answer.{hashes-refusal, hashes-values}
 use borrow.Author.Needs.{needs}
 use Rattle.tabulation.proofs.hashes.Statement.{statement}
 use Rattle.tabulation.proofs.hashes.Tie as tie

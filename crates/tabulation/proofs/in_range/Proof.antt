@@ -2,7 +2,7 @@
 use Prim.Native.Nat.{_≤_, _<_}
 use native.Mathlib.Omega.{arith}
 use borrow.Author.Tests.{le-leb, lt-leb}
-use Rattle.tabulation.specs.Hash.{slots-in-range}
+use Rattle.hashing.specs.Hash.{slots-in-range}
 use Rattle.tabulation.proofs.in_range.Statement.{statement}
 use Rattle.tabulation.proofs.in_range.Tie as tie
 

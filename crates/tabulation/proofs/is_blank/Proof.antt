@@ -1,6 +1,6 @@
 -- `tabulation::is_blank` meets its contract: its test is the definition's.
 use borrow.Author.Needs.{needs}
-use Rattle.tabulation.specs.Hash.{blank}
+use Rattle.hashing.specs.Hash.{blank}
 use Rattle.tabulation.proofs.is_blank.Statement.{statement}
 use Rattle.tabulation.proofs.is_blank.Tie as tie
 

@@ -1,6 +1,6 @@
 -- `tabulation::is_station` meets its contract: its test is the definition's.
 use borrow.Author.Needs.{needs}
-use Rattle.tabulation.specs.Hash.{station-in-range}
+use Rattle.hashing.specs.Hash.{station-in-range}
 use Rattle.tabulation.proofs.is_station.Statement.{statement}
 use Rattle.tabulation.proofs.is_station.Tie as tie
 

@@ -1,7 +1,7 @@
 -- `tabulation::pinorange_hashes` meets its contract: it hands on what `hashes` answers.
 use mathlib.Core.Path.{sym, _∙_, ap}
 use borrow.Author.Needs.{needs}
-use Rattle.tabulation.specs.Answer.{number, values, written-at, written-refused}
+use Rattle.hashing.specs.Answer.{number, values, written-at, written-refused}
 use Rattle.tabulation.proofs.pinorange_hashes.Statement.{statement}
 use Rattle.tabulation.proofs.pinorange_hashes.Tie as tie
 

@@ -1,6 +1,6 @@
 -- `tabulation::second_slot` meets its contract: r and a hash below it are small.
 use native.Mathlib.Omega.{arith}
-use Rattle.tabulation.specs.Hash.{tables, hash-lt}
+use Rattle.hashing.specs.Hash.{tables, hash-lt}
 use borrow.Author.Needs.{needs}
 use Rattle.tabulation.proofs.second_slot.Statement.{statement}
 use Rattle.tabulation.proofs.second_slot.Tie as tie

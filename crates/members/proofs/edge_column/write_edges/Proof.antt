@@ -1,4 +1,4 @@
--- `members::hashing::write_edges` meets its contract: after i turns the edges of i keys stand at their place, and the words before it are as they were.
+-- `members::edge_column::write_edges` meets its contract: after i turns the edges of i keys stand at their place, and the words before it are as they were.
 use Prim.Native.Nat.{_-_, _≤_}
 use mathlib.Core.Path.{_≡_}
 use native.Mathlib.Omega.{arith}
@@ -7,8 +7,8 @@ use Rattle.layout.specs.Shape.{shape}
 use Rattle.members.specs.Edges.{tier-found, edge-of, EdgesTo, edges-start, edges-turn}
 use Rattle.members.specs.Collected.{collected-room, collected-listed}
 use borrow.Author.Needs.{needs}
-use Rattle.members.proofs.hashing.write_edges.Statement.{statement}
-use Rattle.members.proofs.hashing.write_edges.Tie as tie
+use Rattle.members.proofs.edge_column.write_edges.Statement.{statement}
+use Rattle.members.proofs.edge_column.write_edges.Tie as tie
 
 abbrev Inv-loop : tie.InvT-loop
 Inv-loop tabulation words scratch₀ r s station n start i₀ scratch i =

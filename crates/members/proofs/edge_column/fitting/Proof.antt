@@ -1,10 +1,10 @@
--- `members::hashing::fitting` meets its contract: a tier above 7, or not.
+-- `members::edge_column::fitting` meets its contract: a tier above 7, or not.
 use Prim.Native.Nat.{_≤_, _<_}
 use borrow.Author.Tests.{lt-ltb, le-ltb}
 use native.Mathlib.Omega.{arith}
 use Rattle.layout.specs.Entries.{max-tier}
-use Rattle.members.proofs.hashing.fitting.Statement.{statement}
-use Rattle.members.proofs.hashing.fitting.Tie as tie
+use Rattle.members.proofs.edge_column.fitting.Statement.{statement}
+use Rattle.members.proofs.edge_column.fitting.Tie as tie
 
 returns : tie.Need-returns
 returns c = let l = c .if1 .taken in let m : max-tier < c .before .args .tier = omega arith in rw (lt-ltb max-tier _ m)

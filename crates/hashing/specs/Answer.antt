@@ -6,12 +6,13 @@ use mathlib.Core.Bool.{Bool, true, false, not, cond, _&&_}
 use mathlib.Core.Path.{_≡_, refl}
 use native.Mathlib.Omega.{arith}
 use mathlib.Core.List.{List, [], _∷_, List·Memᴰ as In}
+use borrow.Author.Tests.{eq-eqb, ne-eqb}
 use lib.Dec.{eqb}
 use lib.ListN.{length}
 use Rattle.refusals.specs.Refusal.{done, wrong-tabulation, wrong-shape, blank-key, first-refusal, first-refusal-in}
-use Rattle.tabulation.specs.Hash.{tabulation-length, slots-in-range, station-in-range, blank, Family, hash}
-use Rattle.tabulation.specs.declared.Hashed.{Hashed}
-use Rattle.tabulation.specs.declared.Hashed.the-variants.{At, Refused}
+use Rattle.hashing.specs.Hash.{tabulation-length, slots-in-range, station-in-range, blank, Family, hash}
+use Rattle.hashing.specs.declared.Hashed.{Hashed}
+use Rattle.hashing.specs.declared.Hashed.the-variants.{At, Refused}
 
 -- document 01's number of an answer, and its values: the hash in table 0, then in table 1
 abbrev pub number : Hashed → ℕ
@@ -39,7 +40,19 @@ hashes-values F key = cond (eqb (hashes-refusal F key) done) (hash F 0 key ∷ h
 unfoldable pub written : Family → ℕ → ℕ → ℕ → ℕ
 written F key table old = cond (eqb (hashes-refusal F key) done) (hash F table key) old
 
--- The laws. "it gives both places, or 1, 2 .. or 5", and nothing else:
+-- The laws. They are tried "in that order": 1 for every tabulation of another length, whatever else applies,
+pub hashes-tabulation-first : (F : Family) (key : ℕ) → (length (F .tabulation) ≡ tabulation-length → ⊥)
+    → hashes-refusal F key ≡ wrong-tabulation
+unfolding hashes-refusal
+hashes-tabulation-first F key n = rw (ne-eqb _ _ n)
+
+-- and then 2 wherever r or the station is out of its range, for a blank key, too
+pub hashes-shape-second : (F : Family) (key : ℕ) → length (F .tabulation) ≡ tabulation-length
+    → slots-in-range (F .slots) && station-in-range (F .station) ≡ false → hashes-refusal F key ≡ wrong-shape
+unfolding hashes-refusal
+hashes-shape-second F key e out = rw (eq-eqb _ _ e, out)
+
+-- "it gives both places, or 1, 2 .. or 5", and nothing else:
 pub hashes-answer-in : (F : Family) (key : ℕ) → In (hashes-refusal F key) (0 ∷ 1 ∷ 2 ∷ 5 ∷ [])
 unfolding hashes-refusal
 hashes-answer-in F key = first-refusal-in (hashes-refusals F key)

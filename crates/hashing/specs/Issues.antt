@@ -6,8 +6,8 @@ use mathlib.Core.Bool.{true, false}
 use mathlib.Core.Logic.{_↔_}
 use native.Mathlib.Omega.{arith}
 use borrow.Author.Tests.{ltb-true, ltb-false, lt-ltb, le-ltb}
-use Rattle.tabulation.specs.Hash.{blank, first-part, Family, hash}
-use Rattle.tabulation.specs.Slots.{slot-0, slot-1}
+use Rattle.hashing.specs.Hash.{blank, first-part, Family, hash}
+use Rattle.hashing.specs.Slots.{slot-0, slot-1}
 
 -- A key is its first part and its issue, a decimal digit: ten issues of each first part.
 pub issues-of : (key part digit : ℕ) → digit < 10 → (key ≡ 10 * part + digit) ↔ ((first-part key ≡ part) × (key % 10 ≡ digit))

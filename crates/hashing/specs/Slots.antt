@@ -3,7 +3,7 @@
 use Prim.Native.Nat.{ℕ, _+_, _<_, _≤_}
 use mathlib.Core.Path.{_≡_}
 use native.Mathlib.Omega.{arith}
-use Rattle.tabulation.specs.Hash.{Family, hash, hash-lt}
+use Rattle.hashing.specs.Hash.{Family, hash, hash-lt}
 
 -- a key's slot in table 0, and in table 1
 abbrev pub slot-0 : Family → ℕ → ℕ

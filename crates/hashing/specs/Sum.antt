@@ -5,7 +5,7 @@ use mathlib.Core.List.{List}
 use native.Mathlib.Nat.{zero-add}
 use native.Mathlib.Numerals.{add-one}
 use native.Mathlib.Omega.{arith}
-use Rattle.tabulation.specs.Hash.{Family, first-part, entry, turned, hash}
+use Rattle.hashing.specs.Hash.{Family, first-part, entry, turned, hash}
 
 -- sum, and the entries of n bytes more, from byte i on, which is the lowest byte of rest
 unfoldable pub total : List ℕ → ℕ → ℕ → ℕ → ℕ → ℕ → ℕ

@@ -7,7 +7,7 @@ use native.Mathlib.Nat.{add-zero, zero-add, suc-mul, mod-add-mod, add-mul-mod-se
 use native.Mathlib.Omega.{arith}
 use lib.ListN.{length, getD, take, drop, replicate, length-append, length-take, length-drop, length-replicate, getD-replicate, List·getD-append}
 use lib.Seq.{getD-drop, getD-take, drop-at, length-take-le}
-use Rattle.tabulation.specs.Hash.{max-station, tabulation-length, first-part, Family, tables, byte, entry-at, entry, turned, hash}
+use Rattle.hashing.specs.Hash.{max-station, tabulation-length, first-part, Family, tables, byte, entry-at, entry, turned, hash}
 
 -- "Its place in rack k is the sum over i = 0 to 3 of book entry 1,024k + 256i + bi, taken modulo r": the hash of document 01
 abbrev pub hash-01 : List ℕ → ℕ → ℕ → ℕ → ℕ

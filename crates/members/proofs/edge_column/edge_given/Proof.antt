@@ -1,8 +1,8 @@
--- `members::hashing::edge_given` meets its contract: slots of tables of r fit into an edge.
+-- `members::edge_column::edge_given` meets its contract: slots of tables of r fit into an edge.
 use borrow.Author.Needs.{needs}
 use Rattle.members.specs.Edges.{packable}
-use Rattle.members.proofs.hashing.edge_given.Statement.{statement}
-use Rattle.members.proofs.hashing.edge_given.Tie as tie
+use Rattle.members.proofs.edge_column.edge_given.Statement.{statement}
+use Rattle.members.proofs.edge_column.edge_given.Tie as tie
 
 first-slot-requires : tie.Need-first-slot-requires
 first-slot-requires c κs = search needs

@@ -1,10 +1,10 @@
--- `members::hashing::edge_found` meets its contract: its slots are slots of the words, and the tier found by them fits when it is made small.
+-- `members::edge_column::edge_found` meets its contract: its slots are slots of the words, and the tier found by them fits when it is made small.
 use Prim.Native.Nat.{_≤_, _<_}
 use native.Mathlib.Omega.{arith}
 use borrow.Author.Needs.{needs}
 use Rattle.members.specs.Edges.{small-le, slots-in, packable, edge-made}
-use Rattle.members.proofs.hashing.edge_found.Statement.{statement}
-use Rattle.members.proofs.hashing.edge_found.Tie as tie
+use Rattle.members.proofs.edge_column.edge_found.Statement.{statement}
+use Rattle.members.proofs.edge_column.edge_found.Tie as tie
 
 first-slot-requires : tie.Need-first-slot-requires
 first-slot-requires c κs = search needs
