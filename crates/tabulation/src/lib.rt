@@ -6,7 +6,7 @@ ghost use Rattle.hashing.specs.Slots.{slot-0, slot-1};
 ghost use Rattle.hashing.specs.Hash.{slots-in-range, station-in-range, tables, Hashing};
 ghost use Rattle.hashing.specs.Hash.{first-part, blank, hash};
 ghost use Rattle.hashing.specs.Answer.{number, values, hashes-refusal, hashes-values, written};
-use edge_column::Hashed;
+use hashing::Hashed;
 use refusals::BLANK_KEY;
 use refusals::WRONG_SHAPE;
 use refusals::WRONG_TABULATION;
