@@ -1,12 +1,19 @@
-// Insert, remove and check: their whole outcome but the counters. All three start alike: the words are read as a set,
-// that set is built anew in scratch, and the words must be its image. Then the set changes, is built again, and is
-// written. There are no incremental cases.
+// Insert, remove and check: their whole outcome but the counters. All three go through the gateway: the words are loaded
+// as a set, or refused. Then the set changes in scratch and is committed. There are no incremental cases.
 ghost use mathlib.Core.Path.{_≡_};
-ghost use Rattle.dictionary.specs.Core.{Settable, Decided, Left};
+ghost use Rattle.layout.specs.Layout.{header-of};
+ghost use Rattle.gateway.specs.Loading.{LoadedSet};
+ghost use Rattle.dictionary.specs.Core.{Settable, with-count, Decided, AfterLoad, Left};
 ghost use Rattle.outcome.specs.Outcome.{change-outcome, check-outcome};
 ghost use Rattle.outcome.specs.declared.Change.the-variants.{Insert, Remove};
 use access::MAX_TIER;
+use gateway::Loaded;
+use gateway::clear;
+use gateway::commit;
+use gateway::load;
+use gateway::refusal;
 use layout::Found;
+use layout::Header;
 use members::is_at;
 use members::look;
 use members::other_issue;
@@ -18,36 +25,43 @@ use outcome::Change;
 use refusals::BLANK_KEY;
 use refusals::KEY_ABSENT;
 use refusals::KEY_PRESENT;
-use refusals::NOT_CANONICAL;
 use refusals::OTHER_ISSUE;
 use refusals::OTHER_TIER;
 use refusals::STASH_FULL;
 use refusals::WRONG_TIER;
-use gateway::Reading;
-use gateway::clear;
-use gateway::early;
-use gateway::read_set;
-use gateway::renew;
 use words::wide;
+
+// The heading of a list that has another number of keys.
+fn with_count(heading: Header, keys: u32) -> Header
+    ensures { λ h. ⌜ h ≡ with-count heading keys ⌝ }
+{
+    Header {
+        slots: heading.slots,
+        places: heading.places,
+        keys: keys,
+        stashed: heading.stashed,
+        station: heading.station,
+    }
+}
 
 // The set of the words stands in scratch, n keys and their edges, and the key is not blank: the set with the key.
 fn insert_key(
     tabulation: &[u16],
     words: &mut [u32],
     scratch: &mut [u32],
+    heading: Header,
     n: usize,
     key: u32,
     tier: u32,
 ) -> u32
-    requires { ⌜ Settable (now tabulation) (now words) (now scratch) n key ⌝ }
+    requires { ⌜ Settable (now tabulation) (now words) (now scratch) heading n key ⌝ }
     ensures { λ a. ⌜ Decided (Insert tier) (now (tabulation .entry)) (now (words .entry)) key a (now (words .exit)) ⌝ }
 {
     if MAX_TIER < tier {
         return WRONG_TIER;
     }
-    let header = access::read_header(&*words);
-    let r = header.slots;
-    let s = header.places;
+    let r = heading.slots;
+    let s = heading.places;
     let at = place_of(&*scratch, n, key);
     if other_issue(&*scratch, n, at, key) {
         return OTHER_ISSUE;
@@ -66,30 +80,60 @@ fn insert_key(
         &mut *scratch,
         r,
         s,
-        header.station,
+        heading.station,
         n,
         at,
         key,
         tier,
     );
-    renew(&mut *words, &mut *scratch, n + 1)
+    let next = with_count(heading, heading.keys + 1);
+    commit(&mut *words, &mut *scratch, next)
 }
 
 // The set of the words stands in scratch, n keys and their edges, and the key is not blank: the set without the key.
-fn remove_key(tabulation: &[u16], words: &mut [u32], scratch: &mut [u32], n: usize, key: u32) -> u32
-    requires { ⌜ Settable (now tabulation) (now words) (now scratch) n key ⌝ }
+fn remove_key(
+    tabulation: &[u16],
+    words: &mut [u32],
+    scratch: &mut [u32],
+    heading: Header,
+    n: usize,
+    key: u32,
+) -> u32
+    requires { ⌜ Settable (now tabulation) (now words) (now scratch) heading n key ⌝ }
     ensures { λ a. ⌜ Decided Remove (now (tabulation .entry)) (now (words .entry)) key a (now (words .exit)) ⌝ }
 {
-    let header = access::read_header(&*words);
-    let r = header.slots;
-    let s = header.places;
+    let r = heading.slots;
+    let s = heading.places;
     let at = place_of(&*scratch, n, key);
     let found = look(&*scratch, r, s, n, at, key);
     let Found::Listed(_) = found else {
         return KEY_ABSENT;
     };
     take_key(&mut *scratch, r, s, n, at);
-    renew(&mut *words, &mut *scratch, n - 1)
+    let next = with_count(heading, heading.keys - 1);
+    commit(&mut *words, &mut *scratch, next)
+}
+
+// The set of the words stands in scratch: 5, or what the set decides.
+fn change_set(
+    kind: Change,
+    tabulation: &[u16],
+    words: &mut [u32],
+    scratch: &mut [u32],
+    heading: Header,
+    key: u32,
+) -> u32
+    requires { ⌜ LoadedSet (now tabulation) (now words) (now scratch) × (heading ≡ header-of (now words)) ⌝ }
+    ensures { λ a. ⌜ AfterLoad kind (now (tabulation .entry)) (now (words .entry)) key a (now (words .exit)) ⌝ }
+{
+    if tabulation::is_blank(key) {
+        return BLANK_KEY;
+    }
+    let n = wide(heading.keys);
+    match kind {
+        Change::Insert(tier) => insert_key(tabulation, &mut *words, &mut *scratch, heading, n, key, tier),
+        Change::Remove => remove_key(tabulation, &mut *words, &mut *scratch, heading, n, key),
+    }
 }
 
 // The whole of insert and remove but for the clearing of scratch.
@@ -103,20 +147,10 @@ fn change_words(
     ensures { λ a. ⌜ Left (now (tabulation .entry)) (now (words .entry)) (now (scratch .entry)) kind key a
         (now (words .exit)) ⌝ }
 {
-    let refusal = early(tabulation, &*words, scratch.len());
-    if refusal != 0 {
-        return refusal;
-    }
-    let reading = read_set(tabulation, &*words, &mut *scratch);
-    let Reading::Keys(n) = reading else {
-        return NOT_CANONICAL;
-    };
-    if tabulation::is_blank(key) {
-        return BLANK_KEY;
-    }
-    match kind {
-        Change::Insert(tier) => insert_key(tabulation, &mut *words, &mut *scratch, n, key, tier),
-        Change::Remove => remove_key(tabulation, &mut *words, &mut *scratch, n, key),
+    let loaded = load(tabulation, &*words, &mut *scratch);
+    match loaded {
+        Loaded::Set(heading) => change_set(kind, tabulation, &mut *words, &mut *scratch, heading, key),
+        Loaded::Refused(n) => n,
     }
 }
 
@@ -136,27 +170,12 @@ pub fn update(
     answer
 }
 
-// The whole of check but for the clearing of scratch.
-fn check_words(tabulation: &[u16], words: &[u32], scratch: &mut [u32]) -> u32
-    ensures { λ a. ⌜ a ≡ check-outcome (now (tabulation .entry)) (now (words .entry)) (now (scratch .entry)) .answer ⌝ }
-{
-    let refusal = early(tabulation, words, scratch.len());
-    if refusal != 0 {
-        return refusal;
-    }
-    let reading = read_set(tabulation, words, &mut *scratch);
-    let Reading::Keys(_) = reading else {
-        return NOT_CANONICAL;
-    };
-    0
-}
-
 // Check: its whole outcome. The words are only read.
 pub fn check(tabulation: &[u16], words: &[u32], scratch: &mut [u32]) -> u32
     ensures { λ n. ⌜ record { answer = n; words = now (words .entry); scratch = now (scratch .exit) }
         ≡ check-outcome (now (tabulation .entry)) (now (words .entry)) (now (scratch .entry)) ⌝ }
 {
-    let answer = check_words(tabulation, words, &mut *scratch);
+    let loaded = load(tabulation, words, &mut *scratch);
     clear(&mut *scratch);
-    answer
+    refusal(loaded)
 }

@@ -3,14 +3,14 @@
 use Prim.Native.Nat.{ℕ, _+_, _*_, _≤_, _<_}
 use mathlib.Core.Path.{_≡_, refl, sym, _∙_, ap}
 use mathlib.Core.Bool.{Bool, true, false, not, cond}
-use mathlib.Core.List.{List, [], _∷_, List·Memᴰ as In}
+use mathlib.Core.List.{List, [], _∷_, _++_, List·Memᴰ as In}
 use native.Mathlib.Omega.{arith}
 use borrow.Author.Tests.{eq-eqb, ne-eqb}
 use lib.Dec.{eqb}
 use lib.ListN.{length, take}
 use Rattle.basics.specs.Tests.{bool-ext}
 use Rattle.basics.specs.Lists.{same, same-true, true-same}
-use Rattle.refusals.specs.Refusal.{done, not-canonical, first-refusal, front-applies, front-none}
+use Rattle.refusals.specs.Refusal.{done, not-canonical, first-refusal, front-applies, front-passes, front-none}
 use Rattle.layout.specs.declared.Header.{Header}
 use Rattle.layout.specs.Layout.{Params, ValidKeys, one-issue, header-of, params-of, slots-of, places-of, station-of, shaped, fits, image, keys-in, tier-in}
 use Rattle.layout.specs.Entries.{keys-of, tiered, keys-tiered, tiered-agree, tiered-in, in-tiered}
@@ -195,7 +195,13 @@ module _ (tabulation ws before : List ℕ) where
         go : [] ≡ header-of ws ∷ [] → ⊥
         go q = let z : _≡_ {A = ℕ} 0 1 = ap length q in omega arith
 
-    -- or the heading of the words, and their set stands in scratch.
+    -- which is that of a call that tries other refusals behind 1 to 4;
+    pub refused-first : {n : ℕ} → l ≡ Refused n → (rest : List (ℕ × Bool)) → n ≡ first-refusal (first-refusals tabulation ws before ++ rest)
+    refused-first e rest =
+        let r = loaded-refused e in
+        r .0 ∙ sym (front-applies (first-refusals tabulation ws before) rest (λ q. r .1 (r .0 ∙ q)))
+
+    -- or the heading of the words, and their set stands in scratch;
     pub loaded-set : {h : Header} → l ≡ Set h → (h ≡ header-of ws) × LoadedSet tabulation ws left
     loaded-set {h} e = (heading-is, T .1 .1 passed)
       where
@@ -207,3 +213,10 @@ module _ (tabulation ws before : List ℕ) where
 
         heading-is : h ≡ header-of ws
         heading-is = cc headings-are
+
+    -- then none of 1 to 4 applies, and other refusals are tried.
+    pub loaded-passes : {h : Header} → l ≡ Set h → (rest : List (ℕ × Bool))
+        → first-refusal (first-refusals tabulation ws before ++ rest) ≡ first-refusal rest
+    loaded-passes e rest =
+        let passed : load-refusal tabulation ws before ≡ done = sym (rw e at (T .0)) in
+        front-passes (first-refusals tabulation ws before) rest (front-none (first-refusals tabulation ws before) [] passed refl)

@@ -77,6 +77,11 @@ module _ (tabulation ws scratch : List ℕ) where
     unfolding change-outcome
     change-scratch = refl
 
+  -- check answers 1 to 4 and no more
+  pub check-answer : check-outcome tabulation ws scratch .answer ≡ first-refusal (first-refusals tabulation ws scratch)
+  unfolding check-outcome
+  check-answer = refl
+
   -- "check .. never change them"
   pub check-words : check-outcome tabulation ws scratch .words ≡ ws
   unfolding check-outcome

@@ -19,26 +19,24 @@ use Rattle.cuckoo.specs.Seating.{Ends, from-a, from-b}
 use Rattle.cuckoo.specs.Places.{Seat, seat-ends, seat-occupant, occupant-seat}
 use Rattle.cuckoo.specs.Trail.{seat, seat-holds, trail-none}
 use Rattle.cuckoo.specs.Round.{path, path-none, path-step}
-use Rattle.refusals.specs.Refusal.{done, not-canonical, blank-key, key-absent, short-trail, first-refusal, front-applies}
+use Rattle.refusals.specs.Refusal.{done, blank-key, key-absent, short-trail, first-refusal}
 use Rattle.hashing.specs.Hash.{tables, blank}
 use Rattle.hashing.specs.Slots.{slot-0, slot-1, slot-0-lt, slot-1-le, slot-1-lt}
 use Rattle.layout.specs.Entries.{keys-of, keys-tiered}
-use Rattle.layout.specs.Layout.{Params, family, family-of, params-of, slots-of, station-of, image, keys-in, tier-in, set-in, key-at}
+use Rattle.layout.specs.Layout.{Params, family, family-of, header-of, params-of, slots-of, station-of, image, keys-in, tier-in, set-in, key-at}
 use Rattle.layout.specs.Canonical.{canonical, canonical-true}
 use Rattle.layout.specs.Image.{image-key}
-use Rattle.layout.specs.Shape.{shape, by-own-family}
+use Rattle.layout.specs.declared.Header.{Header}
+use Rattle.layout.specs.Shape.{shape, same-header, by-own-family}
 use Rattle.layout.specs.Standing.{keys-in-valid, not-blank}
-use Rattle.dictionary.specs.Core.{Settable, in-range}
 use Rattle.outcome.specs.declared.Traced.{Traced}
 use Rattle.outcome.specs.declared.Traced.the-variants.{Length, Refused}
-use Rattle.outcome.specs.Laws.{Ready}
 use Rattle.outcome.specs.Trail.{number, values, trail-of, trail-in, trail-refusals, trail-refusal, trail-outcome}
-use Rattle.outcome.specs.Outcome.{early-refusals}
-use Rattle.outcome.specs.TrailLaws.{trail-ready, trail-set}
-use Rattle.gateway.specs.declared.Reading.{Reading}
-use Rattle.gateway.specs.declared.Reading.the-variants.{NotCanonical}
-use Rattle.gateway.specs.Reading.{early-refusal, reading-refusal, told-tampered}
-use Rattle.gateway.specs.Reading as reading
+use Rattle.gateway.specs.declared.Loaded.{Loaded}
+use Rattle.gateway.specs.declared.Loaded.the-variants as loaded
+use Rattle.gateway.specs.Loading.{LoadedSet, loaded-refused, refused-first, loaded-passes}
+use Rattle.gateway.specs.Loading as loading
+use Rattle.gateway.specs.LoadedSet.{loaded-shape, loaded-range}
 use Rattle.walking.specs.Walk.{key-of, across, across-lt, Readable, Closed}
 use Rattle.walking.specs.Cut.{Cut, met-keys, first-visit, cut-trail}
 
@@ -222,64 +220,47 @@ module _ {tabulation ws : List ℕ} {r station : ℕ} (A : Readable tabulation w
           pub trail-count : length (trail-of P (keys-in ws) key) ≡ q
           trail-count = ap length trail-found ∙ length-take-le q (met-keys r X n) (omega (arith, D .count, D .first .inside))
 
--- a key whose set was read
-pub settable-traceable : {tabulation ws scratch : List ℕ} {n key r station : ℕ} → Settable tabulation ws scratch n key → r ≡ slots-of ws
-    → station ≡ station-of ws → Traceable tabulation ws scratch r station key
-settable-traceable {ws = ws} {key = key} Z e d =
-    let sizes = shape ws (Z .ready .shape) in
+-- a key that is not blank, where the set of the words was loaded and h is their heading
+pub loaded-traceable : {tabulation ws scratch : List ℕ} {h : Header} {key : ℕ} → LoadedSet tabulation ws scratch → h ≡ header-of ws → blank key ≡ false
+    → Traceable tabulation ws scratch (h .slots) (h .station) key
+loaded-traceable {key = key} Z e b =
+    let g = same-header e in
     record {
-      readable = record { hashing = in-range Z e refl d .0; shaped = sizes; slots = e; stationed = d };
+      readable = record { hashing = loaded-range Z e refl .0; shaped = loaded-shape Z; slots = g .slots; stationed = g .station };
       image = Z .image;
-      room = omega (arith, Z .ready .room);
-      some-key = not-blank key (Z .not-blank);
+      room = omega (arith, Z .ready .room, g .slots);
+      some-key = not-blank key b;
     }
 
--- What the set decides: 7,
+-- What a set that was loaded leads to: 5,
 module _ (tabulation ws : List ℕ) (key : ℕ) (old : List ℕ) where
   abbrev pub ToldOfSet : Traced → List ℕ → Type 0
-  ToldOfSet t new =
-      Told (first-refusal
-      ((key-absent, not (member key (keys-of (set-in tabulation ws)))) ∷ (short-trail, ltb (length old) (length (trail-in tabulation ws key))) ∷ []))
-      (trail-in tabulation ws key) old t new
+  ToldOfSet t new = Told (first-refusal (trail-refusals tabulation ws key (length old))) (trail-in tabulation ws key) old t new
 
-  pub told-absent : member key (keys-of (set-in tabulation ws)) ≡ false → ToldOfSet (Refused key-absent) old
-  told-absent m = told-refused (rw m) (λ q. omega arith)
+  pub told-blank : blank key ≡ true → ToldOfSet (Refused blank-key) old
+  told-blank b = told-refused (rw b) (λ q. omega arith)
+
+  -- 7,
+  pub told-absent : blank key ≡ false → member key (keys-of (set-in tabulation ws)) ≡ false → ToldOfSet (Refused key-absent) old
+  told-absent b m = told-refused (rw (b, m)) (λ q. omega arith)
 
   -- and then the trail: 11, or nothing.
-  pub told-listed : member key (keys-of (set-in tabulation ws)) ≡ true → {t : Traced} {new : List ℕ}
+  pub told-listed : blank key ≡ false → member key (keys-of (set-in tabulation ws)) ≡ true → {t : Traced} {new : List ℕ}
       → ToldOfTrail tabulation ws key old t new → ToldOfSet t new
-  told-listed m = told-as (rw m)
+  told-listed b m = told-as (rw (b, m))
 
--- The refusals of the call: 1 to 3,
+-- The whole call: 1 to 4, as load refuses,
 module _ (tabulation ws scratch : List ℕ) (key : ℕ) (old : List ℕ) where
   abbrev pub ToldOfCall : Traced → List ℕ → Type 0
   ToldOfCall t new = Told (trail-refusal tabulation ws scratch key (length old)) (trail-in tabulation ws key) old t new
 
-  number-is : trail-outcome tabulation ws scratch key old .number ≡ trail-refusal tabulation ws scratch key (length old)
-  unfolding trail-outcome
-  number-is = refl
+  module _ {left : List ℕ} {l : Loaded} (T : loading.Told tabulation ws scratch left l) where
+    pub told-load : {n : ℕ} → l ≡ loaded.Refused n → ToldOfCall (Refused n) old
+    unfolding trail-refusal
+    told-load e =
+        told-refused (refused-first tabulation ws scratch T e (trail-refusals tabulation ws key (length old))) (loaded-refused tabulation ws scratch T e .1)
 
-  pub told-early : {n : ℕ} → n ≡ early-refusal tabulation ws (length scratch) → (n ≡ 0 → ⊥) → ToldOfCall (Refused n) old
-  unfolding early-refusal trail-refusal
-  told-early e z =
-      told-refused (e ∙ sym (front-applies (early-refusals tabulation ws (length scratch))
-      ((not-canonical, not (canonical tabulation ws)) ∷ trail-refusals tabulation ws key (length old)) (λ q. z (e ∙ q)))) z
-
-  module _ (ready : Ready tabulation ws scratch) where
-    -- 4,
-    pub told-not-canonical : {l : Reading} → reading.number l ≡ reading-refusal tabulation ws → l ≡ NotCanonical → ToldOfCall (Refused not-canonical) old
-    told-not-canonical numbered e =
-        told-refused
-        (sym (sym number-is ∙ trail-ready tabulation ws scratch key old ready ∙ (rw (told-tampered tabulation ws numbered e)))) (λ q. omega arith)
-
-    -- 5,
-    module _ (image : canonical tabulation ws ≡ true) where
-      set-is : trail-refusal tabulation ws scratch key (length old) ≡ first-refusal (trail-refusals tabulation ws key (length old))
-      set-is = sym number-is ∙ trail-set tabulation ws scratch key old ready image
-
-      pub told-blank : blank key ≡ true → ToldOfCall (Refused blank-key) old
-      told-blank t = told-refused (sym (set-is ∙ (rw t))) (λ q. omega arith)
-
-      -- and what the set decides.
-      pub told-set : blank key ≡ false → {t : Traced} {new : List ℕ} → ToldOfSet tabulation ws key old t new → ToldOfCall t new
-      told-set b = told-as (sym (set-is ∙ (rw b)))
+    -- and what a set that was loaded leads to.
+    pub told-set : {h : Header} → l ≡ loaded.Set h → {t : Traced} {new : List ℕ} → ToldOfSet tabulation ws key old t new → ToldOfCall t new
+    unfolding trail-refusal
+    told-set e = told-as (sym (loaded-passes tabulation ws scratch T e (trail-refusals tabulation ws key (length old))))

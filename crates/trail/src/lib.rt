@@ -1,23 +1,23 @@
 // The trail of a key: why it sits where it sits. It starts with the key; each next one is the key in the last one's
-// other slot; it ends with the root of the component. The words are read as remove reads them, then a walk through them
-// finds the root and the keys on the way to it.
+// other slot; it ends with the root of the component. The words are loaded, as remove loads them, then a walk through
+// them finds the root and the keys on the way to it.
 ghost use mathlib.Core.Path.{_≡_};
-ghost use Rattle.dictionary.specs.Core.{Settable};
+ghost use Rattle.layout.specs.Layout.{header-of};
+ghost use Rattle.gateway.specs.Loading.{LoadedSet};
 ghost use Rattle.outcome.specs.Trail.{number, values, trail-outcome};
 ghost use Rattle.walking.specs.Walk.{Readable};
 ghost use Rattle.trail.specs.Traced.{seat-in, Traceable, ToldOfTrail, ToldOfSet, ToldOfCall};
 use access::key_in;
+use gateway::Loaded;
+use gateway::clear;
+use gateway::load;
+use layout::Header;
 use members::is_at;
 use members::place_of;
 use outcome::Traced;
 use refusals::BLANK_KEY;
 use refusals::KEY_ABSENT;
-use refusals::NOT_CANONICAL;
 use refusals::SHORT_TRAIL;
-use gateway::Reading;
-use gateway::clear;
-use gateway::early;
-use gateway::read_set;
 use tabulation::first_slot;
 use tabulation::second_slot;
 use walking::cut::cut;
@@ -25,6 +25,7 @@ use walking::cut::met;
 use walking::cut::write_keys;
 use walking::walk::walk;
 use words::fill;
+use words::wide;
 
 // The slot in which a key sits, if it is seated: that of table 0, if it stands there, or else that of table 1.
 fn seat_of(tabulation: &[u16], words: &[u32], r: u32, station: u32, key: u32) -> u32
@@ -68,20 +69,23 @@ fn trace(
     Traced::Length(count as u32)
 }
 
-// The set of the words stands in scratch, n keys, and the key is not blank: 7, or the trail of the key.
+// The set of the words stands in scratch: 5, 7, or the trail of the key.
 fn trace_listed(
     tabulation: &[u16],
     words: &[u32],
     scratch: &mut [u32],
-    n: usize,
+    heading: Header,
     key: u32,
     trail: &mut [u32],
 ) -> Traced
-    requires { ⌜ Settable (now tabulation) (now words) (now scratch) n key ⌝ }
+    requires { ⌜ LoadedSet (now tabulation) (now words) (now scratch) × (heading ≡ header-of (now words)) ⌝ }
     ensures { λ t. ⌜ ToldOfSet (now (tabulation .entry)) (now (words .entry)) key (now (trail .entry)) t
         (now (trail .exit)) ⌝ }
 {
-    let header = access::read_header(words);
+    if tabulation::is_blank(key) {
+        return Traced::Refused(BLANK_KEY);
+    }
+    let n = wide(heading.keys);
     let at = place_of(&*scratch, n, key);
     if !is_at(&*scratch, n, at, key) {
         return Traced::Refused(KEY_ABSENT);
@@ -90,8 +94,8 @@ fn trace_listed(
         tabulation,
         words,
         &mut *scratch,
-        header.slots,
-        header.station,
+        heading.slots,
+        heading.station,
         key,
         &mut *trail,
     )
@@ -108,18 +112,11 @@ fn trail_words(
     ensures { λ t. ⌜ ToldOfCall (now (tabulation .entry)) (now (words .entry)) (now (scratch .entry)) key
         (now (trail .entry)) t (now (trail .exit)) ⌝ }
 {
-    let refusal = early(tabulation, words, scratch.len());
-    if refusal != 0 {
-        return Traced::Refused(refusal);
+    let loaded = load(tabulation, words, &mut *scratch);
+    match loaded {
+        Loaded::Set(heading) => trace_listed(tabulation, words, &mut *scratch, heading, key, &mut *trail),
+        Loaded::Refused(n) => Traced::Refused(n),
     }
-    let reading = read_set(tabulation, words, &mut *scratch);
-    let Reading::Keys(n) = reading else {
-        return Traced::Refused(NOT_CANONICAL);
-    };
-    if tabulation::is_blank(key) {
-        return Traced::Refused(BLANK_KEY);
-    }
-    trace_listed(tabulation, words, &mut *scratch, n, key, &mut *trail)
 }
 
 // The trail of a key: its whole outcome. The words are only read.
