@@ -109,7 +109,7 @@ pub extern "C" fn pinorange_insert(
     ensures moved { λ n. ⌜ now (counters .exit) ≡ counted (now (counters .entry)) n ⌝ }
 {
     let old = *counters;
-    let new = counted::update(Change::Insert(tier), tabulation, words, scratch, key, old);
+    let new = counted::insert(tabulation, words, scratch, old, key, tier);
     *counters = new.counters;
     new.answer
 }
@@ -128,7 +128,7 @@ pub extern "C" fn pinorange_remove(
     ensures moved { λ n. ⌜ now (counters .exit) ≡ counted (now (counters .entry)) n ⌝ }
 {
     let old = *counters;
-    let new = counted::update(Change::Remove, tabulation, words, scratch, key, old);
+    let new = counted::remove(tabulation, words, scratch, old, key);
     *counters = new.counters;
     new.answer
 }
