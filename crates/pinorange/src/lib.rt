@@ -54,22 +54,22 @@ pub extern "C" fn pinorange_lookup(
 }
 
 // The stash view, as the offset and the length of the filled stretch of the stash in the lent words, two words a place.
-// Refused, both are 0: an empty stretch.
+// Refused, both are 0: an empty stretch. (`len`, since a parameter `length` would hide the list's in the contract.)
 #[no_mangle]
-pub extern "C" fn pinorange_stash(words: &[u32], offset: &mut u32, length: &mut u32) -> u32
+pub extern "C" fn pinorange_stash(words: &[u32], offset: &mut u32, len: &mut u32) -> u32
     ensures numbered { λ n. ⌜ n ≡ view-refusal (now (words .entry)) ⌝ }
     ensures placed { λ n. ⌜ now (offset .exit) ≡ offset-out (now (words .entry)) ⌝ }
-    ensures measured { λ n. ⌜ now (length .exit) ≡ length-out (now (words .entry)) ⌝ }
+    ensures measured { λ n. ⌜ now (len .exit) ≡ length-out (now (words .entry)) ⌝ }
 {
     let n = access::stash_refusal(words);
     if n != 0 {
         *offset = 0;
-        *length = 0;
+        *len = 0;
         return n;
     }
     let header = access::read_header(words);
     *offset = access::stash_start(header.slots) as u32;
-    *length = (PLACE_WIDTH * wide(header.stashed)) as u32;
+    *len = (PLACE_WIDTH * wide(header.stashed)) as u32;
     0
 }
 
