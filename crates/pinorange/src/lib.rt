@@ -88,7 +88,7 @@ pub extern "C" fn pinorange_init(
     ensures moved { λ n. ⌜ now (counters .exit) ≡ counted (now (counters .entry)) n ⌝ }
 {
     let old = *counters;
-    let new = counted::init(words, r, s, station, old);
+    let new = counting::init(words, r, s, station, old);
     *counters = new.counters;
     new.answer
 }
@@ -109,7 +109,7 @@ pub extern "C" fn pinorange_insert(
     ensures moved { λ n. ⌜ now (counters .exit) ≡ counted (now (counters .entry)) n ⌝ }
 {
     let old = *counters;
-    let new = counted::insert(tabulation, words, scratch, old, key, tier);
+    let new = counting::insert(tabulation, words, scratch, old, key, tier);
     *counters = new.counters;
     new.answer
 }
@@ -128,7 +128,7 @@ pub extern "C" fn pinorange_remove(
     ensures moved { λ n. ⌜ now (counters .exit) ≡ counted (now (counters .entry)) n ⌝ }
 {
     let old = *counters;
-    let new = counted::remove(tabulation, words, scratch, old, key);
+    let new = counting::remove(tabulation, words, scratch, old, key);
     *counters = new.counters;
     new.answer
 }

@@ -37,7 +37,8 @@ pub fn init(words: &mut [u32], r: u32, s: u32, station: u32, counters: Counters)
     with_counts(answer, counters)
 }
 
-// Insert and remove as the exported calls take their parameters.
+// Insert and remove with the parameters of the exported calls, in their order: these hand on what they get, and a walk
+// shows no more than that.
 pub fn insert(
     tabulation: &[u16],
     words: &mut [u32],
