@@ -81,7 +81,7 @@ fn run(tabulation: &[u16], words: &mut [u32], scratch: &mut [u32], r: u32, s: u3
         done: 0,
         refused: 0,
     };
-    let laid = counted::init(&mut *words, r, s, station, none);
+    let laid = counting::init(&mut *words, r, s, station, none);
     if laid.answer != 0 {
         printing::print_no_sizes();
         return;

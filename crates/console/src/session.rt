@@ -45,7 +45,7 @@ fn change(
     ensures { λ r. ⌜ r .rows .at ≤ room ⌝ }
 {
     let before = done.counters;
-    let counted = counted::update(kind, tabulation, words, scratch, key, before);
+    let counted = counting::update(kind, tabulation, words, scratch, key, before);
     let counters = counted.counters;
     let rows = printing::add_change(out, done.rows, kind, key, counted.answer);
     Done {

@@ -54,22 +54,22 @@ pub extern "C" fn pinorange_lookup(
 }
 
 // The stash view, as the offset and the length of the filled stretch of the stash in the lent words, two words a place.
-// Refused, both are 0: an empty stretch.
+// Refused, both are 0: an empty stretch. (`len`, since a parameter `length` would hide the list's in the contract.)
 #[no_mangle]
-pub extern "C" fn pinorange_stash(words: &[u32], offset: &mut u32, length: &mut u32) -> u32
+pub extern "C" fn pinorange_stash(words: &[u32], offset: &mut u32, len: &mut u32) -> u32
     ensures numbered { λ n. ⌜ n ≡ view-refusal (now (words .entry)) ⌝ }
     ensures placed { λ n. ⌜ now (offset .exit) ≡ offset-out (now (words .entry)) ⌝ }
-    ensures measured { λ n. ⌜ now (length .exit) ≡ length-out (now (words .entry)) ⌝ }
+    ensures measured { λ n. ⌜ now (len .exit) ≡ length-out (now (words .entry)) ⌝ }
 {
     let n = access::stash_refusal(words);
     if n != 0 {
         *offset = 0;
-        *length = 0;
+        *len = 0;
         return n;
     }
     let header = access::read_header(words);
     *offset = access::stash_start(header.slots) as u32;
-    *length = (PLACE_WIDTH * wide(header.stashed)) as u32;
+    *len = (PLACE_WIDTH * wide(header.stashed)) as u32;
     0
 }
 
@@ -88,7 +88,7 @@ pub extern "C" fn pinorange_init(
     ensures moved { λ n. ⌜ now (counters .exit) ≡ counted (now (counters .entry)) n ⌝ }
 {
     let old = *counters;
-    let new = counted::init(words, r, s, station, old);
+    let new = counting::init(words, r, s, station, old);
     *counters = new.counters;
     new.answer
 }
@@ -109,7 +109,7 @@ pub extern "C" fn pinorange_insert(
     ensures moved { λ n. ⌜ now (counters .exit) ≡ counted (now (counters .entry)) n ⌝ }
 {
     let old = *counters;
-    let new = counted::update(Change::Insert(tier), tabulation, words, scratch, key, old);
+    let new = counting::insert(tabulation, words, scratch, old, key, tier);
     *counters = new.counters;
     new.answer
 }
@@ -128,7 +128,7 @@ pub extern "C" fn pinorange_remove(
     ensures moved { λ n. ⌜ now (counters .exit) ≡ counted (now (counters .entry)) n ⌝ }
 {
     let old = *counters;
-    let new = counted::update(Change::Remove, tabulation, words, scratch, key, old);
+    let new = counting::remove(tabulation, words, scratch, old, key);
     *counters = new.counters;
     new.answer
 }

@@ -44,11 +44,11 @@ read w = w .before .before
 filled : (w : tie.After-wide) → w .wide .result ≡ stash-count (read w .before .before .before .before .args .words .now)
 filled w = w .wide .ensures ∙ same-header (read w .read-header .ensures) .stashed
 
-mul-length : tie.Need-mul-length
-mul-length c = omega (arith, filled c, viewed _ (accepted (read c .before)))
+mul-len : tie.Need-mul-len
+mul-len c = omega (arith, filled c, viewed _ (accepted (read c .before)))
 
-cast-length : tie.Need-cast-length
-cast-length c = omega (arith, filled c, viewed _ (accepted (read c .before)))
+cast-len : tie.Need-cast-len
+cast-len c = omega (arith, filled c, viewed _ (accepted (read c .before)))
 
 returns-2 : tie.Need-returns-2
 unfolding offset-out length-out
@@ -68,6 +68,6 @@ pinorange-stash-spec =
     stash-start-requires
     cast-offset
     wide-requires
-    mul-length
-    cast-length
+    mul-len
+    cast-len
     returns-2)

@@ -1,9 +1,9 @@
--- `counted::update` meets its contract: `update` says the answer and what is left, `with_counts` the counters.
+-- `counting::update` meets its contract: `update` says the answer and what is left, `with_counts` the counters.
 use mathlib.Core.Path.{sym, _∙_, ap}
 use borrow.Author.Needs.{needs}
 use Rattle.counters.specs.Counters.{counted}
-use Rattle.counted.proofs.update.Statement.{statement}
-use Rattle.counted.proofs.update.Tie as tie
+use Rattle.counting.proofs.update.Statement.{statement}
+use Rattle.counting.proofs.update.Tie as tie
 
 update-requires : tie.Need-update-requires
 update-requires c κs = search needs

@@ -1,9 +1,9 @@
--- `counted::init` meets its contract: `fresh` says the answer and the words, `with_counts` the counters.
+-- `counting::init` meets its contract: `fresh` says the answer and the words, `with_counts` the counters.
 use mathlib.Core.Path.{sym, _∙_, ap}
 use borrow.Author.Needs.{needs}
 use Rattle.counters.specs.Counters.{counted}
-use Rattle.counted.proofs.init.Statement.{statement}
-use Rattle.counted.proofs.init.Tie as tie
+use Rattle.counting.proofs.init.Statement.{statement}
+use Rattle.counting.proofs.init.Tie as tie
 
 fresh-requires : tie.Need-fresh-requires
 fresh-requires c κs = search needs

@@ -36,3 +36,42 @@ pub fn init(words: &mut [u32], r: u32, s: u32, station: u32, counters: Counters)
     let answer = access::fresh(words, r, s, station);
     with_counts(answer, counters)
 }
+
+// Insert and remove with the parameters of the exported calls, in their order: these hand on what they get, and a walk
+// shows no more than that.
+pub fn insert(
+    tabulation: &[u16],
+    words: &mut [u32],
+    scratch: &mut [u32],
+    counters: Counters,
+    key: u32,
+    tier: u32,
+) -> Counted
+    ensures changed { λ c. ⌜ record { answer = c .answer; words = now (words .exit); scratch = now (scratch .exit) }
+        ≡ change-outcome (Change.Insert tier) (now (tabulation .entry)) (now (words .entry)) (now (scratch .entry))
+        key ⌝ }
+    ensures moved { λ c. ⌜ c .counters ≡ counted counters (c .answer) ⌝ }
+{
+    update(
+        Change::Insert(tier),
+        tabulation,
+        words,
+        scratch,
+        key,
+        counters,
+    )
+}
+
+pub fn remove(
+    tabulation: &[u16],
+    words: &mut [u32],
+    scratch: &mut [u32],
+    counters: Counters,
+    key: u32,
+) -> Counted
+    ensures changed { λ c. ⌜ record { answer = c .answer; words = now (words .exit); scratch = now (scratch .exit) }
+        ≡ change-outcome Change.Remove (now (tabulation .entry)) (now (words .entry)) (now (scratch .entry)) key ⌝ }
+    ensures moved { λ c. ⌜ c .counters ≡ counted counters (c .answer) ⌝ }
+{
+    update(Change::Remove, tabulation, words, scratch, key, counters)
+}
