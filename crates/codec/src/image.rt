@@ -10,10 +10,10 @@ ghost use Rattle.codec.specs.Rows.{slot-alike, slot-put, place-alike, pl
 ghost use Rattle.codec.specs.Ranks.{tier-by, Ranked, Known, Chained, SlotRanks, PlaceRanks};
 ghost use Rattle.codec.specs.Ranks.{ranked-slots-alike, ranked-slots-put, ranked-places-alike};
 ghost use Rattle.codec.specs.Ranks.{ranked-places-put, ranks-alike, ranks-written};
-use access::HEADER_LENGTH;
-use access::PLACE_WIDTH;
-use access::SLOT_WIDTH;
+use layout::HEADER_LENGTH;
 use layout::Header;
+use layout::PLACE_WIDTH;
+use layout::SLOT_WIDTH;
 use words::wide;
 
 // The tier of a rank. Before the first edge stands the last held rank, which is small: so 0 has tier 0.

@@ -58,7 +58,7 @@ fn lookup(tabulation: &[u16], words: &[u32], out: &mut [u8; ROOM], key: u32, don
     requires { ⌜ done .rows .at ≤ room ⌝ }
     ensures { λ r. ⌜ r .rows .at ≤ room ⌝ }
 {
-    let found = access::lookup(tabulation, words, key);
+    let found = lookup::lookup(tabulation, words, key);
     let rows = printing::add_lookup(out, done.rows, key, found);
     let counters = done.counters;
     Done {

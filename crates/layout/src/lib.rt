@@ -1,6 +1,27 @@
-// How a dictionary lies in words, as definitions and laws, apart from the code that reads and writes them: `access` has
-// the code of lookup, the stash view and fresh words, `codec` that of whole dictionaries. A wrong definition is refused
-// in seconds here.
+// How a dictionary lies in words, as definitions and laws, with the constants and the structs that go with them. The code
+// that reads and writes words stands apart: `access` has that of the heading, slots, lengths, the shape and fresh words,
+// `lookup` that of lookup and the stash view, `codec` that of whole dictionaries. A wrong definition is refused in seconds
+// here.
+
+// The words before the slots: r, s, the number of keys, the number of stashed keys and the station number.
+pub const HEADER_LENGTH: usize = 5;
+
+// The words of a slot: its key, its next, its tier.
+pub const SLOT_WIDTH: usize = 3;
+
+// The words of a stash place: its key, its tier.
+pub const PLACE_WIDTH: usize = 2;
+
+// The largest tier.
+pub const MAX_TIER: u32 = 7;
+
+// The most places of a stash.
+pub const MAX_PLACES: u32 = 64;
+
+// The words that the largest dictionary has, and the scratch that its calls ask for: r = 1,024, s = 64.
+pub const MAX_WORDS: usize = 6277;
+
+pub const MAX_SCRATCH: usize = 12800;
 
 // The heading of a dictionary: r, s, the number of keys, the number of stashed keys and the station number.
 pub struct Header {

@@ -9,8 +9,8 @@ ghost use Rattle.layout.specs.Layout.{family-of, slots-of, station-of};
 ghost use Rattle.layout.specs.Shape.{Shaped};
 ghost use Rattle.members.specs.Edges.{small-tier, tier-found, edge-with, edge-of};
 ghost use Rattle.members.specs.Collected.{Collected, Listed};
-use access::MAX_TIER;
 use edges::pack;
+use layout::MAX_TIER;
 use parts::edges_start;
 use tabulation::first_slot;
 use tabulation::second_slot;
@@ -44,7 +44,7 @@ fn edge_found(tabulation: &[u16], words: &[u32], r: u32, station: u32, key: u32)
 {
     let first = first_slot(tabulation, r, station, key);
     let second = second_slot(tabulation, r, station, key);
-    let tier = access::tier_at(words, first, second, key);
+    let tier = lookup::tier_at(words, first, second, key);
     pack(first, second, fitting(tier))
 }
 

@@ -12,9 +12,9 @@ ghost use Rattle.outcome.specs.Sale.{sale-refusal, sale-left, closed};
 ghost use Rattle.counters.specs.Counters.{counted};
 ghost use Rattle.pinorange.specs.House.{house-answer, housed};
 ghost use Rattle.pinorange.specs.Out.{listed-out, tier-out, offset-out, length-out, count-out};
-use access::PLACE_WIDTH;
 use counters::Counters;
 use layout::Found;
+use layout::PLACE_WIDTH;
 use outcome::Change;
 use outcome::Sale;
 use outcome::Traced;
@@ -38,7 +38,7 @@ pub extern "C" fn pinorange_lookup(
     ensures priced { λ n. ⌜ now (tier .exit) ≡ tier-out (now (tabulation .entry)) (now (words .entry)) key
         (now (tier .entry)) ⌝ }
 {
-    let found = access::lookup(tabulation, words, key);
+    let found = lookup::lookup(tabulation, words, key);
     match found {
         Found::Listed(t) => {
             *listed = 1;
@@ -61,7 +61,7 @@ pub extern "C" fn pinorange_stash(words: &[u32], offset: &mut u32, len: &mut u32
     ensures placed { λ n. ⌜ now (offset .exit) ≡ offset-out (now (words .entry)) ⌝ }
     ensures measured { λ n. ⌜ now (len .exit) ≡ length-out (now (words .entry)) ⌝ }
 {
-    let n = access::stash_refusal(words);
+    let n = lookup::stash_refusal(words);
     if n != 0 {
         *offset = 0;
         *len = 0;

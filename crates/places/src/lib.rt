@@ -10,9 +10,7 @@ ghost use Rattle.refusals.specs.Refusal.{done};
 ghost use Rattle.layout.specs.Layout.{place-width, max-places, place-entries};
 ghost use Rattle.layout.specs.Answers.{number, values, looked-up};
 use layout::Found;
-
-// The words of a stash place: its key, its tier.
-pub const PLACE_WIDTH: usize = 2;
+use layout::PLACE_WIDTH;
 
 // Whether a word stands in one of two stretches of one length. All of both are looked at, a word of each in a turn, so
 // that the compiler can compare several at once.

@@ -5,8 +5,8 @@ ghost use Rattle.layout.specs.Shape.{Shaped};
 ghost use Rattle.printing.specs.Room.{room};
 use crate::ROOM;
 use crate::Rows;
-use access::PLACE_WIDTH;
-use access::SLOT_WIDTH;
+use layout::PLACE_WIDTH;
+use layout::SLOT_WIDTH;
 use layout::Slot;
 use words::wide;
 
@@ -64,7 +64,7 @@ fn list_words(words: &[u32], out: &mut [u8; ROOM], start: Rows) -> Rows
 {
     let second = list_table(access::table_0(words), 0, &mut *out, start);
     let third = list_table(access::table_1(words), 1, &mut *out, second);
-    list_stash(access::stash(words), &mut *out, third)
+    list_stash(lookup::stash(words), &mut *out, third)
 }
 
 // Words that do not have the shape of a dictionary have no listing.

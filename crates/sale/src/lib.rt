@@ -9,9 +9,9 @@ ghost use Rattle.layout.specs.Entries.{max-tier};
 ghost use Rattle.outcome.specs.Sale.{number, values, base-in-range, step-in-range, all-in-range};
 ghost use Rattle.outcome.specs.Sale.{sale-refusal, sale-values, sale-left, closed};
 ghost use Rattle.sale.specs.Priced.{price-or-0, tier-refusal, tier-values};
-use access::MAX_TIER;
-use access::lookup_beside;
 use layout::Found;
+use layout::MAX_TIER;
+use lookup::lookup_within;
 use outcome::Opened;
 use outcome::Sale;
 use refusals::KEY_ABSENT;
@@ -116,7 +116,7 @@ pub fn open(tabulation: &[u16], words: &[u32], key: u32, base: u32, steps: &[i32
     ensures valued { λ o. ⌜ values o ≡ sale-values (now (tabulation .entry)) (now (words .entry)) key base
         (now (steps .entry)) ⌝ }
 {
-    let found = lookup_beside(tabulation, words, key);
+    let found = lookup_within(tabulation, words, key);
     let Found::Listed(tier) = found else {
         let Found::Refused(n) = found else {
             return Opened::Refused(KEY_ABSENT);

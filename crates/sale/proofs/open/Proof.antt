@@ -10,8 +10,8 @@ use borrow.Author.Needs.{needs}
 use Rattle.sale.proofs.open.Statement.{statement}
 use Rattle.sale.proofs.open.Tie as tie
 
-lookup-beside-requires : tie.Need-lookup-beside-requires
-lookup-beside-requires c κs = search needs
+lookup-within-requires : tie.Need-lookup-within-requires
+lookup-within-requires c κs = search needs
 
 enum-known-found : tie.Need-enum-known-found
 enum-known-found c = search needs
@@ -22,17 +22,17 @@ enum-known-found-2 c = search needs
 returns : tie.Need-returns
 returns c =
     let l = c .before .before in
-    let f = is-absent (l .lookup-beside .result)
+    let f = is-absent (l .lookup-within .result)
     (λ t q. elim (c .before .match .keys2) [ inl e ↦ omega (arith, ap (tagOf the-type) q) | inr e ↦ omega (arith, ap (tagOf the-type) q) ])
     (λ n q. elim (c .match2 .keys2) [ inl e ↦ omega (arith, ap (tagOf the-type) q) | inr e ↦ omega (arith, ap (tagOf the-type) q) ]) in
-    absent-answers _ _ _ _ _ (sym (ap values f) ∙ l .lookup-beside .ensures .1)
+    absent-answers _ _ _ _ _ (sym (ap values f) ∙ l .lookup-within .ensures .1)
 
 returns-2 : tie.Need-returns-2
 returns-2 c =
     let r = c .before in
     let l = r .before .before .before in
     let f = r .found2 .given .1 in
-    refused-answers _ _ _ _ _ (sym (ap number f) ∙ l .lookup-beside .ensures .0) (sym (ap values f) ∙ l .lookup-beside .ensures .1)
+    refused-answers _ _ _ _ _ (sym (ap number f) ∙ l .lookup-within .ensures .0) (sym (ap values f) ∙ l .lookup-within .ensures .1)
 
 open-at-requires : tie.Need-open-at-requires
 open-at-requires c κs = search needs
@@ -41,7 +41,7 @@ returns-3 : tie.Need-returns-3
 returns-3 c =
     let r = c .before .before in
     let l = r .before .before in
-    listed-answers _ _ _ _ _ (sym (ap values (r .found .given .1)) ∙ l .lookup-beside .ensures .1) (c .open-at .ensures .0) (c .open-at .ensures .1)
+    listed-answers _ _ _ _ _ (sym (ap values (r .found .given .1)) ∙ l .lookup-within .ensures .1) (c .open-at .ensures .0) (c .open-at .ensures .1)
 
 pub open-spec : {M : Type 1} → statement M
-open-spec = tie.close (tie.spec lookup-beside-requires enum-known-found enum-known-found-2 returns returns-2 open-at-requires returns-3)
+open-spec = tie.close (tie.spec lookup-within-requires enum-known-found enum-known-found-2 returns returns-2 open-at-requires returns-3)

@@ -1,12 +1,12 @@
--- `access::stash_refusal` meets its contract: the refusals in their order.
+-- `lookup::stash_refusal` meets its contract: the refusals in their order.
 use mathlib.Core.Path.{sym, _∙_}
 use native.Mathlib.Omega.{arith}
 use borrow.Author.Tests.{lt-ltb, le-ltb, not-true, not-false}
 use Rattle.layout.specs.Answers.{view-refusal}
 use Rattle.layout.specs.Shape.{shape}
 use borrow.Author.Needs.{needs}
-use Rattle.access.proofs.stash_refusal.Statement.{statement}
-use Rattle.access.proofs.stash_refusal.Tie as tie
+use Rattle.lookup.proofs.stash_refusal.Statement.{statement}
+use Rattle.lookup.proofs.stash_refusal.Tie as tie
 
 is-shaped-requires : tie.Need-is-shaped-requires
 is-shaped-requires c κs = search needs

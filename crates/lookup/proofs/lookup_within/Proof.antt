@@ -1,11 +1,11 @@
--- `access::lookup_beside` meets its contract: each `return` is the first refusal whose test holds, or what is found.
+-- `lookup::lookup_within` meets its contract: each `return` is the first refusal whose test holds, or what is found.
 use mathlib.Core.Path.{sym, _∙_}
 use borrow.Author.Tests.{eq-eqb, ne-eqb, not-true, not-false}
 use Rattle.layout.specs.Shape.{shape}
 use Rattle.layout.specs.Answers.{lookup-refusal, lookup-values}
 use borrow.Author.Needs.{needs}
-use Rattle.access.proofs.lookup_beside.Statement.{statement}
-use Rattle.access.proofs.lookup_beside.Tie as tie
+use Rattle.lookup.proofs.lookup_within.Statement.{statement}
+use Rattle.lookup.proofs.lookup_within.Tie as tie
 
 returns : tie.Need-returns
 unfolding lookup-refusal lookup-values
@@ -33,8 +33,8 @@ returns-3 c =
     let v = sym (c .before .is-blank .ensures) ∙ c .if3 .taken in
     (simp (t, u, v), simp (t, u, v))
 
-beside-requires : tie.Need-beside-requires
-beside-requires c κs =
+found-within-requires : tie.Need-found-within-requires
+found-within-requires c κs =
     let d = c .before .before in
     (search needs, shape _ (sym (d .before .is-shaped .ensures) ∙ not-false _ (d .if2 .left)))
 
@@ -46,7 +46,7 @@ returns-4 c =
     let t = eq-eqb _ _ (d .before .before .if1 .left) in
     let u = sym (d .before .is-shaped .ensures) ∙ not-false _ (d .if2 .left) in
     let v = sym (e .before .is-blank .ensures) ∙ e .if3 .left in
-    (c .beside .ensures .0 ∙ sym (simp (t, u, v)), c .beside .ensures .1 ∙ sym (simp (t, u, v)))
+    (c .found-within .ensures .0 ∙ sym (simp (t, u, v)), c .found-within .ensures .1 ∙ sym (simp (t, u, v)))
 
-pub lookup-beside-spec : {M : Type 1} → statement M
-lookup-beside-spec = tie.close (tie.spec returns is-shaped-requires returns-2 is-blank-requires returns-3 beside-requires returns-4)
+pub lookup-within-spec : {M : Type 1} → statement M
+lookup-within-spec = tie.close (tie.spec returns is-shaped-requires returns-2 is-blank-requires returns-3 found-within-requires returns-4)

@@ -1,4 +1,4 @@
--- `access::stash` meets its contract: a view that is not refused lies inside the words.
+-- `lookup::stash` meets its contract: a view that is not refused lies inside the words.
 use mathlib.Core.Path.{_≡_, sym, _∙_}
 use native.Mathlib.Nat.{add-sub-cancel-left}
 use native.Mathlib.Omega.{arith}
@@ -6,8 +6,8 @@ use borrow.Author.Tests.{eq-eqb, ne-eqb}
 use Rattle.layout.specs.Answers.{view-refusal, view-of}
 use Rattle.layout.specs.Shape.{viewed}
 use borrow.Author.Needs.{needs}
-use Rattle.access.proofs.stash.Statement.{statement}
-use Rattle.access.proofs.stash.Tie as tie
+use Rattle.lookup.proofs.stash.Statement.{statement}
+use Rattle.lookup.proofs.stash.Tie as tie
 
 stash-refusal-requires : tie.Need-stash-refusal-requires
 stash-refusal-requires c κs = search needs

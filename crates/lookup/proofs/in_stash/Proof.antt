@@ -1,11 +1,11 @@
--- `access::in_stash` meets its contract: the stash lies inside words of the right shape.
+-- `lookup::in_stash` meets its contract: the stash lies inside words of the right shape.
 use mathlib.Core.Path.{_∙_, ap}
 use Rattle.layout.specs.Layout.{stash-at}
 use Rattle.layout.specs.Shape.{same-header}
 use borrow.Author.Needs.{needs}
-use Rattle.access.specs.Found.{found-stash}
-use Rattle.access.proofs.in_stash.Statement.{statement}
-use Rattle.access.proofs.in_stash.Tie as tie
+use Rattle.lookup.specs.Found.{found-stash}
+use Rattle.lookup.proofs.in_stash.Statement.{statement}
+use Rattle.lookup.proofs.in_stash.Tie as tie
 
 read-header-requires : tie.Need-read-header-requires
 read-header-requires c κs = search needs

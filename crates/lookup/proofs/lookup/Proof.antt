@@ -1,4 +1,4 @@
--- `access::lookup` meets its contract: each `return` is the first refusal whose test holds, or where the key is found.
+-- `lookup::lookup` meets its contract: each `return` is the first refusal whose test holds, or where the key is found.
 use mathlib.Core.Path.{_≡_, sym, _∙_, ap}
 use mathlib.Core.Bool.{true}
 use mathlib.Core.Logic.{inl, inr}
@@ -9,10 +9,10 @@ use Rattle.layout.specs.Layout.{shaped}
 use Rattle.layout.specs.Shape.{shape}
 use Rattle.layout.specs.Answers.{lookup-refusal, lookup-values}
 use Rattle.layout.proofs.Found.{the-type}
-use Rattle.access.specs.Found.{slots-first, slots-absent}
+use Rattle.lookup.specs.Found.{slots-first, slots-absent}
 use borrow.Author.Needs.{needs}
-use Rattle.access.proofs.lookup.Statement.{statement}
-use Rattle.access.proofs.lookup.Tie as tie
+use Rattle.lookup.proofs.lookup.Statement.{statement}
+use Rattle.lookup.proofs.lookup.Tie as tie
 
 returns : tie.Need-returns
 unfolding lookup-refusal lookup-values

@@ -1,4 +1,4 @@
--- `access::in_slots` meets its contract: both slots lie inside words of the right shape, and they are looked at in this order.
+-- `lookup::in_slots` meets its contract: both slots lie inside words of the right shape, and they are looked at in this order.
 use Prim.Native.Nat.{_+_, _<_}
 use mathlib.Core.Path.{_≡_, refl, sym, _∙_}
 use native.Mathlib.Omega.{arith}
@@ -7,9 +7,9 @@ use Rattle.hashing.specs.Slots.{slot-0, slot-1, slot-0-lt, slot-1-lt}
 use Rattle.layout.specs.Shape.{by-own-family, same-header}
 use Rattle.layout.specs.Layout.{family-of, slots-of, slot-entry}
 use borrow.Author.Needs.{needs}
-use Rattle.access.specs.Found.{found-first, found-second, found-neither}
-use Rattle.access.proofs.in_slots.Statement.{statement}
-use Rattle.access.proofs.in_slots.Tie as tie
+use Rattle.lookup.specs.Found.{found-first, found-second, found-neither}
+use Rattle.lookup.proofs.in_slots.Statement.{statement}
+use Rattle.lookup.proofs.in_slots.Tie as tie
 
 read-header-requires : tie.Need-read-header-requires
 read-header-requires c κs = search needs

@@ -1,7 +1,7 @@
--- `access::in_slot` meets its contract.
+-- `lookup::in_slot` meets its contract.
 use borrow.Author.Needs.{needs}
-use Rattle.access.proofs.in_slot.Statement.{statement}
-use Rattle.access.proofs.in_slot.Tie as tie
+use Rattle.lookup.proofs.in_slot.Statement.{statement}
+use Rattle.lookup.proofs.in_slot.Tie as tie
 
 key-in-requires : tie.Need-key-in-requires
 key-in-requires c κs = search needs

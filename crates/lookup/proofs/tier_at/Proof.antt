@@ -1,8 +1,8 @@
--- `access::tier_at` meets its contract: one of the two slots has the key, or it is looked for in the stash.
+-- `lookup::tier_at` meets its contract: one of the two slots has the key, or it is looked for in the stash.
 use borrow.Author.Needs.{needs}
-use Rattle.access.specs.Found.{tier-chosen, tier-passed}
-use Rattle.access.proofs.tier_at.Statement.{statement}
-use Rattle.access.proofs.tier_at.Tie as tie
+use Rattle.lookup.specs.Found.{tier-chosen, tier-passed}
+use Rattle.lookup.proofs.tier_at.Statement.{statement}
+use Rattle.lookup.proofs.tier_at.Tie as tie
 
 in-slot-requires : tie.Need-in-slot-requires
 in-slot-requires c κs = search needs

@@ -1,4 +1,4 @@
--- `access::beside` meets its contract: both slots lie inside words of the right shape; one of them has the key, or it is looked for in the stash.
+-- `lookup::found_within` meets its contract: both slots lie inside words of the right shape; one of them has the key, or it is looked for in the stash.
 use Prim.Native.Nat.{_+_, _<_}
 use mathlib.Core.Path.{_≡_, refl, _∙_}
 use native.Mathlib.Omega.{arith}
@@ -6,9 +6,9 @@ use Rattle.hashing.specs.Slots.{slot-0, slot-1, slot-0-lt, slot-1-lt}
 use Rattle.layout.specs.Shape.{by-own-family, same-header}
 use Rattle.layout.specs.Layout.{family-of, slots-of}
 use borrow.Author.Needs.{needs}
-use Rattle.access.specs.Found.{own-listed, own-missed}
-use Rattle.access.proofs.beside.Statement.{statement}
-use Rattle.access.proofs.beside.Tie as tie
+use Rattle.lookup.specs.Found.{own-listed, own-missed}
+use Rattle.lookup.proofs.found_within.Statement.{statement}
+use Rattle.lookup.proofs.found_within.Tie as tie
 
 read-header-requires : tie.Need-read-header-requires
 read-header-requires c κs = search needs
@@ -83,8 +83,8 @@ returns-2 c =
           (a .tabulation .now) (first-is d) (second-is d) (c .before .if1 .left),
     )
 
-pub beside-spec : {M : Type 1} → statement M
-beside-spec =
+pub found-within-spec : {M : Type 1} → statement M
+found-within-spec =
     tie.close
     (tie.spec
     read-header-requires

@@ -1,2 +1,0 @@
--- What the proofs of `access` cite beside the laws of `layout`: what is looked at for a key, and what is found.
-pub mod Found
