@@ -1,5 +1,5 @@
 // The console: book.bin and the lines of standard input in, rows on standard output. The grammar is that of `lines`,
-// the rows are those of `rows`, the calls those of `dictionary` and `layout`; here is only the reading and writing.
+// the rows are those of `rows`, the calls those of `counted` and `access`; here is only the reading and writing.
 mod session;
 
 ghost use Prim.Native.Nat.{_≤_};

@@ -4,7 +4,8 @@
 // The tabulation has another length.
 pub const WRONG_TABULATION: u32 = 1;
 
-// The words are not laid out as a dictionary; of the hashes of a key alone, r is outside its range.
+// The words are not laid out as a dictionary, or r, s or the station, given or in them, is outside its range; of the
+// hashes of a key alone, r or the station is.
 pub const WRONG_SHAPE: u32 = 2;
 
 // The scratch is too short.
