@@ -20,11 +20,11 @@ use layout::Found;
 use layout::Header;
 use layout::Slot;
 use places::find_place;
+use ranges::TABULATION_LENGTH;
 use refusals::BLANK_KEY;
 use refusals::NOT_CANONICAL;
 use refusals::WRONG_SHAPE;
 use refusals::WRONG_TABULATION;
-use tabulation::TABULATION_LENGTH;
 use words::fill;
 use words::wide;
 
@@ -52,14 +52,14 @@ pub const MAX_SCRATCH: usize = 12800;
 pub fn are_sizes(r: u32, s: u32) -> bool
     ensures { λ b. ⌜ b ≡ sizes-in-range r s ⌝ }
 {
-    tabulation::in_range(r) && s <= MAX_PLACES
+    ranges::in_range(r) && s <= MAX_PLACES
 }
 
 // Whether r, s and the station number are in their ranges.
 fn are_params(r: u32, s: u32, station: u32) -> bool
     ensures { λ b. ⌜ b ≡ params-in-range r s station ⌝ }
 {
-    are_sizes(r, s) && tabulation::is_station(station)
+    are_sizes(r, s) && ranges::is_station(station)
 }
 
 // The heading of words that are long enough to have one.
@@ -198,11 +198,11 @@ fn in_slots(tabulation: &[u16], words: &[u32], key: u32) -> Found
     ensures valued { λ f. ⌜ values f ≡ looked-up (own-slots (now (tabulation .entry)) (now (words .entry)) key) key ⌝ }
 {
     let header = read_header(words);
-    let first = tabulation::first_slot(tabulation, header.slots, header.station, key);
+    let first = slots::first_slot(tabulation, header.slots, header.station, key);
     if in_slot(words, first, key) {
         return Found::Listed(slot_tier(words, first));
     }
-    let second = tabulation::second_slot(tabulation, header.slots, header.station, key);
+    let second = slots::second_slot(tabulation, header.slots, header.station, key);
     if in_slot(words, second, key) {
         return Found::Listed(slot_tier(words, second));
     }
@@ -270,7 +270,7 @@ pub fn lookup(tabulation: &[u16], words: &[u32], key: u32) -> Found
     if !is_shaped(words) {
         return Found::Refused(WRONG_SHAPE);
     }
-    if tabulation::is_blank(key) {
+    if ranges::is_blank(key) {
         return Found::Refused(BLANK_KEY);
     }
     let found = in_slots(tabulation, words, key);
@@ -288,8 +288,8 @@ fn beside(tabulation: &[u16], words: &[u32], key: u32) -> Found
     ensures valued { λ f. ⌜ values f ≡ looked-up (looked-at (now (tabulation .entry)) (now (words .entry)) key) key ⌝ }
 {
     let header = read_header(words);
-    let one = tabulation::first_slot(tabulation, header.slots, header.station, key);
-    let other = tabulation::second_slot(tabulation, header.slots, header.station, key);
+    let one = slots::first_slot(tabulation, header.slots, header.station, key);
+    let other = slots::second_slot(tabulation, header.slots, header.station, key);
     let in_one = in_slot(words, one, key);
     let in_other = in_slot(words, other, key);
     if in_one | in_other {
@@ -310,7 +310,7 @@ pub fn lookup_beside(tabulation: &[u16], words: &[u32], key: u32) -> Found
     if !is_shaped(words) {
         return Found::Refused(WRONG_SHAPE);
     }
-    if tabulation::is_blank(key) {
+    if ranges::is_blank(key) {
         return Found::Refused(BLANK_KEY);
     }
     beside(tabulation, words, key)

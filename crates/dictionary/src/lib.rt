@@ -111,7 +111,7 @@ fn change_words(
     let Reading::Keys(n) = reading else {
         return NOT_CANONICAL;
     };
-    if tabulation::is_blank(key) {
+    if ranges::is_blank(key) {
         return BLANK_KEY;
     }
     match kind {

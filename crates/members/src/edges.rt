@@ -14,8 +14,8 @@ use access::MAX_TIER;
 use codec::image::TIER_UNIT;
 use forest::SLOTS;
 use parts::edges_start;
-use tabulation::first_slot;
-use tabulation::second_slot;
+use slots::first_slot;
+use slots::second_slot;
 
 fn pack(first: u32, second: u32, tier: u32) -> u32
     requires { ⌜ (first < 2048) × ((second < 2048) × (tier ≤ max-tier)) ⌝ }

@@ -16,11 +16,11 @@ use codec::collect::collect_keys;
 use layout::Header;
 use members::edges::write_edges;
 use members::one_issue;
+use ranges::TABULATION_LENGTH;
 use refusals::SHORT_SCRATCH;
 use refusals::STASH_FULL;
 use refusals::WRONG_SHAPE;
 use refusals::WRONG_TABULATION;
-use tabulation::TABULATION_LENGTH;
 use words::fill;
 
 mod built;

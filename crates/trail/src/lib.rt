@@ -18,8 +18,8 @@ use renewal::Reading;
 use renewal::clear;
 use renewal::early;
 use renewal::read_set;
-use tabulation::first_slot;
-use tabulation::second_slot;
+use slots::first_slot;
+use slots::second_slot;
 use walking::cut::cut;
 use walking::cut::met;
 use walking::cut::write_keys;
@@ -116,7 +116,7 @@ fn trail_words(
     let Reading::Keys(n) = reading else {
         return Traced::Refused(NOT_CANONICAL);
     };
-    if tabulation::is_blank(key) {
+    if ranges::is_blank(key) {
         return Traced::Refused(BLANK_KEY);
     }
     trace_listed(tabulation, words, &mut *scratch, n, key, &mut *trail)
