@@ -24,14 +24,14 @@ use words::wide;
 pub fn are_sizes(r: u32, s: u32) -> bool
     ensures { λ b. ⌜ b ≡ sizes-in-range r s ⌝ }
 {
-    tabulation::in_range(r) && s <= MAX_PLACES
+    ranges::in_range(r) && s <= MAX_PLACES
 }
 
 // Whether r, s and the station number are in their ranges.
 pub fn are_params(r: u32, s: u32, station: u32) -> bool
     ensures { λ b. ⌜ b ≡ params-in-range r s station ⌝ }
 {
-    are_sizes(r, s) && tabulation::is_station(station)
+    are_sizes(r, s) && ranges::is_station(station)
 }
 
 // The heading of words that are long enough to have one.

@@ -17,8 +17,8 @@ use layout::HEADER_LENGTH;
 use layout::PLACE_WIDTH;
 use layout::SLOT_WIDTH;
 use ordered::drop_doubles;
+use ranges::is_blank;
 use sorting::sort;
-use tabulation::is_blank;
 use words::wide;
 
 // 1 for a key, 0 for a blank word: a number, so that the end of what is gathered moves by it without a branch.

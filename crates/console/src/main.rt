@@ -1,5 +1,5 @@
-// The console: book.bin and the lines of standard input in, rows on standard output. The grammar is that of `lines`,
-// the rows are those of `rows`, the calls those of `counted` and `access`; here is only the reading and writing.
+// The console: book.bin and the lines of standard input in, rows on standard output. The forms of a line are those of
+// `lines`, the rows those of `rows`, the calls those of `counting` and `lookup`; here is only the reading and writing.
 mod session;
 
 ghost use Prim.Native.Nat.{_≤_};
@@ -9,14 +9,14 @@ ghost use Rattle.book.specs.Bytes.{entries-of};
 ghost use Rattle.layout.specs.Layout.{words-length};
 ghost use Rattle.layout.specs.Shape.{Sized};
 use counters::Counters;
+use grammar::LONGEST;
+use grammar::Line;
+use grammar::NEWLINE;
+use grammar::Sizes;
 use layout::MAX_SCRATCH;
 use layout::MAX_WORDS;
 use libc::STDIN_FILENO;
-use lines::LONGEST;
-use lines::Line;
-use lines::NEWLINE;
-use lines::Sizes;
-use tabulation::TABULATION_LENGTH;
+use ranges::TABULATION_LENGTH;
 
 // The bytes of a book.
 const BOOK_BYTES: usize = 5120;

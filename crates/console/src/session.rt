@@ -1,13 +1,13 @@
 // The lines after the first: each is answered by a row when its newline, or the end of the input, is read. Byte by byte
-// this is a `Run` of lines/specs/Stream.antt, whose law says that these are the lines of the input, and all of them,
+// this is a `Run` of grammar/specs/Stream.antt, whose law says that these are the lines of the input, and all of them,
 // unless a row cannot be written.
 ghost use Prim.Native.Nat.{_≤_};
 ghost use Rattle.printing.specs.Room.{room};
 use counters::Counters;
+use grammar::Command;
+use grammar::Line;
+use grammar::NEWLINE;
 use libc::STDIN_FILENO;
-use lines::Command;
-use lines::Line;
-use lines::NEWLINE;
 use outcome::Change;
 use printing::ROOM;
 use printing::Rows;

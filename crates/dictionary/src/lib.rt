@@ -126,7 +126,7 @@ fn change_set(
     requires { ⌜ LoadedSet (now tabulation) (now words) (now scratch) × (heading ≡ header-of (now words)) ⌝ }
     ensures { λ a. ⌜ AfterLoad kind (now (tabulation .entry)) (now (words .entry)) key a (now (words .exit)) ⌝ }
 {
-    if tabulation::is_blank(key) {
+    if ranges::is_blank(key) {
         return BLANK_KEY;
     }
     let n = wide(heading.keys);

@@ -22,7 +22,7 @@ use refusals::SHORT_SCRATCH;
 use refusals::STASH_FULL;
 use refusals::WRONG_SHAPE;
 use refusals::WRONG_TABULATION;
-use tabulation::TABULATION_LENGTH;
+use ranges::TABULATION_LENGTH;
 use words::fill;
 use words::wide;
 

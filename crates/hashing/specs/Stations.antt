@@ -129,7 +129,7 @@ module _ (old : List ℕ) (long : length old ≡ 2048) where
       same : (table i b : ℕ) → table < 2 → i < 4 → b < 256 → entry (moved old) table i b ≡ getD old (1024 * table + 256 * i + b) 0
       same zero i b t l m =
           let j : 256 * i + b < 1024 = omega arith in
-          let p : 1280 * 0 + 256 * i + b ≡ 256 * i + b = omega arith in
+          let p : entry-at 0 i b ≡ 256 * i + b = omega arith in
           let q : 256 * i + b ≡ 1024 * 0 + 256 * i + b = omega arith in
           ap (λ (k : ℕ). getD (moved old) k 0) p
           ∙ List·getD-append (take 1024 old) (replicate 256 0 ++ (take 1024 (drop 1024 old) ++ replicate 256 0)) 0 (256 * i + b) (omega (arith, first-length))
@@ -137,7 +137,7 @@ module _ (old : List ℕ) (long : length old ≡ 2048) where
           ∙ ap (λ (k : ℕ). getD old k 0) q
       same (suc zero) i b t l m =
           let j : 256 * i + b < 1024 = omega arith in
-          let p : 1280 * 1 + 256 * i + b ≡ 1024 + (256 + (256 * i + b)) = omega arith in
+          let p : entry-at 1 i b ≡ 1024 + (256 + (256 * i + b)) = omega arith in
           let q : 1024 + (256 * i + b) ≡ 1024 * 1 + 256 * i + b = omega arith in
           ap (λ (k : ℕ). getD (moved old) k 0) p ∙ half (256 * i + b)
           ∙ List·getD-append (take 1024 (drop 1024 old)) (replicate 256 0) 0 (256 * i + b) (omega (arith, second-length))
@@ -148,11 +148,11 @@ module _ (old : List ℕ) (long : length old ≡ 2048) where
 
       zeros : (table b : ℕ) → table < 2 → b < 256 → entry (moved old) table 4 b ≡ 0
       zeros zero b t m =
-          let p : 1280 * 0 + 256 * 4 + b ≡ 1024 + b = omega arith in
+          let p : entry-at 0 4 b ≡ 1024 + b = omega arith in
           ap (λ (k : ℕ). getD (moved old) k 0) p ∙ fifth b
           ∙ List·getD-append (replicate 256 0) (take 1024 (drop 1024 old) ++ replicate 256 0) 0 b (rw (length-replicate {A = ℕ} 256 0) m) ∙ getD-replicate 256 b 0 0 m
       zeros (suc zero) b t m =
-          let p : 1280 * 1 + 256 * 4 + b ≡ 1024 + (256 + (1024 + b)) = omega arith in
+          let p : entry-at 1 4 b ≡ 1024 + (256 + (1024 + b)) = omega arith in
           ap (λ (k : ℕ). getD (moved old) k 0) p ∙ half (1024 + b)
           ∙ behind (take 1024 (drop 1024 old)) (replicate 256 0) 1024 b second-length ∙ getD-replicate 256 b 0 0 m
       zeros (suc (suc k)) b t m = absurd (omega arith)

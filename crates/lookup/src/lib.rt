@@ -25,7 +25,7 @@ use refusals::BLANK_KEY;
 use refusals::NOT_CANONICAL;
 use refusals::WRONG_SHAPE;
 use refusals::WRONG_TABULATION;
-use tabulation::TABULATION_LENGTH;
+use ranges::TABULATION_LENGTH;
 use words::wide;
 
 // Whether the key stands in a slot.
@@ -43,11 +43,11 @@ fn in_slots(tabulation: &[u16], words: &[u32], key: u32) -> Found
     ensures valued { λ f. ⌜ values f ≡ looked-up (own-slots (now (tabulation .entry)) (now (words .entry)) key) key ⌝ }
 {
     let header = read_header(words);
-    let first = tabulation::first_slot(tabulation, header.slots, header.station, key);
+    let first = slots::first_slot(tabulation, header.slots, header.station, key);
     if in_slot(words, first, key) {
         return Found::Listed(slot_tier(words, first));
     }
-    let second = tabulation::second_slot(tabulation, header.slots, header.station, key);
+    let second = slots::second_slot(tabulation, header.slots, header.station, key);
     if in_slot(words, second, key) {
         return Found::Listed(slot_tier(words, second));
     }
@@ -115,7 +115,7 @@ pub fn lookup(tabulation: &[u16], words: &[u32], key: u32) -> Found
     if !is_shaped(words) {
         return Found::Refused(WRONG_SHAPE);
     }
-    if tabulation::is_blank(key) {
+    if ranges::is_blank(key) {
         return Found::Refused(BLANK_KEY);
     }
     let found = in_slots(tabulation, words, key);
@@ -133,8 +133,8 @@ fn found_within(tabulation: &[u16], words: &[u32], key: u32) -> Found
     ensures valued { λ f. ⌜ values f ≡ looked-up (looked-at (now (tabulation .entry)) (now (words .entry)) key) key ⌝ }
 {
     let header = read_header(words);
-    let one = tabulation::first_slot(tabulation, header.slots, header.station, key);
-    let other = tabulation::second_slot(tabulation, header.slots, header.station, key);
+    let one = slots::first_slot(tabulation, header.slots, header.station, key);
+    let other = slots::second_slot(tabulation, header.slots, header.station, key);
     let in_one = in_slot(words, one, key);
     let in_other = in_slot(words, other, key);
     if in_one | in_other {
@@ -155,7 +155,7 @@ pub fn lookup_within(tabulation: &[u16], words: &[u32], key: u32) -> Found
     if !is_shaped(words) {
         return Found::Refused(WRONG_SHAPE);
     }
-    if tabulation::is_blank(key) {
+    if ranges::is_blank(key) {
         return Found::Refused(BLANK_KEY);
     }
     found_within(tabulation, words, key)

@@ -12,8 +12,8 @@ ghost use Rattle.members.specs.Collected.{Collected, Listed};
 use edges::pack;
 use layout::MAX_TIER;
 use parts::edges_start;
-use tabulation::first_slot;
-use tabulation::second_slot;
+use slots::first_slot;
+use slots::second_slot;
 
 // A tier above 7, which no set has, counts as 0. Then the words are not canonical, and the comparison will say so.
 fn fitting(tier: u32) -> u32

@@ -20,7 +20,7 @@ use ordered::close_at;
 use ordered::open_at;
 use ordered::rank;
 use parts::edges_start;
-use tabulation::first_part;
+use ranges::first_part;
 
 pub mod edge_column;
 

@@ -18,8 +18,8 @@ use layout::PLACE_WIDTH;
 use outcome::Change;
 use outcome::Sale;
 use outcome::Traced;
+use ranges::TABULATION_LENGTH;
 use refusals::WRONG_TABULATION;
-use tabulation::TABULATION_LENGTH;
 use words::wide;
 
 // The tier of a key. Done, `listed` is 1 and `tier` the tier, or `listed` is 0 and `tier` stays as it was; refused,

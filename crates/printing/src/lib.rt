@@ -3,12 +3,12 @@
 ghost use Prim.Native.Nat.{_+_, _≤_};
 ghost use lib.ListN.{length};
 ghost use mathlib.Core.Path.{_≡_};
-ghost use Rattle.rows.specs.Row.{row-room};
+ghost use Rattle.grammar.specs.Row.{row-room};
 ghost use Rattle.printing.specs.Room.{room};
+use grammar::Looked;
 use layout::Found;
 use libc::STDOUT_FILENO;
 use outcome::Change;
-use rows::Looked;
 use rows::ROW_ROOM;
 
 pub mod listing;

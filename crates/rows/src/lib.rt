@@ -1,101 +1,21 @@
 // The lines that the console prints, its rows: their bytes, written into a lent slice at a position; the answer is
 // where the next row goes. Nothing is printed or allocated here. Every promise is `Written` with a definition of
-// specs/; what a number and a comma are is said once, in `lines`.
-ghost use Prim.Native.Nat.{_+_, _≤_, _<_};
-ghost use mathlib.Core.Path.{_≡_};
-ghost use mathlib.Core.List.{[], _∷_};
+// `grammar`.
+ghost use Prim.Native.Nat.{_+_, _≤_};
 ghost use lib.ListN.{length};
-ghost use Rattle.lines.specs.Decimal.{digit as Digit, decimal};
-ghost use Rattle.lines.specs.Parted.{comma};
-ghost use Rattle.rows.specs.Row.{answer-row, insert-row, remove-row, lookup-row};
-ghost use Rattle.rows.specs.Row.{error-row, slot-row, stash-row, book-row, row-room};
-ghost use Rattle.rows.specs.Written.{Written};
-use lines::COMMA;
-use lines::NEWLINE;
+ghost use Rattle.grammar.specs.Row.{answer-row, insert-row, remove-row, lookup-row};
+ghost use Rattle.grammar.specs.Row.{error-row, slot-row, stash-row, book-row, row-room};
+ghost use Rattle.writing.specs.Written.{Written};
+use grammar::COMMA;
+use grammar::Looked;
+use grammar::NEWLINE;
+use writing::put_byte;
+use writing::put_field;
+use writing::put_long;
+use writing::put_word;
 
 // Every row that is printed fits into so many bytes.
 pub const ROW_ROOM: usize = 57;
-
-// What a lookup answers: the key's tier, that it is not listed, or the number of its refusal.
-pub enum Looked {
-    Listed(u32),
-    Absent,
-    Refused(u32),
-}
-
-// One byte of output.
-fn put_byte(out: &mut [u8], at: usize, byte: u8) -> usize
-    requires { ⌜ at < length (now out) ⌝ }
-    ensures { λ next. ⌜ Written (byte ∷ []) (now (out .entry)) at (now (out .exit)) next ⌝ }
-{
-    out[at] = byte;
-    at + 1
-}
-
-// How many digits a number has.
-fn places(n: u64) -> usize
-    ensures { λ k. ⌜ k ≡ length (decimal n) ⌝ }
-{
-    let mut k = 1;
-    let mut rest = n;
-    while 9 < rest {
-        rest = rest / 10;
-        k += 1;
-    }
-    k
-}
-
-fn digit(d: u64) -> u8
-    requires { ⌜ d < 10 ⌝ }
-    ensures { λ b. ⌜ b ≡ Digit d ⌝ }
-{
-    48 + d as u8
-}
-
-// A number in decimal, from its last digit to its first.
-pub fn put_number(out: &mut [u8], at: usize, n: u64) -> usize
-    requires { ⌜ at + length (decimal n) ≤ length (now out) ⌝ }
-    ensures { λ next. ⌜ Written (decimal n) (now (out .entry)) at (now (out .exit)) next ⌝ }
-{
-    let end = at + places(n);
-    let mut i = end;
-    let mut rest = n;
-    while 9 < rest {
-        i -= 1;
-        out[i] = digit(rest % 10);
-        rest = rest / 10;
-    }
-    out[i - 1] = digit(rest);
-    end
-}
-
-// A number of 32 bits.
-fn put_word(out: &mut [u8], at: usize, n: u32) -> usize
-    requires { ⌜ at + 10 ≤ length (now out) ⌝ }
-    ensures written { λ next. ⌜ Written (decimal n) (now (out .entry)) at (now (out .exit)) next ⌝ }
-    ensures short { λ next. ⌜ next ≤ at + 10 ⌝ }
-{
-    put_number(out, at, n as u64)
-}
-
-// A number of 64 bits.
-fn put_long(out: &mut [u8], at: usize, n: u64) -> usize
-    requires { ⌜ at + 20 ≤ length (now out) ⌝ }
-    ensures written { λ next. ⌜ Written (decimal n) (now (out .entry)) at (now (out .exit)) next ⌝ }
-    ensures short { λ next. ⌜ next ≤ at + 20 ⌝ }
-{
-    put_number(out, at, n)
-}
-
-// A comma and a number of 32 bits.
-fn put_field(out: &mut [u8], at: usize, n: u32) -> usize
-    requires { ⌜ at + 11 ≤ length (now out) ⌝ }
-    ensures written { λ next. ⌜ Written (comma ∷ decimal n) (now (out .entry)) at (now (out .exit)) next ⌝ }
-    ensures short { λ next. ⌜ next ≤ at + 11 ⌝ }
-{
-    let start = put_byte(&mut *out, at, COMMA);
-    put_word(&mut *out, start, n)
-}
 
 fn put_answer(out: &mut [u8], at: usize, letter: u8, key: u32, answer: u32) -> usize
     requires { ⌜ at + row-room ≤ length (now out) ⌝ }

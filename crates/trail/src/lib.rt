@@ -18,8 +18,8 @@ use outcome::Traced;
 use refusals::BLANK_KEY;
 use refusals::KEY_ABSENT;
 use refusals::SHORT_TRAIL;
-use tabulation::first_slot;
-use tabulation::second_slot;
+use slots::first_slot;
+use slots::second_slot;
 use walking::cut::cut;
 use walking::cut::met;
 use walking::cut::write_keys;
@@ -82,7 +82,7 @@ fn trace_listed(
     ensures { λ t. ⌜ ToldOfSet (now (tabulation .entry)) (now (words .entry)) key (now (trail .entry)) t
         (now (trail .exit)) ⌝ }
 {
-    if tabulation::is_blank(key) {
+    if ranges::is_blank(key) {
         return Traced::Refused(BLANK_KEY);
     }
     let n = wide(heading.keys);

@@ -10,8 +10,8 @@ ghost use Rattle.layout.specs.Layout.{slots-of};
 ghost use Rattle.layout.specs.Shape.{Shaped};
 ghost use Rattle.walking.specs.Walk.{key-of, across, noted, run-length, Readable, New, Onward, Closed};
 use access::key_in;
-use tabulation::first_slot;
-use tabulation::second_slot;
+use slots::first_slot;
+use slots::second_slot;
 use words::wide;
 
 // The most steps of one run. A run of steps is calls in calls, which all lie on the stack, so it ends after a few of

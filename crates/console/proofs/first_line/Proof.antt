@@ -1,7 +1,7 @@
 -- `console::first_line` is safe and ends: the measure is what is left of the bytes that a line of a known form can have.
 use borrow.Author.Needs.{needs}
 use Prim.Native.Nat.{suc, _≤_, _-_}
-use Rattle.lines.specs.Command.{longest}
+use Rattle.grammar.specs.Command.{longest}
 use Rattle.console.proofs.first_line.Statement.{statement}
 use Rattle.console.proofs.first_line.Tie as tie
 

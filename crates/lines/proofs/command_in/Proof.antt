@@ -3,8 +3,8 @@ use mathlib.Core.Path.{_≡_, sym, _∙_, ap}
 use native.Mathlib.Omega.{arith}
 use lib.ListN.{length}
 use lib.Seq.{length-take-le}
-use Rattle.lines.specs.Command.{longest, command-of, command-long}
-use Rattle.lines.specs.Buffer.{held, too-many}
+use Rattle.grammar.specs.Command.{longest, command-of, command-long}
+use Rattle.grammar.specs.Buffer.{held, too-many}
 use borrow.Author.Needs.{needs}
 use Rattle.lines.proofs.command_in.Statement.{statement}
 use Rattle.lines.proofs.command_in.Tie as tie

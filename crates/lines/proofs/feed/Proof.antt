@@ -1,5 +1,5 @@
 -- `lines::feed` meets its contract: with room the byte is kept, without it only counted.
-use Rattle.lines.specs.Buffer.{holds-more, holds-over}
+use Rattle.grammar.specs.Buffer.{holds-more, holds-over}
 use borrow.Author.Needs.{needs}
 use Rattle.lines.proofs.feed.Statement.{statement}
 use Rattle.lines.proofs.feed.Tie as tie

@@ -1,5 +1,5 @@
 -- `lines::is_empty` meets its contract.
-use Rattle.lines.specs.Buffer.{same-empty}
+use Rattle.grammar.specs.Buffer.{same-empty}
 use Rattle.lines.proofs.is_empty.Statement.{statement}
 use Rattle.lines.proofs.is_empty.Tie as tie
 

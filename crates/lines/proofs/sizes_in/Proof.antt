@@ -3,9 +3,9 @@ use mathlib.Core.Path.{_≡_, sym, _∙_, ap}
 use native.Mathlib.Omega.{arith}
 use lib.ListN.{length}
 use lib.Seq.{length-take-le}
-use Rattle.lines.specs.Command.{longest}
-use Rattle.lines.specs.Sizes.{sizes-of, sizes-long}
-use Rattle.lines.specs.Buffer.{held, too-many}
+use Rattle.grammar.specs.Command.{longest}
+use Rattle.grammar.specs.Sizes.{sizes-of, sizes-long}
+use Rattle.grammar.specs.Buffer.{held, too-many}
 use borrow.Author.Needs.{needs}
 use Rattle.lines.proofs.sizes_in.Statement.{statement}
 use Rattle.lines.proofs.sizes_in.Tie as tie

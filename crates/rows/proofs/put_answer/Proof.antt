@@ -1,5 +1,5 @@
 -- `rows::put_answer` meets its contract: the row field by field.
-use Rattle.rows.specs.Written.{_then_}
+use Rattle.writing.specs.Written.{_then_}
 use borrow.Author.Needs.{needs}
 use Rattle.rows.proofs.put_answer.Statement.{statement}
 use Rattle.rows.proofs.put_answer.Tie as tie

@@ -1,6 +1,6 @@
 -- `rows::put_error` meets its contract: the row field by field.
-use Rattle.rows.specs.Written.{_then_}
-use Rattle.rows.specs.Row.{error-row}
+use Rattle.writing.specs.Written.{_then_}
+use Rattle.grammar.specs.Row.{error-row}
 use borrow.Author.Needs.{needs}
 use Rattle.rows.proofs.put_error.Statement.{statement}
 use Rattle.rows.proofs.put_error.Tie as tie

@@ -1,6 +1,6 @@
 -- `rows::put_insert` meets its contract: the row field by field.
-use Rattle.rows.specs.Written.{_then_}
-use Rattle.rows.specs.Row.{insert-row}
+use Rattle.writing.specs.Written.{_then_}
+use Rattle.grammar.specs.Row.{insert-row}
 use borrow.Author.Needs.{needs}
 use Rattle.rows.proofs.put_insert.Statement.{statement}
 use Rattle.rows.proofs.put_insert.Tie as tie

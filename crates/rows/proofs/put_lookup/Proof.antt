@@ -1,5 +1,5 @@
 -- `rows::put_lookup` meets its contract: a row for each answer.
-use Rattle.rows.specs.Row.{lookup-row}
+use Rattle.grammar.specs.Row.{lookup-row}
 use borrow.Author.Needs.{needs}
 use Rattle.rows.proofs.put_lookup.Statement.{statement}
 use Rattle.rows.proofs.put_lookup.Tie as tie

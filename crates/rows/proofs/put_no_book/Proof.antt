@@ -1,6 +1,6 @@
 -- `rows::put_no_book` meets its contract.
-use Rattle.rows.specs.Written.{_then_}
-use Rattle.rows.specs.Row.{book-row}
+use Rattle.writing.specs.Written.{_then_}
+use Rattle.grammar.specs.Row.{book-row}
 use borrow.Author.Needs.{needs}
 use Rattle.rows.proofs.put_no_book.Statement.{statement}
 use Rattle.rows.proofs.put_no_book.Tie as tie

@@ -1,6 +1,6 @@
 -- `rows::put_refused` meets its contract: the row field by field.
-use Rattle.rows.specs.Written.{_then_}
-use Rattle.rows.specs.Row.{lookup-row}
+use Rattle.writing.specs.Written.{_then_}
+use Rattle.grammar.specs.Row.{lookup-row}
 use borrow.Author.Needs.{needs}
 use Rattle.rows.proofs.put_refused.Statement.{statement}
 use Rattle.rows.proofs.put_refused.Tie as tie

@@ -1,5 +1,5 @@
 -- `rows::put_remove` meets its contract.
-use Rattle.rows.specs.Row.{remove-row}
+use Rattle.grammar.specs.Row.{remove-row}
 use borrow.Author.Needs.{needs}
 use Rattle.rows.proofs.put_remove.Statement.{statement}
 use Rattle.rows.proofs.put_remove.Tie as tie

@@ -1,6 +1,6 @@
 -- `rows::put_slot` meets its contract: the row field by field.
-use Rattle.rows.specs.Written.{_then_}
-use Rattle.rows.specs.Row.{slot-row}
+use Rattle.writing.specs.Written.{_then_}
+use Rattle.grammar.specs.Row.{slot-row}
 use borrow.Author.Needs.{needs}
 use Rattle.rows.proofs.put_slot.Statement.{statement}
 use Rattle.rows.proofs.put_slot.Tie as tie

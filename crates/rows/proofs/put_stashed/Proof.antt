@@ -1,6 +1,6 @@
 -- `rows::put_stashed` meets its contract: the row field by field.
-use Rattle.rows.specs.Written.{_then_}
-use Rattle.rows.specs.Row.{stash-row}
+use Rattle.writing.specs.Written.{_then_}
+use Rattle.grammar.specs.Row.{stash-row}
 use borrow.Author.Needs.{needs}
 use Rattle.rows.proofs.put_stashed.Statement.{statement}
 use Rattle.rows.proofs.put_stashed.Tie as tie

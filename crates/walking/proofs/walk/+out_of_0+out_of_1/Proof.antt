@@ -14,8 +14,8 @@ use Rattle.walking.proofs.walk.+out_of_0+out_of_1.Lts-out_of_0 as out-o
 use Rattle.walking.proofs.walk.out_of_1.Reads as out-of-1
 use Rattle.walking.proofs.walk.out_of_1.Kinds as out-of-1-kinds
 use Rattle.walking.proofs.walk.+out_of_0+out_of_1.Lts-out_of_1 as out-of-1-lts
-use Rattle.tabulation.proofs.first_slot.Reads as first-slot-reads
-use Rattle.tabulation.proofs.second_slot.Reads as second-slot-reads
+use Rattle.slots.proofs.first_slot.Reads as first-slot-reads
+use Rattle.slots.proofs.second_slot.Reads as second-slot-reads
 use Rattle.walking.proofs.walk.goes_on.Reads as goes-on-reads
 use Rattle.walking.proofs.walk.visit.Reads as visit-reads
 use Rattle.walking.proofs.walk.+out_of_0+out_of_1.{statement}
