@@ -47,7 +47,7 @@ module _ (a b : ℕ → ℕ) where
     pub differ : Differ (one .cycle) (two .cycle)
 
   -- c lies on a cycle, its component has more than one, and no key on any cycle of that component is larger
-  pub record Largest (R : List ℕ) (c : ℕ) : Type 0 where
+  pub record LargestOnCycle (R : List ℕ) (c : ℕ) : Type 0 where
     pub cycle : OnCycle a b R c
     pub two : TwoCycles R (a c)
     pub largest : (d : ℕ) → OnCycle a b R d → Joined a b R (a c) (a d) → d ≤ c
@@ -119,7 +119,7 @@ module _ {a b : ℕ → ℕ} where
   spare-key = (λ s. (s .cycle, two-simple s jrefl .0), λ p. every-spare (p .1) (p .0) jrefl)
 
   -- "the largest card that lies on a loop goes to the drawer": such is the key that a round takes.
-  pub goes-largest : {R : List ℕ} {c : ℕ} → Goes a b R c → Largest a b R c
+  pub goes-largest : {R : List ℕ} {c : ℕ} → Goes a b R c → LargestOnCycle a b R c
   goes-largest g = record { cycle = g .spare .cycle; two = two-simple (g .spare) jrefl .0; largest = λ d l j. g .largest d (moves (g .spare) l j) }
 
   -- Where nothing is spare:
@@ -178,7 +178,7 @@ module _ (a b : ℕ → ℕ) where
   -- "the largest card that lies on a loop goes to the drawer, and again, until one loop is left": a round ends the settling where no component
   -- has two different cycles, and takes else the largest key on a cycle of a component that has.
   pub settle-round : (n : ℕ) {R : List ℕ} → Asc R → ((settle a b (suc n) R ≡ R) × ((v : ℕ) → TwoCycles a b R v → ⊥))
-      ⊎ ((c : ℕ) × Largest a b R c × (settle a b (suc n) R ≡ settle a b n (without c R)))
+      ⊎ ((c : ℕ) × LargestOnCycle a b R c × (settle a b (suc n) R ≡ settle a b n (without c R)))
   settle-round n h = elim (round a b n h) [ stop t e ↦ inl (e, λ v. not-two t) | go-on c g e ↦ inr (c, goes-largest g, e) ]
 
   settle-cyclic : (n : ℕ) {R : List ℕ} {v : ℕ} → Asc R → Cyclic a b R v → Cyclic a b (settle a b n R) v

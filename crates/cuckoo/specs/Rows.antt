@@ -21,21 +21,21 @@ contents S v zero = []
 contents S v (suc n) = slot-key board-0 board-1 S v ∷ slot-next board-0 board-1 S v ∷ contents S (suc v) n
 
 -- a row: a set, key and next of its eight slots, and its stash
-pub record Row : Type 0 where
+pub record SlotRow : Type 0 where
   pub set : List ℕ
   pub table-0 : List ℕ
   pub table-1 : List ℕ
   pub aside : List ℕ
 
-abbrev pub follows : Row → Bool
+abbrev pub follows : SlotRow → Bool
 follows R =
     same (contents (R .set) 0 8) (R .table-0 ++ R .table-1) && same (stash board-0 board-1 (R .set)) (R .aside)
 
-abbrev pub all : List Row → Bool
+abbrev pub all : List SlotRow → Bool
 all [] = true
 all (R ∷ Rs) = follows R && all Rs
 
-abbrev rows : List Row
+abbrev rows : List SlotRow
 rows =
     -- K1: all slots empty
     record { set = []; table-0 = 0 ∷ 0 ∷ 0 ∷ 0 ∷ 0 ∷ 0 ∷ 0 ∷ 0 ∷ []; table-1 = 0 ∷ 0 ∷ 0 ∷ 0 ∷ 0 ∷ 0 ∷ 0 ∷ 0 ∷ []; aside = [] }

@@ -23,25 +23,25 @@ module _ (a b : ℕ → ℕ) where
     pub cut : Joined a b (without c X) v p → ⊥
 
   -- the key c leads from v, which Y joins to p, to w, which it does not
-  record Leads (Y : List ℕ) (p c : ℕ) : Type 0 where
+  record LeadsOut (Y : List ℕ) (p c : ℕ) : Type 0 where
     v : ℕ
     w : ℕ
     ends : Ends a b c v w
     reached : Joined a b Y p v
     fresh : Joined a b Y p w → ⊥
 
-  leads? : (Y : List ℕ) (p c : ℕ) → Leads Y p c ⊎ (joined a b Y p (a c) ≡ joined a b Y p (b c))
+  leads? : (Y : List ℕ) (p c : ℕ) → LeadsOut Y p c ⊎ (joined a b Y p (a c) ≡ joined a b Y p (b c))
   leads? Y p c = go (joined? a b Y p (a c)) (joined? a b Y p (b c))
     where
       go : Joined a b Y p (a c) ⊎ (Joined a b Y p (a c) → ⊥) → Joined a b Y p (b c) ⊎ (Joined a b Y p (b c) → ⊥)
-          → Leads Y p c ⊎ (joined a b Y p (a c) ≡ joined a b Y p (b c))
+          → LeadsOut Y p c ⊎ (joined a b Y p (a c) ≡ joined a b Y p (b c))
       go (inl x) (inl y) = inr (true-joined x ∙ sym (true-joined y))
       go (inl x) (inr m) = inl (record { v = a c; w = b c; ends = from-a refl refl; reached = x; fresh = m })
       go (inr m) (inl y) = inl (record { v = b c; w = a c; ends = from-b refl refl; reached = y; fresh = m })
       go (inr m) (inr k) = inr (false-joined m ∙ sym (false-joined k))
 
 module _ {a b : ℕ → ℕ} where
-  leads-new : {Y : List ℕ} {p c : ℕ} → Leads a b Y p c → In c Y → ⊥
+  leads-new : {Y : List ℕ} {p c : ℕ} → LeadsOut a b Y p c → In c Y → ⊥
   leads-new l i = l .fresh (jtrans (l .reached) (ends-edge (l .ends) i))
 
   ends-two : {c v w x y : ℕ} → Ends a b c v w → Ends a b c x y → (x ≡ v) ⊎ (x ≡ w)
@@ -52,7 +52,7 @@ module _ {a b : ℕ → ℕ} where
 
 module _ {a b : ℕ → ℕ} {X : List ℕ} {p : ℕ} where
   -- while a slot of the component is not reached, some key leads on
-  progress : (Y : List ℕ) {u : ℕ} → Joined a b X p u → (Joined a b Y p u → ⊥) → (c : ℕ) × In c X × Leads a b Y p c
+  progress : (Y : List ℕ) {u : ℕ} → Joined a b X p u → (Joined a b Y p u → ⊥) → (c : ℕ) × In c X × LeadsOut a b Y p c
   progress Y {u} j n =
       elim (some-or-all (leads? a b Y p) X) [
         | inl r ↦ r
@@ -81,7 +81,7 @@ module _ {a b : ℕ → ℕ} {X : List ℕ} {p : ℕ} (bare : Bare a b X p) wher
       ]
 
   -- a key that leads on from what keys of X reach has its far end there
-  leads-far : {Y : List ℕ} {c : ℕ} → Sub Y X → In c X → (l : Leads a b Y p c) → Far a b X p c (l .w)
+  leads-far : {Y : List ℕ} {c : ℕ} → Sub Y X → In c X → (l : LeadsOut a b Y p c) → Far a b X p c (l .w)
   leads-far {Y} {c} s i l = record {
     c-in = i;
     w = l .v;
@@ -113,7 +113,7 @@ module _ {a b : ℕ → ℕ} {X : List ℕ} {p : ℕ} (bare : Bare a b X p) wher
           let e = least (eqb v) Y (λ c i. both-false (eqb v (a c)) (eqb v (b c)) (not-true _ (keep-test off X i))) k in
           ne (eqb-true v p (e ∙ eq-eqb v v refl))
 
-      go : {c : ℕ} → In c X → Leads a b Y p c → (d : ℕ) × Far a b X p d v
+      go : {c : ℕ} → In c X → LeadsOut a b Y p c → (d : ℕ) × Far a b X p d v
       go {c} i l =
           elim (eq? v (l .w)) [
             | inl q ↦ (c, rw q (leads-far (λ d h. keep-in off X h) i l))
@@ -173,7 +173,7 @@ module _ {a b : ℕ → ℕ} {X : List ℕ} {p : ℕ} (bare : Bare a b X p) wher
     own-ends {c} (from-b e g) i j = rw (e, g) (elim (own c i (jtrans (rw e at j) (jsym (edge i)))) [ inl q ↦ inr q | inr q ↦ inl q ])
 
     -- a key that leads on from them would be one of them
-    leads-right : {c : ℕ} → In c X → Leads a b Y p c → ⊥
+    leads-right : {c : ℕ} → In c X → LeadsOut a b Y p c → ⊥
     leads-right {c} i l =
         let F = leads-far bare Y-in i l in
         let j = mono Y-in (l .reached) in

@@ -39,11 +39,11 @@ same-answers {P} {ws} {cs} q =
 
 -- What the next two laws need of a call of one of the five kinds: nothing is asked of the words where it stands, and
 -- nothing that it answered is fed to the model. One line for each kind of call.
-record Known (c : Call) : Type 0 where
+record KnownKind (c : Call) : Type 0 where
   stands : (ws : List ℕ) → MayStand ws c
   fed : (a a′ : Answer) → request c a ≡ request c a′
 
-known : (c : Call) → ((x : Other) → Call.other x ≡ c → ⊥) → Known c
+known : (c : Call) → ((x : Other) → Call.other x ≡ c → ⊥) → KnownKind c
 known (Call.change kind l scratch counters key) n = record { stands = λ ws. tt; fed = λ a a′. refl }
 known (Call.lookup l key) n = record { stands = λ ws. tt; fed = λ a a′. refl }
 known (Call.check l scratch) n = record { stands = λ ws. tt; fed = λ a a′. refl }

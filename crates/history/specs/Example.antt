@@ -13,8 +13,7 @@ use lib.ListN.{length, replicate, drop, getD}
 use Rattle.basics.specs.Sets.{without, below}
 use Rattle.cuckoo.specs.Graph.{label, joined, component, onCycle, cyclic, spare, settle, seated, root, sits, occupant}
 use Rattle.cuckoo.specs.Placement.{Placement}
-use Rattle.cuckoo.specs.Trail.{other, trail-from}
-use Rattle.cuckoo.specs.Trail as cuckoo-trail
+use Rattle.cuckoo.specs.Trail.{other, trail-from, trail}
 use Rattle.ordered.specs.Keys.{with-key, above}
 use Rattle.refusals.specs.Refusal.{done, stash-full}
 use Rattle.hashing.specs.Hash.{slots-in-range, station-in-range, blank, hash}
@@ -39,7 +38,7 @@ use Rattle.history.specs.History.{history}
 use Rattle.history.specs.NoTrace.{ComesToFull, step-after, NoTrace, part, alike-self, no-trace}
 use Rattle.history.specs.Sales.{opening, closing, sale-stays}
 use Rattle.history.specs.Corollaries.{same-answers}
-use Rattle.history.specs.Others.{init, reads, hashes, trail, trail-stands}
+use Rattle.history.specs.Others.{init, reads, hashes, tracing, trail-stands}
 
 -- the calls
 
@@ -64,8 +63,8 @@ abbrev says : ℕ → List ℕ → Answer
 says n values = record { number = n; values = values }
 
 -- a call of another kind that only reads the words: how many keys they say that they hold, word 2
-abbrev pub count : Call
-count = Call.other (reads (λ ws. says 0 (getD ws 2 0 ∷ [])))
+abbrev pub count-keys : Call
+count-keys = Call.other (reads (λ ws. says 0 (getD ws 2 0 ∷ [])))
 
 -- each call with its answer
 abbrev pub script : List (Call × Answer)
@@ -77,10 +76,10 @@ script =
     -- "K6 K5 plus 193: refused 8", times ten
     ∷ (insert 1930 0, says 8 [])
     -- a call of another kind that is accepted and leaves the words
-    ∷ (count, says 0 (3 ∷ []))
+    ∷ (count-keys, says 0 (3 ∷ []))
     -- two more: the trail of 650, over three words that are lent for it, is 650, 10; with one word it is refused 11
-    ∷ (Call.other (trail board-tabulation scratch 650 (8 ∷ 8 ∷ 8 ∷ [])), says 0 (2 ∷ 650 ∷ 10 ∷ 0 ∷ []))
-    ∷ (Call.other (trail board-tabulation scratch 650 (8 ∷ [])), says 11 (8 ∷ []))
+    ∷ (Call.other (tracing board-tabulation scratch 650 (8 ∷ 8 ∷ 8 ∷ [])), says 0 (2 ∷ 650 ∷ 10 ∷ 0 ∷ []))
+    ∷ (Call.other (tracing board-tabulation scratch 650 (8 ∷ [])), says 11 (8 ∷ []))
     -- a tabulation of a wrong length, a scratch of 55 words, a blank key (whatever its tier), a tier above 7 (whatever the
     -- key), another issue of a key of the set (though the stash is full), a key that is in the set with another tier, and
     -- with this one
@@ -125,8 +124,8 @@ two = record { key = 650; tier = 0 }
 abbrev three : Entry
 three = record { key = 1290; tier = 7 }
 
-abbrev pub entries : List Entry
-entries = one ∷ two ∷ three ∷ []
+abbrev pub set-K5 : List Entry
+set-K5 = one ∷ two ∷ three ∷ []
 
 abbrev pub words : List ℕ
 words =
@@ -144,8 +143,8 @@ init-more {ws} rest = more (refused (init-refused ws)) rest
 
 -- The calls that leave the words may stand anywhere.
 trail-more : {ws : List ℕ} (sheet : List ℕ) {cs : List Call}
-    → Allowed board-tabulation (step board-tabulation ws (Call.other (trail board-tabulation scratch 650 sheet)) .words) cs
-    → Allowed board-tabulation ws (Call.other (trail board-tabulation scratch 650 sheet) ∷ cs)
+    → Allowed board-tabulation (step board-tabulation ws (Call.other (tracing board-tabulation scratch 650 sheet)) .words) cs
+    → Allowed board-tabulation ws (Call.other (tracing board-tabulation scratch 650 sheet) ∷ cs)
 trail-more {ws} sheet rest = more (trail-stands board-tabulation ws scratch 650 sheet) rest
 
 may-stand : Allowed board-tabulation fresh calls
@@ -162,8 +161,8 @@ sequence = record { full-length = board-length; before = replicate 31 7; accepte
 -- what the register answers
 
 -- K5 fits and has these words,
-K5 : Shown 4 1 entries words
-K5 = board-rows (shows 4 1 entries words) (there (there (there (there (there (here refl))))))
+K5 : Shown 4 1 set-K5 words
+K5 = board-rows (shows 4 1 set-K5 words) (there (there (there (there (there (here refl))))))
 
 -- so its parts fit, too;
 fits-two : fits P (10 ∷ 650 ∷ []) ≡ true
@@ -181,21 +180,21 @@ K6 =
     (there (there (there (there (there (there (there (here refl))))))))
 
 -- and the words of K5 say its stash.
-stash-K5 : place-words (tier-of entries) (stash-of P (keys-of entries)) ≡ 1290 ∷ 7 ∷ []
+stash-K5 : place-words (tier-of set-K5) (stash-of P (keys-of set-K5)) ≡ 1290 ∷ 7 ∷ []
 unfolding view-of view-refusal shaped params-in-range sizes-in-range slots-in-range station-in-range
-stash-K5 = sym (image-view P entries (K5 .fit) refl) ∙ (rw (K5 .words-are))
+stash-K5 = sym (image-view P set-K5 (K5 .fit) refl) ∙ (rw (K5 .words-are))
 
 -- The register with set L is fed qs, replies ms, and ends with set M;
-record Goes (L : List Entry) (qs : List Request) (ms : List Reply) (M : List Entry) : Type 0 where
+record Replies (L : List Entry) (qs : List Request) (ms : List Reply) (M : List Entry) : Type 0 where
   replies : model P L qs ≡ ms
   set : set-after P L qs ≡ M
 
-stop : (L : List Entry) → Goes L [] [] L
+stop : (L : List Entry) → Replies L [] [] L
 unfolding model set-after
 stop L = record { replies = refl; set = refl }
 
 next : {L M : List Entry} {q : Request} {qs : List Request} {m : Reply} {ms : List Reply}
-    → reply P L q ≡ m → Goes (m .set) qs ms M → Goes L (q ∷ qs) (m ∷ ms) M
+    → reply P L q ≡ m → Replies (m .set) qs ms M → Replies L (q ∷ qs) (m ∷ ms) M
 unfolding model set-after
 next e g = record { replies = rw (e, g .replies); set = rw (e, g .set) }
 
@@ -203,10 +202,10 @@ abbrev to : ℕ → List ℕ → List Entry → Reply
 to n values L = record { answer = says n values; set = L }
 
 -- here the first three calls,
-goes-first : {qs : List Request} {ms : List Reply} {M : List Entry} → Goes entries qs ms M
-    → Goes []
+goes-first : {qs : List Request} {ms : List Reply} {M : List Entry} → Replies set-K5 qs ms M
+    → Replies []
     (Request.change (Insert 3) own 56 10 ∷ Request.change (Insert 0) own 56 650 ∷ Request.change (Insert 7) own 56 1290 ∷ qs)
-    (to 0 [] (one ∷ []) ∷ to 0 [] (one ∷ two ∷ []) ∷ to 0 [] entries ∷ ms)
+    (to 0 [] (one ∷ []) ∷ to 0 [] (one ∷ two ∷ []) ∷ to 0 [] set-K5 ∷ ms)
     M
 unfolding reply with-key below above blank another-issue
 goes-first g =
@@ -216,15 +215,15 @@ goes-first g =
 abbrev first-four : List Call
 first-four = insert 10 3 ∷ insert 650 0 ∷ insert 1290 7 ∷ insert 1930 0 ∷ []
 
-goes-fourth : {qs : List Request} {ms : List Reply} {M : List Entry} → Goes entries qs ms M
-    → Goes entries (Request.change (Insert 0) own 56 1930 ∷ qs) (to 8 [] entries ∷ ms) M
+goes-fourth : {qs : List Request} {ms : List Reply} {M : List Entry} → Replies set-K5 qs ms M
+    → Replies set-K5 (Request.change (Insert 0) own 56 1930 ∷ qs) (to 8 [] set-K5 ∷ ms) M
 unfolding reply with-key below above blank another-issue
 goes-fourth g = next (rw (board-length, K6 .unfit)) g
 
 four-words : words-left P fresh first-four ≡ words
 unfolding requests
 four-words =
-    let set = goes-first (goes-fourth (stop entries)) .set in
+    let set = goes-first (goes-fourth (stop set-K5)) .set in
     history (part first-four (drop 4 calls) sequence) .final .is .is ∙ (ap (image P) set ∙ K5 .words-are)
 
 count-says : getD (words-left P fresh first-four) 2 0 ≡ 3
@@ -234,7 +233,7 @@ count-says = rw four-words
 trail-says : (trail-in board-tabulation (words-left P fresh first-four) 650 ≡ 650 ∷ 10 ∷ [])
     × ((trail-refusal board-tabulation (words-left P fresh first-four) scratch 650 3 ≡ 0)
     × (trail-refusal board-tabulation (words-left P fresh first-four) scratch 650 1 ≡ 11))
-unfolding params-in-range sizes-in-range slots-in-range station-in-range blank without label joined component onCycle cyclic spare settle seated root sits occupant other trail-from cuckoo-trail.trail
+unfolding params-in-range sizes-in-range slots-in-range station-in-range blank without label joined component onCycle cyclic spare settle seated root sits occupant other trail-from trail
 trail-says =
     let p = shown-trail refl K5 scratch (omega arith) 650 refl refl refl in
     rw four-words (p .0, (p .1 3, p .1 1))
@@ -245,12 +244,12 @@ hashes-say = (refl, refl)
 
 -- and all of them. Of the second init the register is fed the refusal, of the calls that leave the words what they
 -- answered.
-goes : Goes []
+goes : Replies []
     (requests board-tabulation fresh calls)
     (to 0 [] (one ∷ [])
     ∷ to 0 [] (one ∷ two ∷ [])
-    ∷ map (λ (row : Call × Answer). record { answer = row .1; set = entries }) (drop 2 script))
-    entries
+    ∷ map (λ (row : Call × Answer). record { answer = row .1; set = set-K5 }) (drop 2 script))
+    set-K5
 unfolding requests words-after step fresh-refusal params-in-range sizes-in-range slots-in-range station-in-range reply with-key below above blank another-issue trail-outcome
 goes =
     goes-first
@@ -273,7 +272,7 @@ goes =
     (next (rw board-length)
     (next (rw board-length)
     (next (rw stash-K5)
-    (stop entries))))))))))))))))))))
+    (stop set-K5))))))))))))))))))))
 
 -- what the calls answer, through the theorem
 
@@ -282,7 +281,7 @@ pub answers-are : map (λ (o : Step). o .answer) (run board-tabulation fresh cal
 answers-are = same-answers sequence ∙ ap (map (λ (m : Reply). m .answer)) (goes .replies)
 
 -- the register ends with K5,
-pub set-is : set-left P fresh calls ≡ entries
+pub set-is : set-left P fresh calls ≡ set-K5
 set-is = goes .set
 
 -- and the words that the sequence leaves are those of K5.
@@ -298,11 +297,11 @@ leaves-no-trace = no-trace sequence
 abbrev first-three : List Call
 first-three = insert 10 3 ∷ insert 650 0 ∷ insert 1290 7 ∷ []
 
-first-set : set-left P fresh first-three ≡ entries
+first-set : set-left P fresh first-three ≡ set-K5
 unfolding requests
-first-set = goes-first (stop entries) .set
+first-set = goes-first (stop set-K5) .set
 
-comes : ComesToFull P entries own 56 1930 0
+comes : ComesToFull P set-K5 own 56 1930 0
 unfolding blank another-issue
 comes = record { right-length = rw board-length; long-enough = refl; not-blank = refl; small-tier = omega arith; no-other = refl; absent = refl }
 
@@ -331,17 +330,17 @@ other-sequence = record {
   allowed = more tt (more tt (more tt (more tt (more tt none))));
 }
 
-pub other-set : set-left P fresh other-calls ≡ entries
+pub other-set : set-left P fresh other-calls ≡ set-K5
 unfolding requests reply with-key below above blank another-issue without
 other-set =
     let last-two : fits P (650 ∷ 1290 ∷ []) ≡ true = without-fits P (K5 .valid .keys) 10 (K5 .fit) in
     let last-one : fits P (1290 ∷ []) ≡ true = without-fits P (without-valid 10 (K5 .valid .keys)) 650 last-two in
     let early : Entry = record { key = 1290; tier = 2 } in
-    let sets : List (List Entry) = (early ∷ []) ∷ (two ∷ early ∷ []) ∷ (two ∷ []) ∷ (one ∷ two ∷ []) ∷ entries ∷ [] in
-    let g : Goes [] (requests board-tabulation fresh other-calls) (map (to 0 []) sets) entries =
+    let sets : List (List Entry) = (early ∷ []) ∷ (two ∷ early ∷ []) ∷ (two ∷ []) ∷ (one ∷ two ∷ []) ∷ set-K5 ∷ [] in
+    let g : Replies [] (requests board-tabulation fresh other-calls) (map (to 0 []) sets) set-K5 =
     next (rw (board-length, last-one))
     (next (rw (board-length, last-two))
-    (next (rw board-length) (next (rw (board-length, fits-two)) (next (rw (board-length, K5 .fit)) (stop entries))))) in
+    (next (rw board-length) (next (rw (board-length, fits-two)) (next (rw (board-length, K5 .fit)) (stop set-K5))))) in
     g .set
 
 pub same-end : words-left P fresh calls ≡ words-left P fresh other-calls

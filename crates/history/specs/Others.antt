@@ -70,8 +70,8 @@ hashes F key = reads (λ ws. record { number = hashes-refusal F key; values = ha
 
 -- The trail of a key, with any tabulation, scratch and lent trail. Its values are how many keys the trail has, none if it is refused, and the words that are
 -- lent for it, as they are afterwards.
-abbrev pub trail : (tabulation scratch : List ℕ) (key : ℕ) (sheet : List ℕ) → Other
-trail tabulation scratch key sheet = record {
+abbrev pub tracing : (tabulation scratch : List ℕ) (key : ℕ) (sheet : List ℕ) → Other
+tracing tabulation scratch key sheet = record {
   answer = λ ws.
       let o = trail-outcome tabulation ws scratch key sheet in
       record { number = o .number; values = o .values ++ o .trail };
@@ -80,7 +80,7 @@ trail tabulation scratch key sheet = record {
 }
 
 -- It may stand on any words, too.
-pub trail-stands : (tabulation ws scratch : List ℕ) (key : ℕ) (sheet : List ℕ) → OtherStands ws (trail tabulation scratch key sheet)
+pub trail-stands : (tabulation ws scratch : List ℕ) (key : ℕ) (sheet : List ℕ) → OtherStands ws (tracing tabulation scratch key sheet)
 trail-stands tabulation ws scratch key sheet = unchanged (trail-words tabulation ws scratch key sheet)
 
 -- "Like arguments are equal ones, what the work sheet and the meter hold aside": two trails that differ only in what the scratch holds are like.

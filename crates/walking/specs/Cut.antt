@@ -26,8 +26,8 @@ pub record SmallestTo (K : List ℕ) (n m : ℕ) : Type 0 where
   pub met : getD K place 0 ≡ m
   pub low : (i : ℕ) → i < n → m ≤ getD K i 0
 
-abbrev pub Smallest : List ℕ → ℕ → Type 0
-Smallest K m = SmallestTo K (length K) m
+abbrev pub SmallestIn : List ℕ → ℕ → Type 0
+SmallestIn K m = SmallestTo K (length K) m
 
 -- m is the smaller of x and y
 pub record Lesser (x y m : ℕ) : Type 0 where
@@ -49,7 +49,7 @@ pub record First (K : List ℕ) (key p : ℕ) : Type 0 where
 -- The keys K are cut off after the first n: behind the first of them that is the smallest from place j on.
 pub record Cut (K : List ℕ) (j n : ℕ) : Type 0 where
   pub root : ℕ
-  pub smallest : Smallest (drop j K) root
+  pub smallest : SmallestIn (drop j K) root
   pub place : ℕ
   pub first : First K root place
   pub count : n ≡ place + 1
@@ -88,7 +88,7 @@ smallest-more {K} {n} {m} {k} S L = go (L .one)
     go (inl e) = record { place = S .place; inside = omega (arith, S .inside); met = S .met ∙ sym e; low = low }
     go (inr e) = record { place = n; inside = omega arith; met = sym e; low = low }
 
-pub smallest-all : {K : List ℕ} {n m : ℕ} → n ≡ length K → SmallestTo K n m → Smallest K m
+pub smallest-all : {K : List ℕ} {n m : ℕ} → n ≡ length K → SmallestTo K n m → SmallestIn K m
 smallest-all e S = rw (← e) S
 
 -- a key that stands among K is looked for from place i on
@@ -177,8 +177,8 @@ module _ {r n v x : ℕ} {X K : List ℕ} (M : Met r X n v) (part : K ≡ met-ke
   pub rest-some : 0 < length (midOf (x - 1) (length K - (x - 1)) K)
   rest-some = rw rest-is (simp length-drop (omega (arith, behind)))
 
-  module _ {m : ℕ} (low : Smallest (midOf (x - 1) (length K - (x - 1)) K) m) where
-    lowest : Smallest (drop (x - 1) K) m
+  module _ {m : ℕ} (low : SmallestIn (midOf (x - 1) (length K - (x - 1)) K) m) where
+    lowest : SmallestIn (drop (x - 1) K) m
     lowest = rw rest-is at low
 
     pub root-stands : Stands K m
@@ -213,7 +213,7 @@ module _ (a b : ℕ → ℕ) {T : List ℕ} (asc : Asc T) (stop : Settled a b T)
   key-at i l = met-at C i l ∙ tells i
 
   -- the smallest from place j on is the root
-  cut-root : {m : ℕ} → Smallest (drop j K) m → m ≡ root a b T (a c)
+  cut-root : {m : ℕ} → SmallestIn (drop j K) m → m ≡ root a b T (a c)
   cut-root {m} L =
       let B = back C in
       let z = root a b T (a c) in

@@ -34,11 +34,11 @@ unvisited zero X = 0
 unvisited (suc n) X = cond (eqb (getD X n 0) 0) 1 0 + unvisited n X
 
 -- scratch with slot v noted as visited after n steps, and its key
-abbrev pub noted : (r v n key : ℕ) → List ℕ → List ℕ
-noted r v n key X = set (set X v (n + 1)) (r + r + n) key
+abbrev pub with-visit : (r v n key : ℕ) → List ℕ → List ℕ
+with-visit r v n key X = set (set X v (n + 1)) (r + r + n) key
 
 -- as code writes it
-pub noted-as : {r v n i j k : ℕ} (key : ℕ) (X : List ℕ) → i ≡ v → j ≡ r → k ≡ n → set (set X i (n + 1)) (2 * j + k) key ≡ noted r v n key X
+pub noted-as : {r v n i j k : ℕ} (key : ℕ) (X : List ℕ) → i ≡ v → j ≡ r → k ≡ n → set (set X i (n + 1)) (2 * j + k) key ≡ with-visit r v n key X
 noted-as {r} {n = n} key X p q e = let f : 2 * r + n ≡ r + r + n = omega arith in rw (p, q, e, f)
 
 -- the most steps of one run, and whether a run goes on
@@ -52,14 +52,14 @@ pub not-here : {i v : ℕ} (X : List ℕ) (t : Bool) → i ≡ v → (getD X i 0
 not-here {i} {v} X t q n = rw (← q, ne-eqb (getD X i 0) 0 n)
 
 -- A walk may stand in slot v after n steps: the words are there, and as many slots are visited as steps were made.
-pub record Room (r : ℕ) (X : List ℕ) (n v : ℕ) : Type 0 where
+pub record WalkRoom (r : ℕ) (X : List ℕ) (n v : ℕ) : Type 0 where
   pub long : r + r + (r + r) ≤ length X
   pub inside : v < r + r
   pub count : n + unvisited (r + r) X ≡ r + r
 
 -- and this slot is not yet visited
 pub record New (r : ℕ) (X : List ℕ) (n v : ℕ) : Type 0 where
-  pub room : Room r X n v
+  pub room : WalkRoom r X n v
   pub fresh : getD X v 0 ≡ 0
 
 -- the slots of keys can be worked out, and the words be read, where r and the station number are the words' own
@@ -78,13 +78,13 @@ module _ (g h : ℕ → ℕ) where
 
   -- From slot v after n steps, with X, the walk went on to slot w after m steps, with Y.
   pub record Onward (r : ℕ) (X : List ℕ) (n v : ℕ) (Y : List ℕ) (m w : ℕ) : Type 0 where
-    pub room : Room r Y m w
+    pub room : WalkRoom r Y m w
     pub more : n < m
     pub walked : (u : ℕ) → Walked u r X n v → Walked u r Y m w
 
   -- The walk from slot u is over: it stands in a slot v where it was.
   pub record Closed (u r : ℕ) (X : List ℕ) (n v : ℕ) : Type 0 where
-    pub room : Room r X n v
+    pub room : WalkRoom r X n v
     pub walked : Walked u r X n v
     pub visited : getD X v 0 ≡ 0 → ⊥
 
@@ -117,26 +117,26 @@ unvisited-less (suc n) X v x l k e = elim (eq? v n) [
 ]
 
 module _ {r n v : ℕ} {X : List ℕ} (N : New r X n v) where
-  abbrev R : Room r X n v
+  abbrev R : WalkRoom r X n v
   R = N .room
 
   -- so there is room for one more
-  fewer : (key : ℕ) → n + suc (unvisited (r + r) (noted r v n key X)) ≡ r + r
+  fewer : (key : ℕ) → n + suc (unvisited (r + r) (with-visit r v n key X)) ≡ r + r
   fewer key =
       omega (arith, R .count, unvisited-less (r + r) X v n (R .inside) (omega (arith, R)) (N .fresh), unvisited-same (r + r) (set X v (n + 1)) (r + r + n) key (omega arith))
 
   pub noted-fits : n < r + r
   noted-fits = omega (arith, fewer 0)
 
-  pub unvisited-falls : (key : ℕ) → unvisited (r + r) (noted r v n key X) < unvisited (r + r) X
+  pub unvisited-falls : (key : ℕ) → unvisited (r + r) (with-visit r v n key X) < unvisited (r + r) X
   unvisited-falls key = omega (arith, R .count, fewer key)
 
-  pub noted-room : (key w : ℕ) → w < r + r → Room r (noted r v n key X) (n + 1) w
+  pub noted-room : (key w : ℕ) → w < r + r → WalkRoom r (with-visit r v n key X) (n + 1) w
   noted-room key w l = record { long = simp length-set (omega (arith, R .long)); inside = l; count = omega (arith, fewer key) }
 
   -- A step: slot v is noted with its key, and the walk goes on.
   module _ (g h : ℕ → ℕ) {key w : ℕ} (held : key ≡ h v) (on : w ≡ g v) (inside : w < r + r) where
-    step-walked : (u : ℕ) → Walked g h u r X n v → Walked g h u r (noted r v n key X) (n + 1) w
+    step-walked : (u : ℕ) → Walked g h u r X n v → Walked g h u r (with-visit r v n key X) (n + 1) w
     step-walked u W =
         let two : v < length X = omega (arith, R) in
         let back : r + r + n < length (set X v (n + 1)) = simp length-set (omega (arith, R, noted-fits)) in
@@ -159,7 +159,7 @@ module _ {r n v : ℕ} {X : List ℕ} (N : New r X n v) where
           ];
         }
 
-    pub step-onward : Onward g h r X n v (noted r v n key X) (n + 1) w
+    pub step-onward : Onward g h r X n v (with-visit r v n key X) (n + 1) w
     step-onward = record { room = noted-room key w inside; more = omega arith; walked = step-walked }
 
 -- one stretch of the walk after another
@@ -168,17 +168,17 @@ onward-then A B = record { room = B .room; more = omega (arith, A .more, B .more
 
 -- the start, over zeros
 pub walk-start : (g h : ℕ → ℕ) {r v k : ℕ} {X : List ℕ} → X ≡ replicate k 0 → r + r + (r + r) ≤ k → v < r + r
-    → Room r X 0 v × Walked g h v r X 0 v
+    → WalkRoom r X 0 v × Walked g h v r X 0 v
 walk-start g h {r} {v} {k} e l i = rw e (
   record { long = simp length-replicate l; inside = i; count = omega (arith, unvisited-zeros (r + r) k (omega arith)) },
   record { at = sym (path-none g v); visits = λ w m. inl (zeros-at k w (omega arith)); keys = λ i m. absurd (omega arith) },
 )
 
 -- whether the slot, at which code looks by an index, is new, or the walk is over
-pub new-here : {r n v i : ℕ} {X : List ℕ} → Room r X n v → i ≡ v → getD X i 0 ≡ 0 → New r X n v
+pub new-here : {r n v i : ℕ} {X : List ℕ} → WalkRoom r X n v → i ≡ v → getD X i 0 ≡ 0 → New r X n v
 new-here room q e = record { room = room; fresh = rw (← q) e }
 
-pub closed-here : {g h : ℕ → ℕ} {u r n v i : ℕ} {X : List ℕ} → Room r X n v → Walked g h u r X n v → i ≡ v → (getD X i 0 ≡ 0 → ⊥)
+pub closed-here : {g h : ℕ → ℕ} {u r n v i : ℕ} {X : List ℕ} → WalkRoom r X n v → Walked g h u r X n v → i ≡ v → (getD X i 0 ≡ 0 → ⊥)
     → Closed g h u r X n v
 closed-here room walked q e = record { room = room; walked = walked; visited = rw (← q) e }
 
@@ -213,7 +213,7 @@ pub record Stepped (tabulation ws : List ℕ) (r : ℕ) (X : List ℕ) (n v : �
   pub small : n + 1 ≤ 2048
 
 pub stepped : {tabulation ws : List ℕ} {r station n v key w : ℕ} {X Y : List ℕ} → Readable tabulation ws r station → New r X n v → key ≡ key-of ws v
-    → Y ≡ noted r v n key X → w ≡ across tabulation ws v → Stepped tabulation ws r X n v Y w
+    → Y ≡ with-visit r v n key X → w ≡ across tabulation ws v → Stepped tabulation ws r X n v Y w
 stepped {tabulation} {ws} {r} {v = v} {key} {w} A N held e on =
     let l : w < r + r = rw on (across-lt A v) in
     rw e (record {
@@ -223,6 +223,6 @@ stepped {tabulation} {ws} {r} {v = v} {key} {w} A N held e on =
     })
 
 -- A run that goes on is in a slot that is not yet visited.
-pub goes-new : {r n v : ℕ} {Y : List ℕ} {t : Bool} → Room r Y n v → t ≡ true → t ≡ (eqb (getD Y v 0) 0 && not (eqb (n % run-length) 0)) → New r Y n v
+pub goes-new : {r n v : ℕ} {Y : List ℕ} {t : Bool} → WalkRoom r Y n v → t ≡ true → t ≡ (eqb (getD Y v 0) 0 && not (eqb (n % run-length) 0)) → New r Y n v
 goes-new {n = n} {v} {Y} room on e =
     record { room = room; fresh = eqb-true (getD Y v 0) 0 (and-true (eqb (getD Y v 0) 0) (not (eqb (n % run-length) 0)) (sym e ∙ on) .0) }

@@ -4,7 +4,7 @@ ghost use mathlib.Core.Path.{_≡_};
 ghost use mathlib.Core.List.{_++_};
 ghost use Prim.Native.Nat.{_-_, _≤_, _<_};
 ghost use lib.ListN.{length, drop, replicate};
-ghost use Rattle.walking.specs.Cut.{Lesser, Smallest, Stands, First, Cut, Stretch, Met, met-keys, first-visit};
+ghost use Rattle.walking.specs.Cut.{Lesser, SmallestIn, Stands, First, Cut, Stretch, Met, met-keys, first-visit};
 use words::fill;
 use words::wide;
 
@@ -21,7 +21,7 @@ fn lesser(x: u32, y: u32) -> u32
 // The smallest of some keys.
 fn smallest(keys: &[u32]) -> u32
     requires { ⌜ 0 < length (now keys) ⌝ }
-    ensures { λ m. ⌜ Smallest (now (keys .entry)) m ⌝ }
+    ensures { λ m. ⌜ SmallestIn (now (keys .entry)) m ⌝ }
 {
     let mut least = keys[0];
     let mut i = 1;

@@ -8,7 +8,7 @@ ghost use lib.ListN.{length, getD, replicate};
 ghost use Rattle.hashing.specs.Hash.{Hashing};
 ghost use Rattle.layout.specs.Layout.{slots-of};
 ghost use Rattle.layout.specs.Shape.{Shaped};
-ghost use Rattle.walking.specs.Walk.{key-of, across, noted, run-length, Readable, New, Onward, Closed};
+ghost use Rattle.walking.specs.Walk.{key-of, across, with-visit, run-length, Readable, New, Onward, Closed};
 use access::key_in;
 use slots::first_slot;
 use slots::second_slot;
@@ -28,7 +28,7 @@ pub struct Stand {
 fn visit(words: &[u32], scratch: &mut [u32], r: u32, slot: u32, steps: u32) -> u32
     requires { ⌜ (Shaped (now words) × (r ≡ slots-of (now words))) × New r (now scratch) steps slot ⌝ }
     ensures held { λ c. ⌜ c ≡ key-of (now (words .entry)) slot ⌝ }
-    ensures marked { λ c. ⌜ now (scratch .exit) ≡ noted r slot steps c (now (scratch .entry)) ⌝ }
+    ensures marked { λ c. ⌜ now (scratch .exit) ≡ with-visit r slot steps c (now (scratch .entry)) ⌝ }
 {
     let key = key_in(words, slot);
     scratch[wide(slot)] = steps + 1;

@@ -2,7 +2,7 @@
 use Prim.Native.Nat.{_+_, _-_}
 use mathlib.Core.Path.{_≡_, refl, _∙_}
 use lib.ListN.{length}
-use Rattle.walking.specs.Walk.{key-of, across, Room, Walked, walk-start, new-here, closed-here}
+use Rattle.walking.specs.Walk.{key-of, across, WalkRoom, Walked, walk-start, new-here, closed-here}
 use borrow.Author.Needs.{needs}
 use Rattle.walking.proofs.walk.walk.Statement.{statement}
 use Rattle.walking.proofs.walk.walk.Tie as tie
@@ -10,7 +10,7 @@ use Rattle.walking.proofs.walk.walk.Tie as tie
 abbrev Inv-loop : tie.InvT-loop
 Inv-loop tabulation words scratch₀ r station start slot₀ steps₀ scratch slot steps =
     (length scratch ≡ length scratch₀)
-    × (Room r scratch steps slot × Walked (across tabulation words) (key-of words) start r scratch steps slot)
+    × (WalkRoom r scratch steps slot × Walked (across tabulation words) (key-of words) start r scratch steps slot)
 
 abbrev μ-loop : tie.MeasureT-loop
 μ-loop tabulation words scratch₀ r station start slot₀ steps₀ scratch slot steps = r + r - steps
