@@ -4,9 +4,9 @@
 # enum that a text cites, as far as the kit's library. Proofs are not followed: of a law only its statement counts, of a
 # definition its declaration and its body.
 #
-# Prints, parted by tabs, a file, its definitions in their order, and how many lines these have that are not blank and no
-# comment; with why=1, 'file name cites file name' instead. Fails if a root is declared nowhere or twice, and if a text has
-# a name that is neither bound in it, nor declared in its file, nor imported there.
+# Prints, parted by tabs, a file, its definitions in their order, and how many lines these have that are not blank and
+# no comment; with why=1, 'file name cites file name' instead. Fails if a root is declared nowhere or twice, and if a
+# text has a name that is neither bound in it, nor declared in its file, nor imported there.
 BEGIN {
     n = split("pub abbrev unfoldable record data where let in elim module as Type Unit now ensures fn extern mut " \
         "struct enum u16 u32 i32", words, " ")
@@ -25,7 +25,8 @@ function place(path,   crate) {
     return path ~ /^declared\./ ? "code of " crate : "crates/" crate "/specs/" path ".antt"
 }
 
-# `PATH.{name, name as other}` and `PATH as other`, of a line that begins with `use`. An operator is used without its `_`.
+# `PATH.{name, name as other}` and `PATH as other`, of a line that begins with `use`. An operator is used without its
+# `_`.
 function import(line,   path, n, i, item, part) {
     sub(/;$/, "", line)
     if (line !~ /\{/) {
@@ -44,8 +45,8 @@ function import(line,   path, n, i, item, part) {
     }
 }
 
-# A declaration: a definition, type, law, contract or section (`module _`). Its text is kept in pieces, the statement and
-# each clause, because what a clause binds is bound in it alone.
+# A declaration: a definition, type, law, contract or section (`module _`). Its text is kept in pieces, the statement
+# and each clause, because what a clause binds is bound in it alone.
 function declare(name, kind) {
     here = ++declared
     name_of[here] = name
@@ -97,7 +98,8 @@ FILENAME ~ /\.rt$/ {
     next
 }
 
-# Specs. What stands deeper than the last declaration goes on with it; what stands as deep is a clause of it, or another.
+# Specs. What stands deeper than the last declaration goes on with it; what stands as deep is a clause of it, or
+# another.
 /^ *(--.*)?$/ || /^pub mod / { next }
 /^use / { import(substr($0, 5)); next }
 {
@@ -134,8 +136,8 @@ FILENAME ~ /\.rt$/ {
 # What is believed is followed when all files have been read.
 function believe(d) { if (!believed[d]++) queue[++queued] = d }
 
-# The declarations that a name means in a file, at declaration d; of several in the file the last one before d. None, and
-# `found`, where it comes from the library or is a variant of an enum, which is cited by its own name beside it.
+# The declarations that a name means in a file, at declaration d; of several in the file the last one before d. None,
+# and `found`, where it comes from the library or is a variant of an enum, which is cited by its own name beside it.
 function meaning(file, name, d,   n, i, several, all, item, part) {
     found = 1
     if ((file, name) in known) {

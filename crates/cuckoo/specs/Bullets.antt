@@ -24,7 +24,7 @@ pub record InOne (f : ℕ → ℕ) (c : ℕ) : Type 0 where
 
 module _ (a b : ℕ → ℕ) (T : List ℕ) where
   -- z is the smallest key of its component
-  pub record SmallestOfComponent (z : ℕ) : Type 0 where
+  pub record SmallestOf (z : ℕ) : Type 0 where
     pub z-in : In z T
     pub low : (d : ℕ) → In d T → Joined a b T (a z) (a d) → z ≤ d
 
@@ -52,7 +52,7 @@ module _ (a b : ℕ → ℕ) (T : List ℕ) where
   -- The seating f obeys the bullets for the keys of T: the first in each component without a cycle, the second in each with one.
   pub record Obeys (f : ℕ → ℕ) : Type 0 where
     pub holds : AtEnds f
-    pub tree : (z : ℕ) → SmallestOfComponent z → (Cyclic a b T (a z) → ⊥) → TreeBullet f z
+    pub tree : (z : ℕ) → SmallestOf z → (Cyclic a b T (a z) → ⊥) → TreeBullet f z
     pub cycle : (z : ℕ) → SmallestOnCycle z → CycleBullet f z
 
   holds-at : {f : ℕ → ℕ} {v c : ℕ} → AtEnds f → (c ≡ 0 → ⊥) → f v ≡ c → (v ≡ a c) ⊎ (v ≡ b c)
@@ -91,7 +91,7 @@ module _ (a b : ℕ → ℕ) (T : List ℕ) where
         ]
 
     -- If it has keys and no cycle, the root is its smallest key.
-    pub root-tree : {v c : ℕ} → In c T → Joined a b T v (a c) → (Cyclic a b T v → ⊥) → SmallestOfComponent (root a b T v) × Joined a b T v (a (root a b T v))
+    pub root-tree : {v c : ℕ} → In c T → Joined a b T v (a c) → (Cyclic a b T v → ⊥) → SmallestOf (root a b T v) × Joined a b T v (a (root a b T v))
     root-tree {v} i j n =
         elim (root-picked i j) [
           | passes k t low ↦ absurd (n (record { d = root a b T v; cycle = onCycle-true t; near = component-near a b T v k }))
@@ -101,7 +101,7 @@ module _ (a b : ℕ → ℕ) (T : List ℕ) where
         ]
 
     -- So the root of a component without a cycle is the smallest key in it,
-    pub root-smallest : {z : ℕ} → SmallestOfComponent z → (Cyclic a b T (a z) → ⊥) → root a b T (a z) ≡ z
+    pub root-smallest : {z : ℕ} → SmallestOf z → (Cyclic a b T (a z) → ⊥) → root a b T (a z) ≡ z
     root-smallest {z} s n =
         let r = root-tree (s .z-in) jrefl n in
         omega (arith, s .low (root a b T (a z)) (r .0 .z-in) (r .1), r .0 .low z (s .z-in) (jsym (r .1)))
@@ -144,7 +144,7 @@ module _ (a b : ℕ → ℕ) (T : List ℕ) where
     root-sits {z} i e = seat-occupant a b (record { c-in = i; place = at-root (sym e) (ap a (sym e)) })
 
     -- "No loop in the group: its smallest card sits in both its pockets. That fixes every other card's pocket."
-    pub bullet-tree : (z : ℕ) → SmallestOfComponent z → (Cyclic a b T (a z) → ⊥) → TreeBullet (occupant a b T) z
+    pub bullet-tree : (z : ℕ) → SmallestOf z → (Cyclic a b T (a z) → ⊥) → TreeBullet (occupant a b T) z
     bullet-tree z s n =
         let e = root-smallest asc s n in
         let flat : OnCycle a b T z → ⊥ = λ l. n (record { d = z; cycle = l; near = jrefl }) in

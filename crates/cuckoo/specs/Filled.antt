@@ -14,7 +14,7 @@ use Rattle.cuckoo.specs.Joined.{Joined, jsym, jrefl, jtrans}
 use Rattle.cuckoo.specs.Settling.{Cyclic, Settled, cyclic?, cyclic-near, seated-sub, seated-asc}
 use Rattle.cuckoo.specs.Seating.{occupant-is}
 use Rattle.cuckoo.specs.Places.{or-ends, seat-near, seat-occupant, occupant-seat, slot-seat}
-use Rattle.cuckoo.specs.Bullets.{InOne, SmallestOfComponent, root-tree, root-cycle, bullet-tree, bullet-cycle, seated-at}
+use Rattle.cuckoo.specs.Bullets.{InOne, SmallestOf, root-tree, root-cycle, bullet-tree, bullet-cycle, seated-at}
 
 module _ (a b : ℕ → ℕ) where
   -- One key to a slot: two keys that sit in the same slot are equal.
@@ -33,7 +33,7 @@ module _ (a b : ℕ → ℕ) where
   -- How the key c sits: in exactly one slot, or in both its slots, if it is the smallest key of a component without a cycle.
   pub data Sitting (T : List ℕ) (c : ℕ) : Type 0 where
     in-one : InOne (occupant a b T) c → Sitting T c
-    in-both : SmallestOfComponent a b T c → (Cyclic a b T (a c) → ⊥) → occupant a b T (a c) ≡ c → occupant a b T (b c) ≡ c → Sitting T c
+    in-both : SmallestOf a b T c → (Cyclic a b T (a c) → ⊥) → occupant a b T (a c) ≡ c → occupant a b T (b c) ≡ c → Sitting T c
 
   module _ {T : List ℕ} (stop : Settled a b T) (asc : Asc T) (nonzero : In 0 T → ⊥) where
     -- In a component with a cycle each key sits in exactly one slot.
@@ -48,7 +48,7 @@ module _ (a b : ℕ → ℕ) where
           | inr n ↦ go (root-tree a b T asc i jrefl n) n (eq? c (root a b T (a c)))
         ]
       where
-        go : {z : ℕ} → SmallestOfComponent a b T z × Joined a b T (a c) (a z) → (Cyclic a b T (a c) → ⊥) → (c ≡ z) ⊎ (c ≡ z → ⊥) → Sitting T c
+        go : {z : ℕ} → SmallestOf a b T z × Joined a b T (a c) (a z) → (Cyclic a b T (a c) → ⊥) → (c ≡ z) ⊎ (c ≡ z → ⊥) → Sitting T c
         go s n (inl q) = let B = bullet-tree a b T stop asc nonzero c (rw (← q) at (s .0)) n in in-both (rw (← q) at (s .0)) n (B .table-0) (B .table-1)
         go {z} s n (inr m) =
             let flat : Cyclic a b T (a z) → ⊥ = λ L. n (cyclic-near (s .1) L) in

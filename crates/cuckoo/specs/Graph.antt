@@ -1,6 +1,7 @@
--- The canonical image of a set of keys, as definitions that compute. This file is what a reader must believe of the image; every
--- other file of this crate is theorems, with what they speak of: walks, placements, the trail of a key. The rule is section 3.1 of "History-Independent Cuckoo Hashing" (Naor, Segev, Wieder) in the
--- words of document 01, "The canonical image".
+-- The canonical image of a set of keys, as definitions that compute. This file is what a reader must believe of the
+-- image; every other file of this crate is theorems, with what they speak of: walks, placements, the trail of a key. The
+-- rule is section 3.1 of "History-Independent Cuckoo Hashing" (Naor, Segev, Wieder) in the words of document 01, "The
+-- canonical image".
 --
 -- The cuckoo graph: slots (document 01's 'pockets') are points, and each key c (a 'card') is a line between its two slots, `a c` in
 -- table 0 and `b c` in table 1. A set of keys is a strictly ascending list of numbers, none of them 0; 0 stands for "no key".

@@ -21,23 +21,23 @@ module _ (a b : ℕ → ℕ) where
   component-sub R v d i = component-in a b R v i
 
   -- R′ has those keys of R, a part of S, that lie in v's component of S, and perhaps others of R
-  record KeepsComponent (S : List ℕ) (v : ℕ) (R R′ : List ℕ) : Type 0 where
+  record Keeps (S : List ℕ) (v : ℕ) (R R′ : List ℕ) : Type 0 where
     sub : Sub R S
     less : Sub R′ R
     all : (d : ℕ) → In d R → Joined a b S v (a d) → In d R′
 
 module _ {a b : ℕ → ℕ} where
-  part-component : (S : List ℕ) (v : ℕ) → KeepsComponent a b S v S (component a b S v)
+  part-component : (S : List ℕ) (v : ℕ) → Keeps a b S v S (component a b S v)
   part-component S v = record { sub = λ d i. i; less = component-sub a b S v; all = λ d. in-component a b S v }
 
-  part-out : (c : ℕ) {S R R′ : List ℕ} {v : ℕ} → KeepsComponent a b S v R R′ → KeepsComponent a b S v (without c R) (without c R′)
+  part-out : (c : ℕ) {S R R′ : List ℕ} {v : ℕ} → Keeps a b S v R R′ → Keeps a b S v (without c R) (without c R′)
   part-out c {R = R} {R′} p = record {
     sub = λ d i. p .sub d (out-in c R i);
     less = out-sub c (p .less);
     all = λ d i j. in-out c R′ (out-ne c R i) (p .all d (out-in c R i) j);
   }
 
-  part-below : (n : ℕ) {S R R′ : List ℕ} {v : ℕ} → KeepsComponent a b S v R R′ → KeepsComponent a b S v (below n R) (below n R′)
+  part-below : (n : ℕ) {S R R′ : List ℕ} {v : ℕ} → Keeps a b S v R R′ → Keeps a b S v (below n R) (below n R′)
   part-below n {R = R} {R′} p = record {
     sub = λ d i. p .sub d (below-in n R i);
     less = below-sub n (p .less);
@@ -46,17 +46,17 @@ module _ {a b : ℕ → ℕ} where
 
   -- within v's component R and R′ join the same slots, and have the same cycles and the same spare keys
   module _ {S R R′ : List ℕ} {v : ℕ} where
-    part-joined : {u w : ℕ} → KeepsComponent a b S v R R′ → Joined a b S v u → Joined a b R u w → Joined a b R′ u w
+    part-joined : {u w : ℕ} → Keeps a b S v R R′ → Joined a b S v u → Joined a b R u w → Joined a b R′ u w
     part-joined p k j = confine S (p .sub) (λ c i l. edge (p .all c i (jtrans k l))) j
 
-    part-test : {u : ℕ} (w : ℕ) → KeepsComponent a b S v R R′ → Joined a b S v u → joined a b R u w ≡ joined a b R′ u w
+    part-test : {u : ℕ} (w : ℕ) → Keeps a b S v R R′ → Joined a b S v u → joined a b R u w ≡ joined a b R′ u w
     part-test {u} w p k = bool-ext (joined a b R u w) (joined a b R′ u w)
         (λ e. true-joined (part-joined p k (joined-true e))) (λ e. true-joined (mono (p .less) (joined-true e)))
 
-  part-cycle : {S R R′ : List ℕ} {v c : ℕ} → KeepsComponent a b S v R R′ → Joined a b S v (a c) → OnCycle a b R c → OnCycle a b R′ c
+  part-cycle : {S R R′ : List ℕ} {v c : ℕ} → Keeps a b S v R R′ → Joined a b S v (a c) → OnCycle a b R c → OnCycle a b R′ c
   part-cycle {c = c} p k l = record { on = p .all c (l .on) k; closed = part-joined (part-out c p) k (l .closed) }
 
-  part-cyclic : {S R R′ : List ℕ} {v u : ℕ} → KeepsComponent a b S v R R′ → Joined a b S v u → Cyclic a b R u → Cyclic a b R′ u
+  part-cyclic : {S R R′ : List ℕ} {v u : ℕ} → Keeps a b S v R R′ → Joined a b S v u → Cyclic a b R u → Cyclic a b R′ u
   part-cyclic p k l = record {
     d = l .d;
     cycle = part-cycle p (jtrans k (mono (p .sub) (l .near))) (l .cycle);

@@ -12,7 +12,7 @@ use Rattle.cuckoo.specs.Settling.{Cyclic, Settled, cyclic?, cyclic-near,
 use Rattle.cuckoo.specs.Seating.{from-a, from-b, ends-near, rooted}
 use Rattle.cuckoo.specs.Tree.{Far, fixed}
 use Rattle.cuckoo.specs.Places.{hung, hung-sub, hung-root, hung-joins, hung-bare, at-root, at-far, Seat, seat-near, or-ends, seat-occupant, occupant-seat, slot-seat}
-use Rattle.cuckoo.specs.Bullets.{InOne, SmallestOfComponent, SmallestOnCycle, Obeys, one-of, root-tree, root-cycle, obeys}
+use Rattle.cuckoo.specs.Bullets.{InOne, SmallestOf, SmallestOnCycle, Obeys, one-of, root-tree, root-cycle, obeys}
 
 module _ (a b : ℕ → ℕ) where
   -- what `fixed` asks of f, in the tree that hangs from the root z
@@ -34,7 +34,7 @@ module _ (a b : ℕ → ℕ) where
           top = λ d v e F. absurd (hung-root a b T z (s .on) (rw (sym e ∙ k .table-0) at (F .c-in)));
         }
 
-    rule-tree : {z : ℕ} → SmallestOfComponent a b T z → (Cyclic a b T (a z) → ⊥) → Rule T f z
+    rule-tree : {z : ℕ} → SmallestOf a b T z → (Cyclic a b T (a z) → ⊥) → Rule T f z
     rule-tree {z} s n =
         let k = o .tree z s n in
         record {

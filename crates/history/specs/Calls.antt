@@ -105,8 +105,8 @@ pub record Sequence (P : Params) (ws : List ℕ) (cs : List Call) : Type 0 where
 abbrev pub words-left : Params → List ℕ → List Call → List ℕ
 words-left P ws cs = words-after (P .tabulation) ws cs
 
--- What "any later call with like arguments" is. "Like arguments are equal ones, what the work sheet and the meter hold aside." A call
--- of another kind is like one with the same outcome: number, values and words.
+-- What "any later call with like arguments" is. "Like arguments are equal ones, what the work sheet and the meter hold
+-- aside." A call of another kind is like one with the same outcome: number, values and words.
 pub data Like (t : List ℕ) : Call → Call → Type 0 where
   change : (kind : Change) {l l′ : Lent} {scratch scratch′ : List ℕ} (counters counters′ : Counters) (key : ℕ)
       → lent-of t l ≡ lent-of t l′ → length scratch ≡ length scratch′

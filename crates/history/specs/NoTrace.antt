@@ -34,9 +34,9 @@ use Rattle.history.specs.Reads.{lookup-like, check-like}
 use Rattle.history.specs.Others.{other-like}
 use Rattle.history.specs.History.{Follows, history}
 
--- "Where a call comes to the rule of the full drawer": an insert to which none of the register's refusals before 8 applies,
--- L being the register's set. They are 1, 3, 5, 9, 13, 10 and 6, the last two for a key of the set; "2 and 4 never do". By the
--- law `comes-answers` these are exactly the inserts that answer 0 or 8.
+-- "Where a call comes to the rule of the full drawer": an insert to which none of the register's refusals before 8
+-- applies, L being the register's set. They are 1, 3, 5, 9, 13, 10 and 6, the last two for a key of the set; "2 and 4
+-- never do". By the law `comes-answers` these are exactly the inserts that answer 0 or 8.
 pub record ComesToFull (P : Params) (L : List Entry) (l : Lent) (scratch-size key tier : ℕ) : Type 0 where
   pub right-length : wrong-length P l ≡ false
   pub long-enough : too-short P scratch-size ≡ false
@@ -54,18 +54,18 @@ pub record NoTrace (P : Params) (ws : List ℕ) (cs : List Call) : Type 0 where
   -- "Every call answers as document 01's plain register does, and the words after it are the canonical image of the
   -- register's set."
   pub follows : Follows P [] ws cs
-  -- "Two such sequences with the same book and the same rack and drawer sizes leave the same words exactly when they end
-  -- in one set": those of one P, which has the station, too
+  -- "Two such sequences with the same book and the same rack and drawer sizes leave the same words exactly when they
+  -- end in one set": those of one P, which has the station, too
   pub same-words : {ws′ : List ℕ} {cs′ : List Call} → Sequence P ws′ cs′
       → (words-left P ws cs ≡ words-left P ws′ cs′) ↔ (set-left P ws cs ≡ set-left P ws′ cs′)
-  -- "and any later call with like arguments then answers the same.": so do all later calls, of any kind, accepted or not,
-  -- and they leave the same words. They may lend any book t, that of the sequence or another.
+  -- "and any later call with like arguments then answers the same.": so do all later calls, of any kind, accepted or
+  -- not, and they leave the same words. They may lend any book t, that of the sequence or another.
   pub same-later : {ws′ : List ℕ} {cs′ : List Call} → Sequence P ws′ cs′ → set-left P ws cs ≡ set-left P ws′ cs′
       → {t : List ℕ} {ds ds′ : List Call} → Alike t ds ds′
       → run t (words-left P ws cs) ds ≡ run t (words-left P ws′ cs′) ds′
   -- "Where a call comes to the rule of the full drawer, it is refused by it exactly when no placement of the new set
-  -- exists, each card in one of its two pockets or in one of the drawer's places, one card to a pocket or place.": at every
-  -- insert of the sequence, after the calls cs₁ and before the calls cs₂.
+  -- exists, each card in one of its two pockets or in one of the drawer's places, one card to a pocket or place.": at
+  -- every insert of the sequence, after the calls cs₁ and before the calls cs₂.
   pub full : (cs₁ cs₂ : List Call) (l : Lent) (scratch : List ℕ) (counters : Counters) (key tier : ℕ)
       → cs ≡ cs₁ ++ (Call.change (Insert tier) l scratch counters key ∷ cs₂)
       → ComesToFull P (set-left P ws cs₁) l (length scratch) key tier

@@ -42,15 +42,15 @@ unfoldable pub has : ℕ → Tree → Bool
 has x leaf = false
 has x (node l y r) = eqb x y || cond (ltb x y) (has x l) (has x r)
 
-unfoldable pub tree-with : ℕ → Tree → Tree
-tree-with x leaf = node leaf x leaf
-tree-with x (node l y r) = cond (ltb x y) (node (tree-with x l) y r) (node l y (tree-with x r))
+unfoldable pub grown : ℕ → Tree → Tree
+grown x leaf = node leaf x leaf
+grown x (node l y r) = cond (ltb x y) (node (grown x l) y r) (node l y (grown x r))
 
 -- each entry from place i on is as the rule says, and is none of those seen before it; there are n
 unfoldable pub test-from : ℕ → ℕ → Tree → List ℕ → Bool
 test-from n i seen [] = eqb n 0
 test-from zero i seen (x ∷ xs) = false
-test-from (suc n) i seen (x ∷ xs) = eqb x (house-entry i) && not (has x seen) && test-from n (suc i) (tree-with x seen) xs
+test-from (suc n) i seen (x ∷ xs) = eqb x (house-entry i) && not (has x seen) && test-from n (suc i) (grown x seen) xs
 
 -- the whole test of a table of 2,560 entries
 unfoldable pub house-test : List ℕ → Bool
@@ -61,24 +61,24 @@ or-true true q e = refl
 or-true false q e = e
 
 -- what is put into the tree is in it
-has-put-same : (x : ℕ) (t : Tree) → has x (tree-with x t) ≡ true
-unfolding has tree-with
+has-put-same : (x : ℕ) (t : Tree) → has x (grown x t) ≡ true
+unfolding has grown
 has-put-same x leaf = rw (eq-eqb x x refl)
 has-put-same x (node l y r) = go (ltb x y) refl (has-put-same x l) (has-put-same x r)
   where
-    go : (b : Bool) → ltb x y ≡ b → has x (tree-with x l) ≡ true → has x (tree-with x r) ≡ true
-        → has x (cond b (node (tree-with x l) y r) (node l y (tree-with x r))) ≡ true
+    go : (b : Bool) → ltb x y ≡ b → has x (grown x l) ≡ true → has x (grown x r) ≡ true
+        → has x (cond b (node (grown x l) y r) (node l y (grown x r))) ≡ true
     go true e hl hr = or-true (eqb x y) _ (rw e hl)
     go false e hl hr = or-true (eqb x y) _ (rw e hr)
 
 -- and what was in it stays
-has-put-other : (x z : ℕ) (t : Tree) → has z t ≡ true → has z (tree-with x t) ≡ true
-unfolding has tree-with
+has-put-other : (x z : ℕ) (t : Tree) → has z t ≡ true → has z (grown x t) ≡ true
+unfolding has grown
 has-put-other x z leaf h = absurd (false≢true h)
 has-put-other x z (node l y r) h = go (ltb x y) (eqb z y) (ltb z y) refl refl (has-put-other x z l) (has-put-other x z r) h
   where
-    go : (b c d : Bool) → eqb z y ≡ c → ltb z y ≡ d → (has z l ≡ true → has z (tree-with x l) ≡ true) → (has z r ≡ true → has z (tree-with x r) ≡ true)
-        → (c || cond d (has z l) (has z r)) ≡ true → has z (cond b (node (tree-with x l) y r) (node l y (tree-with x r))) ≡ true
+    go : (b c d : Bool) → eqb z y ≡ c → ltb z y ≡ d → (has z l ≡ true → has z (grown x l) ≡ true) → (has z r ≡ true → has z (grown x r) ≡ true)
+        → (c || cond d (has z l) (has z r)) ≡ true → has z (cond b (node (grown x l) y r) (node l y (grown x r))) ≡ true
     go true true d ec ed hl hr h = rw ec
     go false true d ec ed hl hr h = rw ec
     go true false true ec ed hl hr h = rw (ec, ed) (hl h)
@@ -90,7 +90,7 @@ has-put-other x z (node l y r) h = go (ltb x y) (eqb z y) (ltb z y) refl refl (h
 record EntryTested (n i x : ℕ) (seen : Tree) (xs : List ℕ) : Type 0 where
   ruled : x ≡ house-entry i
   fresh : has x seen ≡ false
-  rest : test-from n (suc i) (tree-with x seen) xs ≡ true
+  rest : test-from n (suc i) (grown x seen) xs ≡ true
 
 entry : (n i x : ℕ) (seen : Tree) (xs : List ℕ) → test-from (suc n) i seen (x ∷ xs) ≡ true → EntryTested n i x seen xs
 unfolding test-from
@@ -106,7 +106,7 @@ ruled-at n i seen [] e k l = absurd (not-suc-le-zero l)
 ruled-at zero i seen (x ∷ xs) e k l = absurd (false≢true e)
 ruled-at (suc n) i seen (x ∷ xs) e zero l = entry n i x seen xs e .ruled ∙ ap house-entry (sym (add-zero i))
 ruled-at (suc n) i seen (x ∷ xs) e (suc k) l =
-    ruled-at n (suc i) (tree-with x seen) xs (entry n i x seen xs e .rest) k (le-of-suc-le-suc l)
+    ruled-at n (suc i) (grown x seen) xs (entry n i x seen xs e .rest) k (le-of-suc-le-suc l)
     ∙ ap house-entry (suc-add i k ∙ sym (add-suc i k))
 
 -- nothing that was seen before stands in the rest
@@ -117,7 +117,7 @@ apart n i seen [] e z h k l q = not-suc-le-zero l
 apart zero i seen (x ∷ xs) e z h k l q = false≢true e
 apart (suc n) i seen (x ∷ xs) e z h zero l q = true≢false (sym (rw (← q) at h) ∙ entry n i x seen xs e .fresh)
 apart (suc n) i seen (x ∷ xs) e z h (suc k) l q =
-    apart n (suc i) (tree-with x seen) xs (entry n i x seen xs e .rest) z (has-put-other x z seen h) k (le-of-suc-le-suc l) q
+    apart n (suc i) (grown x seen) xs (entry n i x seen xs e .rest) z (has-put-other x z seen h) k (le-of-suc-le-suc l) q
 
 differ-from : (n i : ℕ) (seen : Tree) (xs : List ℕ) → test-from n i seen xs ≡ true
     → (j k : ℕ) → j < k → k < length xs → getD xs j 0 ≡ getD xs k 0 → ⊥
@@ -126,15 +126,15 @@ differ-from n i seen [] e j k h l q = not-suc-le-zero l
 differ-from zero i seen (x ∷ xs) e j k h l q = false≢true e
 differ-from (suc n) i seen (x ∷ xs) e j zero h l q = not-suc-le-zero h
 differ-from (suc n) i seen (x ∷ xs) e zero (suc k) h l q =
-    apart n (suc i) (tree-with x seen) xs (entry n i x seen xs e .rest) x (has-put-same x seen) k (le-of-suc-le-suc l) (sym q)
+    apart n (suc i) (grown x seen) xs (entry n i x seen xs e .rest) x (has-put-same x seen) k (le-of-suc-le-suc l) (sym q)
 differ-from (suc n) i seen (x ∷ xs) e (suc j) (suc k) h l q =
-    differ-from n (suc i) (tree-with x seen) xs (entry n i x seen xs e .rest) j k (le-of-suc-le-suc h) (le-of-suc-le-suc l) q
+    differ-from n (suc i) (grown x seen) xs (entry n i x seen xs e .rest) j k (le-of-suc-le-suc h) (le-of-suc-le-suc l) q
 
 long : (n i : ℕ) (seen : Tree) (xs : List ℕ) → test-from n i seen xs ≡ true → length xs ≡ n
 unfolding test-from
 long n i seen [] e = sym (eqb-true n 0 e)
 long zero i seen (x ∷ xs) e = absurd (false≢true e)
-long (suc n) i seen (x ∷ xs) e = ap suc (long n (suc i) (tree-with x seen) xs (entry n i x seen xs e .rest))
+long (suc n) i seen (x ∷ xs) e = ap suc (long n (suc i) (grown x seen) xs (entry n i x seen xs e .rest))
 
 -- the test means just that
 pub house : (t : List ℕ) → house-test t ≡ true → House t
@@ -154,7 +154,7 @@ rule-list n i seen [] e = rw (eqb-true n 0 e)
 rule-list zero i seen (x ∷ xs) e = absurd (false≢true e)
 rule-list (suc n) i seen (x ∷ xs) e =
     let p = entry n i x seen xs e in
-    rw (p .ruled, ← rule-list n (suc i) (tree-with x seen) xs (p .rest))
+    rw (p .ruled, ← rule-list n (suc i) (grown x seen) xs (p .rest))
 
 pub house-is : (t : List ℕ) → house-test t ≡ true → t ≡ house-table
 unfolding house-test house-table
@@ -162,5 +162,5 @@ house-is t e = rule-list 2560 0 leaf t e
 
 -- and that list passes the test: the rule gives 2,560 numbers, all different.
 pub house-table-is : House house-table
-unfolding house-test test-from has tree-with house-table rule-entries
+unfolding house-test test-from has grown house-table rule-entries
 house-table-is = house house-table refl

@@ -17,17 +17,17 @@ use Rattle.outcome.specs.Outcome.{Outcome, changed, change-outcome, chec
 use Rattle.outcome.specs.Laws.{change-answers, check-answers, change-answer-in, check-answer-in, change-passed, change-refused, change-scratch, check-words, check-scratch}
 use Rattle.outcome.specs.Held.{change-accepted, change-lookup}
 
--- Demand 1: "Each refusal is one of document 01's numbers and leaves the list and the book unchanged and the work sheet all
--- zeros." (Document 02's numbers "join document 01's table".) Of a call that may answer `answers`, on words ws with
+-- Demand 1: "Each refusal is one of document 01's numbers and leaves the list and the book unchanged and the work sheet
+-- all zeros." (Document 02's numbers "join document 01's table".) Of a call that may answer `answers`, on words ws with
 -- scratch: the book is lent as `&[u16]` and cannot be written.
 pub record Harmless (answers ws scratch : List ℕ) (o : Outcome) : Type 0 where
   pub numbered : In (o .answer) answers
   pub unchanged : (o .answer ≡ done → ⊥) → o .words ≡ ws
   pub cleared : o .scratch ≡ replicate (length scratch) 0
 
--- Demand 2: "After an accepted add or withdrawal the list is, in every word, the canonical image that document 01 takes from
--- Naor, Segev and Wieder for the new set of cards. On such a list, with the same book, a look-up says yes exactly for the
--- cards in the set.", with the tier of each.
+-- Demand 2: "After an accepted add or withdrawal the list is, in every word, the canonical image that document 01 takes
+-- from Naor, Segev and Wieder for the new set of cards. On such a list, with the same book, a look-up says yes exactly
+-- for the cards in the set.", with the tier of each.
 pub record Renewed (tabulation ws : List ℕ) (L : List Entry) (us : List ℕ) : Type 0 where
   -- the old set, of which L is the change, is the one whose image the words were
   pub was : ImageOf (params-of tabulation ws) (set-in tabulation ws) ws

@@ -335,8 +335,8 @@ held-entry {P} {L} {ws} h full-length c t =
       λ i. e ∙ (rw (h .is .valid .keys .none-blank c (key-in L i)) (found .1 i)),
     )
 
--- Demand 2, "On such a list, with the same book, a look-up says yes exactly for the cards in the set.", with their tiers:
--- after an accepted insert or remove, for the new set.
+-- Demand 2, "On such a list, with the same book, a look-up says yes exactly for the cards in the set.", with their
+-- tiers: after an accepted insert or remove, for the new set.
 pub change-lookup : (kind : Change) (tabulation ws scratch : List ℕ) (key : ℕ) → change-outcome kind tabulation ws scratch key .answer ≡ done → (c t : ℕ)
     → (lookup-values tabulation (change-outcome kind tabulation ws scratch key .words) c ≡ 1 ∷ t ∷ [])
     ↔ In (record { key = c; tier = t }) (changed kind key (set-in tabulation ws))
