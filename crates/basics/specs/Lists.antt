@@ -1,5 +1,5 @@
--- Lists of numbers beyond membership (which is in Sets): equality as a test, what tests keep, what stands where, images, the smallest of an ascending list, and
--- counting. Nothing here knows of slots. Assumes nothing.
+-- Lists beyond membership (which is in Sets): equality as a test, what tests keep, and, of numbers, what stands where, images, the smallest of an ascending list,
+-- and counting. Nothing here knows of slots. Assumes nothing.
 use Prim.Native.Nat.{ℕ, zero, suc, _+_, _-_, _%_, _<_, _≤_, zero-le}
 use mathlib.Core.Path.{_≡_, refl, sym, _∙_, ap}
 use mathlib.Core.Bool.{Bool, true, false, not, _&&_, false≢true}
@@ -17,46 +17,53 @@ use Rattle.basics.specs.Sets.{keep, first, keep-in, keep-test, in-keep, 
 
 -- equality
 
--- two lists are equal, as a test
+-- two lists are equal, as a test, where `test` says of two elements whether they are
+abbrev pub same-by : {A : Type 0} → (A → A → Bool) → List A → List A → Bool
+same-by test [] [] = true
+same-by test [] (y ∷ ys) = false
+same-by test (x ∷ xs) [] = false
+same-by test (x ∷ xs) (y ∷ ys) = test x y && same-by test xs ys
+
+-- two lists of numbers
 unfoldable pub same : List ℕ → List ℕ → Bool
-same [] [] = true
-same [] (y ∷ ys) = false
-same (x ∷ xs) [] = false
-same (x ∷ xs) (y ∷ ys) = eqb x y && same xs ys
+same xs ys = same-by eqb xs ys
+
+same-by-true : {A : Type 0} (test : A → A → Bool) → ((x y : A) → test x y ≡ true → x ≡ y) → (xs ys : List A) → same-by test xs ys ≡ true → xs ≡ ys
+same-by-true test h [] [] e = refl
+same-by-true test h [] (y ∷ ys) e = absurd (false≢true e)
+same-by-true test h (x ∷ xs) [] e = absurd (false≢true e)
+same-by-true test h (x ∷ xs) (y ∷ ys) e =
+    let p = and-true (test x y) (same-by test xs ys) e in
+    let q = h x y (p .0) in
+    let r = same-by-true test h xs ys (p .1) in
+    cc
+
+same-by-self : {A : Type 0} (test : A → A → Bool) → ((x : A) → test x x ≡ true) → (xs : List A) → same-by test xs xs ≡ true
+same-by-self test h [] = refl
+same-by-self test h (x ∷ xs) = rw (h x) (same-by-self test h xs)
 
 pub same-true : (xs ys : List ℕ) → same xs ys ≡ true → xs ≡ ys
 unfolding same
-same-true [] [] e = refl
-same-true [] (y ∷ ys) e = absurd (false≢true e)
-same-true (x ∷ xs) [] e = absurd (false≢true e)
-same-true (x ∷ xs) (y ∷ ys) e =
-    let p = and-true (eqb x y) (same xs ys) e in
-    let q = eqb-true x y (p .0) in
-    let r = same-true xs ys (p .1) in
-    cc
-
-same-self : (xs : List ℕ) → same xs xs ≡ true
-unfolding same
-same-self [] = refl
-same-self (x ∷ xs) = rw (eq-eqb x x refl) (same-self xs)
+same-true xs ys e = same-by-true eqb eqb-true xs ys e
 
 pub true-same : (xs ys : List ℕ) → xs ≡ ys → same xs ys ≡ true
-true-same xs ys e = rw e (same-self ys)
+unfolding same
+true-same xs ys e = rw e (same-by-self eqb (λ x. eq-eqb x x refl) ys)
 
 -- what tests keep
 
 -- tests that agree on a list keep the same of it
-pub keep-ext : (p q : ℕ → Bool) (R : List ℕ) → ((c : ℕ) → In c R → p c ≡ q c) → keep p R ≡ keep q R
+pub keep-ext : {A : Type 0} (p q : A → Bool) (R : List A) → ((c : A) → In c R → p c ≡ q c) → keep p R ≡ keep q R
 keep-ext p q [] h = refl
 keep-ext p q (c ∷ R) h = rw (h c (here refl), keep-ext p q R (λ d i. h d (there i)))
 
 -- two tests in turn are one
-pub keep-keep : (p q : ℕ → Bool) (R : List ℕ) → keep p (keep q R) ≡ keep (λ c. q c && p c) R
+pub keep-keep : {A : Type 0} (p q : A → Bool) (R : List A) → keep p (keep q R) ≡ keep (λ c. q c && p c) R
 keep-keep p q [] = refl
 keep-keep p q (c ∷ R) = elim (test (q c)) [ inl e ↦ rw (e, keep-keep p q R) | inr e ↦ rw (e, keep-keep p q R) ]
 
 -- kept by q and then by p, or at once by r, which passes only what q passes and there agrees with p
-pub keep-both : (p q r : ℕ → Bool) (R : List ℕ) → ((c : ℕ) → In c R → r c ≡ true → q c ≡ true) → ((c : ℕ) → In c R → q c ≡ true → r c ≡ p c)
+pub keep-both : {A : Type 0} (p q r : A → Bool) (R : List A) → ((c : A) → In c R → r c ≡ true → q c ≡ true) → ((c : A) → In c R → q c ≡ true → r c ≡ p c)
     → keep r R ≡ keep p (keep q R)
 keep-both p q r R k h =
     keep-ext r (λ c. q c && p c) R (λ c i. bool-ext (r c) (q c && p c)
@@ -64,22 +71,22 @@ keep-both p q r R k h =
     (λ e. let t = and-true (q c) (p c) e in h c i (t .0) ∙ t .1)) ∙ sym (keep-keep p q R)
 
 -- a test that all pass keeps all,
-pub keep-all : (p : ℕ → Bool) (L : List ℕ) → ((d : ℕ) → In d L → p d ≡ true) → keep p L ≡ L
+pub keep-all : {A : Type 0} (p : A → Bool) (L : List A) → ((d : A) → In d L → p d ≡ true) → keep p L ≡ L
 keep-all p [] h = refl
 keep-all p (d ∷ L) h = rw (h d (here refl), keep-all p L (λ e i. h e (there i)))
 
 -- and one that none passes keeps none
-pub keep-none : (p : ℕ → Bool) (L : List ℕ) → ((d : ℕ) → In d L → p d ≡ false) → keep p L ≡ []
+pub keep-none : {A : Type 0} (p : A → Bool) (L : List A) → ((d : A) → In d L → p d ≡ false) → keep p L ≡ []
 keep-none p [] h = refl
 keep-none p (d ∷ L) h = rw (h d (here refl), keep-none p L (λ e i. h e (there i)))
 
 -- of two lists one after the other
-pub keep-append : (p : ℕ → Bool) (R S : List ℕ) → keep p (R ++ S) ≡ keep p R ++ keep p S
+pub keep-append : {A : Type 0} (p : A → Bool) (R S : List A) → keep p (R ++ S) ≡ keep p R ++ keep p S
 keep-append p [] S = refl
 keep-append p (c ∷ R) S = elim (test (p c)) [ inl e ↦ rw (e, keep-append p R S) | inr e ↦ rw (e, keep-append p R S) ]
 
 -- what passes a test and what does not are all together
-pub length-split : (p : ℕ → Bool) (S : List ℕ) → length (keep p S) + length (keep (λ c. not (p c)) S) ≡ length S
+pub length-split : {A : Type 0} (p : A → Bool) (S : List A) → length (keep p S) + length (keep (λ c. not (p c)) S) ≡ length S
 length-split p [] = refl
 length-split p (c ∷ S) = go (test (p c)) (length-split p S)
   where

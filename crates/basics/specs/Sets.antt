@@ -1,5 +1,5 @@
--- Lists of numbers as sets: membership, the members that pass a test (`keep`), all but one (`without`), the smaller ones (`below`), and ascending lists, which are
--- equal where their members are (`asc-ext`). The definitions come first: a reader must believe them. Assumes nothing.
+-- Lists of numbers as sets: membership, the members that pass a test (`keep`, of any list), all but one (`without`), the smaller ones (`below`), and ascending
+-- lists, which are equal where their members are (`asc-ext`). The definitions come first: a reader must believe them. Assumes nothing.
 use Prim.Native.Nat.{ℕ, suc, _<_, _≤_, max, zero-le}
 use mathlib.Core.Path.{_≡_, refl, sym, _∙_}
 use mathlib.Core.Bool.{Bool, true, false, not, cond, _||_, or-true, true≢false, false≢true}
@@ -17,11 +17,11 @@ member c [] = false
 member c (d ∷ R) = eqb c d || member c R
 
 -- those of R that pass the test p, in their order
-abbrev pub keep : (ℕ → Bool) → List ℕ → List ℕ
+abbrev pub keep : {A : Type 0} → (A → Bool) → List A → List A
 keep p [] = []
 keep p (d ∷ R) = cond (p d) (d ∷ keep p R) (keep p R)
 
-abbrev pub any : (ℕ → Bool) → List ℕ → Bool
+abbrev pub any : {A : Type 0} → (A → Bool) → List A → Bool
 any p [] = false
 any p (d ∷ R) = p d || any p R
 
@@ -56,24 +56,24 @@ abbrev pub Sub : List ℕ → List ℕ → Type 0
 Sub R R′ = (c : ℕ) → In c R → In c R′
 
 -- what `keep` keeps
-cond-in : (t : Bool) {c d : ℕ} {L : List ℕ} → In c (cond t (d ∷ L) L) → ((t ≡ true) × (c ≡ d)) ⊎ In c L
+cond-in : {A : Type 0} (t : Bool) {c d : A} {L : List A} → In c (cond t (d ∷ L) L) → ((t ≡ true) × (c ≡ d)) ⊎ In c L
 cond-in true (here q) = inl (refl, q)
 cond-in true (there h) = inr h
 cond-in false h = inr h
 
-in-cond : (t : Bool) {c : ℕ} (d : ℕ) {L : List ℕ} → In c L → In c (cond t (d ∷ L) L)
+in-cond : {A : Type 0} (t : Bool) {c : A} (d : A) {L : List A} → In c L → In c (cond t (d ∷ L) L)
 in-cond true d h = there h
 in-cond false d h = h
 
-pub keep-in : (p : ℕ → Bool) (R : List ℕ) {c : ℕ} → In c (keep p R) → In c R
+pub keep-in : {A : Type 0} (p : A → Bool) (R : List A) {c : A} → In c (keep p R) → In c R
 keep-in p [] h = h
 keep-in p (d ∷ R) h = elim (cond-in (p d) h) [ inl q ↦ here (q .1) | inr k ↦ there (keep-in p R k) ]
 
-pub keep-test : (p : ℕ → Bool) (R : List ℕ) {c : ℕ} → In c (keep p R) → p c ≡ true
+pub keep-test : {A : Type 0} (p : A → Bool) (R : List A) {c : A} → In c (keep p R) → p c ≡ true
 keep-test p [] h = elim h [ ]
 keep-test p (d ∷ R) h = elim (cond-in (p d) h) [ inl q ↦ cc | inr k ↦ keep-test p R k ]
 
-pub in-keep : (p : ℕ → Bool) (R : List ℕ) {c : ℕ} → p c ≡ true → In c R → In c (keep p R)
+pub in-keep : {A : Type 0} (p : A → Bool) (R : List A) {c : A} → p c ≡ true → In c R → In c (keep p R)
 in-keep p (d ∷ R) e (here q) = let e′ : p d ≡ true = cc in rw e′ (here q)
 in-keep p (d ∷ R) e (there h) = in-cond (p d) d (in-keep p R e h)
 
@@ -149,7 +149,7 @@ in-top (there {x = d} {xs = R} h) = omega (arith, in-top h)
 -- for `search`: whether a key is in a set that `without` makes
 pub ruleset outs = (in-out, out-in, out-ne)
 
-pub any-true : (p : ℕ → Bool) (R : List ℕ) → any p R ≡ true → (d : ℕ) × In d R × (p d ≡ true)
+pub any-true : {A : Type 0} (p : A → Bool) (R : List A) → any p R ≡ true → (d : A) × In d R × (p d ≡ true)
 any-true p [] e = absurd (false≢true e)
 any-true p (d ∷ R) e =
     elim (test (p d)) [
@@ -157,7 +157,7 @@ any-true p (d ∷ R) e =
       | inr t ↦ let r = any-true p R (rw t at e) in (r .0, there (r .1), r .2)
     ]
 
-pub true-any : (p : ℕ → Bool) {R : List ℕ} {d : ℕ} → In d R → p d ≡ true → any p R ≡ true
+pub true-any : {A : Type 0} (p : A → Bool) {R : List A} {d : A} → In d R → p d ≡ true → any p R ≡ true
 true-any p (here {x = d} q) e = let e′ : p d ≡ true = cc in rw e′
 true-any p (there {x = d} h) e = rw (true-any p h e, or-true)
 
@@ -179,7 +179,7 @@ last-max (c ∷ []) (some h k) (there i) = elim i [ ]
 last-max (c ∷ e ∷ R) (some h k) (here q) = omega (arith, h e (here refl), last-max (e ∷ R) k (here refl))
 last-max (c ∷ e ∷ R) (some h k) (there i) = last-max (e ∷ R) k i
 
-pub length-keep : (p : ℕ → Bool) (R : List ℕ) → length (keep p R) ≤ length R
+pub length-keep : {A : Type 0} (p : A → Bool) (R : List A) → length (keep p R) ≤ length R
 length-keep p [] = zero-le
 length-keep p (d ∷ R) = go (p d) (length-keep p R)
   where
@@ -187,7 +187,7 @@ length-keep p (d ∷ R) = go (p d) (length-keep p R)
     go true l = omega arith
     go false l = omega arith
 
-pub length-drop : (p : ℕ → Bool) (R : List ℕ) {c : ℕ} → In c R → p c ≡ false → length (keep p R) < length R
+pub length-drop : {A : Type 0} (p : A → Bool) (R : List A) {c : A} → In c R → p c ≡ false → length (keep p R) < length R
 length-drop p (d ∷ R) (here q) e = let e′ : p d ≡ false = cc in rw e′ (omega (arith, length-keep p R))
 length-drop p (d ∷ R) (there i) e = go (p d) (length-drop p R i e)
   where
@@ -203,7 +203,7 @@ pub asc-out : (c : ℕ) {R : List ℕ} → Asc R → Asc (without c R)
 unfolding without
 asc-out c h = asc-keep (λ d. not (eqb c d)) h
 
-pub in-length : {c : ℕ} {R : List ℕ} → In c R → 0 < length R
+pub in-length : {A : Type 0} {c : A} {R : List A} → In c R → 0 < length R
 in-length (here {xs = R} q) = omega arith
 in-length (there {xs = R} i) = omega arith
 

@@ -6,9 +6,10 @@ use mathlib.Core.List.{List, _++_, append-assoc}
 use native.Mathlib.Omega.{arith}
 use lib.ListN.{length, getD, set, drop, length-set, length-append, length-take, length-drop, take-append-drop}
 use borrow.Rule.Slice.PartMut.{midOf, putMid}
+use Rattle.basics.specs.Parts.{PartAt, place-word, place-part, place-put, place-set}
 use Rattle.forest.specs.Edges.{edge-at}
 use Rattle.forest.specs.Graph.{held-in, edges-in, with-held, edges-length, edge-word}
-use Rattle.build.specs.Scratch.{Parts, glue, parts, held-at, edges-at, stashed-at, sets-at, next-at, used, PartsSized, PartAt, place-word, place-part, place-put, place-set}
+use Rattle.build.specs.Scratch.{Parts, glue, parts, held-at, edges-at, stashed-at, sets-at, next-at, used, PartsSized}
 use Rattle.build.specs.Scratch.{with-graph, with-stash, with-sets, with-next, graph-place, stash-place, sets-place, next-place}
 use Rattle.build.specs.Scratch.{parts-sized, glue-parts, parts-glue}
 

@@ -1,14 +1,14 @@
 -- The one definition of how the build's parts lie in scratch: the keys by rank (2r + s + 1 words, the first of them 0, for no key); the graph of n ranks, that
 -- is what each of the 2r slots holds and then the edges (n words, with a gap behind them where there could be more); the stash (s words); the sets (2r words);
 -- next, by rank (2r + s + 1 words); then words that the build never touches. `sets` serves the partition first, then the notes; `next` has the labels first.
--- Each law is one about a part in the middle of words, at a place. Assumes nothing.
-use Prim.Native.Nat.{ℕ, _+_, _-_, _*_, _≤_, _<_}
-use mathlib.Core.Path.{_≡_, refl, sym, _∙_}
+-- Each law is one about a part in the middle of words, at a place (`basics/specs/Parts.antt`). Assumes nothing.
+use Prim.Native.Nat.{ℕ, _+_, _-_, _*_, _≤_}
+use mathlib.Core.Path.{_≡_, refl}
 use mathlib.Core.List.{List, _++_, append-assoc}
 use native.Mathlib.Omega.{arith}
-use lib.ListN.{length, getD, set, take, drop, length-append, length-take, length-drop, List·getD-append, take-append-drop}
-use lib.Seq.{getD-append-add, take-at, drop-at, drop-drop}
-use borrow.Rule.Slice.PartMut.{midOf, putMid, set-mid-at}
+use lib.ListN.{length, take, drop, length-append, take-append-drop}
+use lib.Seq.{take-at, drop-at, drop-drop}
+use Rattle.basics.specs.Parts.{PartAt, part-length, place-part}
 
 pub record Parts : Type 0 where
   pub keys : List ℕ
@@ -63,34 +63,6 @@ parts r s n xs =
       rest = drop (used r s) xs;
     }
 
--- a part of n words from `at` on: `of ys` are the words with ys in its place
-pub record PartAt (at : ℕ) (of : List ℕ → List ℕ) : Type 0 where
-  pub front : List ℕ
-  pub back : List ℕ
-  pub long : length front ≡ at
-  pub is : (ys : List ℕ) → of ys ≡ front ++ (ys ++ back)
-
-module _ {at : ℕ} {of : List ℕ → List ℕ} (L : PartAt at of) (X : List ℕ) where
-  -- a word of the part
-  pub place-word : (v : ℕ) → v < length X → getD (of X) (at + v) 0 ≡ getD X v 0
-  place-word v l =
-      rw (L .is X, ← L .long) (getD-append-add (L .front) (X ++ L .back) v 0 ∙ List·getD-append X (L .back) 0 v l)
-
-  -- the part, as it is lent
-  pub place-part : (n : ℕ) → length X ≡ n → midOf at n (of X) ≡ X
-  place-part n e = rw (L .is X, drop-at (L .front) (X ++ L .back) at (L .long)) (take-at X (L .back) n e)
-
-  -- and as it comes back
-  pub place-put : (n : ℕ) → length X ≡ n → (ys : List ℕ) → putMid at n (of X) ys ≡ of ys
-  place-put n e ys =
-      rw (L .is X, L .is ys, drop-at (L .front) (X ++ L .back) at (L .long), take-at (L .front) (X ++ L .back) at (L .long), drop-at X (L .back) n e)
-
-  -- a word written
-  pub place-set : (v x : ℕ) → v < length X → set (of X) (at + v) x ≡ of (set X v x)
-  place-set v x l =
-      let p = place-part (length X) refl in
-      sym (set-mid-at at (length X) v (of X) x (rw p l)) ∙ (rw p (place-put (length X) refl (set X v x)))
-
 -- the parts with another one of them
 abbrev pub with-graph : Parts → List ℕ → Parts
 with-graph P ys = record { keys = P .keys; graph = ys; gap = P .gap; stash = P .stash; sets = P .sets; next = P .next; rest = P .rest }
@@ -139,20 +111,17 @@ module _ {r s n : ℕ} {P : Parts} (Z : PartsSized r s n P) where
   }
 
 -- words that are long enough are their parts
-part-length : (k at : ℕ) (xs : List ℕ) → at + k ≤ length xs → length (take k (drop at xs)) ≡ k
-part-length k at xs h = simp (length-take, length-drop) (omega arith)
-
 module _ (r s n : ℕ) (xs : List ℕ) (few : n ≤ 2 * r + s) (long : used r s ≤ length xs) where
   pub parts-sized : PartsSized r s n (parts r s n xs)
   unfolding parts
   parts-sized = record {
     few = few;
-    keys-size = part-length (2 * r + s + 1) 0 xs (omega arith);
-    graph-size = part-length (2 * r + n) (held-at r s) xs (omega arith);
-    gap-size = part-length (2 * r + s - n) (edges-at r s + n) xs (omega arith);
-    stash-size = part-length s (stashed-at r s) xs (omega arith);
-    sets-size = part-length (2 * r) (sets-at r s) xs (omega arith);
-    next-size = part-length (2 * r + s + 1) (next-at r s) xs (omega arith);
+    keys-size = part-length 0 (2 * r + s + 1) xs (omega arith);
+    graph-size = part-length (held-at r s) (2 * r + n) xs (omega arith);
+    gap-size = part-length (edges-at r s + n) (2 * r + s - n) xs (omega arith);
+    stash-size = part-length (stashed-at r s) s xs (omega arith);
+    sets-size = part-length (sets-at r s) (2 * r) xs (omega arith);
+    next-size = part-length (next-at r s) (2 * r + s + 1) xs (omega arith);
   }
 
   -- the next stretch of words, and what comes after it

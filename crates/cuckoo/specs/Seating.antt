@@ -38,6 +38,13 @@ module _ {a b : ℕ → ℕ} where
   ends-flip (from-a p q) = from-b q p
   ends-flip (from-b p q) = from-a q p
 
+  -- a key has two ends
+  pub ends-two : {c v w x y : ℕ} → Ends a b c v w → Ends a b c x y → (x ≡ v) ⊎ (x ≡ w)
+  ends-two (from-a e f) (from-a g k) = inl (g ∙ sym e)
+  ends-two (from-a e f) (from-b g k) = inr (g ∙ sym f)
+  ends-two (from-b e f) (from-a g k) = inr (g ∙ sym f)
+  ends-two (from-b e f) (from-b g k) = inl (g ∙ sym e)
+
   -- a key's slot is in its component
   pub ends-near : {R : List ℕ} {c v w : ℕ} → Ends a b c v w → In c R → Joined a b R v (a c)
   ends-near (from-a p q) i = rw p jrefl

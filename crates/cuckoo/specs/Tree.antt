@@ -12,7 +12,7 @@ use Rattle.basics.specs.Tests.{eq?}
 use Rattle.basics.specs.Sets.{keep, without, Sub, in?, some-or-all, in-out, out-sub, keep-in, keep-test, in-keep}
 use Rattle.cuckoo.specs.Graph.{joined}
 use Rattle.cuckoo.specs.Joined.{Joined, mono, joined?, joined-true, true-joined, false-joined, jsym, jrefl, jtrans, edge, least}
-use Rattle.cuckoo.specs.Seating.{Ends, from-a, from-b, Bare, one-near, not-both, away, ends-edge, ends-flip}
+use Rattle.cuckoo.specs.Seating.{Ends, from-a, from-b, Bare, one-near, not-both, away, ends-edge, ends-flip, ends-two}
 
 module _ (a b : ℕ → ℕ) where
   -- v is the far end of the key c of X: without c it is cut off from p
@@ -43,12 +43,6 @@ module _ (a b : ℕ → ℕ) where
 module _ {a b : ℕ → ℕ} where
   leads-new : {Y : List ℕ} {p c : ℕ} → LeadsOut a b Y p c → In c Y → ⊥
   leads-new l i = l .fresh (jtrans (l .reached) (ends-edge (l .ends) i))
-
-  ends-two : {c v w x y : ℕ} → Ends a b c v w → Ends a b c x y → (x ≡ v) ⊎ (x ≡ w)
-  ends-two (from-a e f) (from-a g k) = inl (g ∙ sym e)
-  ends-two (from-a e f) (from-b g k) = inr (g ∙ sym f)
-  ends-two (from-b e f) (from-a g k) = inr (g ∙ sym f)
-  ends-two (from-b e f) (from-b g k) = inl (g ∙ sym e)
 
 module _ {a b : ℕ → ℕ} {X : List ℕ} {p : ℕ} where
   -- while a slot of the component is not reached, some key leads on

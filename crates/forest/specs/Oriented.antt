@@ -19,7 +19,7 @@ use lib.Seq.{getD-set-same, getD-set-other, set-out}
 use Rattle.basics.specs.Tests.{eq?, le?}
 use Rattle.basics.specs.Sets.{without, Sub, out-in, in-out, out-ne, around, out-sub, out-shorter, in-length}
 use Rattle.cuckoo.specs.Joined.{Joined, past, along, back, jrefl, jsym, jtrans, edge, mono, split, confine}
-use Rattle.cuckoo.specs.Seating.{Ends, from-a, from-b, ends-edge, ends-cycle, ends-flip, one-near}
+use Rattle.cuckoo.specs.Seating.{Ends, from-a, from-b, ends-edge, ends-cycle, ends-flip, ends-two, one-near}
 use Rattle.cuckoo.specs.Tree.{Far, far-some}
 
 -- a slot after a word was stored
@@ -82,13 +82,6 @@ module _ (a b : ℕ → ℕ) where
     same : (getD h x 0 ≡ c → ⊥) → getD h′ x 0 ≡ getD h x 0 → Left h h′ c x
 
 module _ {a b : ℕ → ℕ} where
-  -- a key has two ends
-  ends-two : {c v w x y : ℕ} → Ends a b c v w → Ends a b c x y → (x ≡ v) ⊎ (x ≡ w)
-  ends-two (from-a e f) (from-a g k) = inl (g ∙ sym e)
-  ends-two (from-a e f) (from-b g k) = inr (g ∙ sym f)
-  ends-two (from-b e f) (from-a g k) = inr (g ∙ sym f)
-  ends-two (from-b e f) (from-b g k) = inl (g ∙ sym e)
-
   -- both are in the key's component
   pub end-near : {R : List ℕ} {c v w p : ℕ} → Ends a b c v w → In c R → Joined a b R p (a c) → Joined a b R p v
   end-near (from-a e f) i j = rw e j

@@ -1,14 +1,13 @@
 -- What the build leaves in scratch for `codec`: the parts that an image is compared with and written from. Every rank that stands there has its words; and where
 -- they are the ranks of a set, the columns that `codec` reads by rank are those of the set's image. Assumes nothing.
-use Prim.Native.Nat.{ℕ, zero, suc, _+_, _*_, _-_, _/_, _≤_, _<_}
+use Prim.Native.Nat.{ℕ, zero, suc, _+_, _*_, _-_, _≤_, _<_}
 use mathlib.Core.Path.{_≡_, refl, sym, _∙_, ap}
 use mathlib.Core.Bool.{Bool}
 use mathlib.Core.Logic.{inl, inr}
 use mathlib.Core.List.{List, map, map-append, List·Memᴰ as In, List·Memᴰ·append-cases}
 use native.Mathlib.Omega.{arith}
 use borrow.Author.Tests.{ne-eqb}
-use borrow.Rule.Slice.PartMut.{midOf}
-use lib.ListN.{length, getD, take, drop, replicate, length-map, length-take}
+use lib.ListN.{length, getD, drop, replicate, length-map, length-take}
 use lib.Seq.{getD-take, getD-drop}
 use Rattle.basics.specs.Tests.{eq?}
 use Rattle.basics.specs.Lists.{getD-in, at-map, map-zeros}
@@ -60,10 +59,7 @@ pub record Readable (r s n : ℕ) (scratch : List ℕ) : Type 0 where
   pub room : used r s ≤ length scratch
   pub ranked : let G = parts r s n scratch in Ranked r n scratch (G .graph) (G .next) (G .stash)
 
--- The laws. First a part as code lends it, from a to e.
-pub part-lent : (scratch : List ℕ) {a e : ℕ} (at size : ℕ) → a ≡ at → e ≡ at + size → midOf a (e - a) scratch ≡ take size (drop at scratch)
-part-lent scratch {a} {e} at size start end = let n : e - a ≡ size = omega arith in rw (n, start)
-
+-- The laws.
 -- What a slot of an image of ranks holds and points to are ranks, or 0.
 module _ (a b : ℕ → ℕ) (n v : ℕ) where
   rank-le : {k : ℕ} → In k (ranks n) → k ≤ n

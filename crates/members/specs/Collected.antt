@@ -1,15 +1,15 @@
 -- The keys that stand in the words, collected in scratch, and with their edges made there. Assumes nothing.
-use Prim.Native.Nat.{ℕ, _+_, _*_, _≤_}
-use mathlib.Core.Path.{_≡_}
+use Prim.Native.Nat.{ℕ, _+_, _*_, _≤_, _<_}
+use mathlib.Core.Path.{_≡_, _∙_, ap}
 use mathlib.Core.List.{List, _∷_}
 use native.Mathlib.Omega.{arith}
-use lib.ListN.{length, take}
+use lib.ListN.{length, getD, set, take}
 use Rattle.layout.specs.Layout.{params-of, family-of, slots-of, places-of, station-of, keys-in}
 use Rattle.layout.specs.Shape.{Shaped, Sized, shape}
 use Rattle.build.specs.Scratch.{edges-at, used}
 use Rattle.codec.specs.Collect.{keys-in-few}
 use Rattle.layout.specs.Ready.{Ready}
-use Rattle.members.specs.Edges.{tier-found, edge-of, Lined, EdgesTo, edges-lined}
+use Rattle.members.specs.Edges.{tier-found, edge-of, Lined, EdgesTo, edges-start, edges-turn, edges-key, edges-lined}
 
 -- The n keys that stand in the words have been collected: they stand in scratch from word 1 on. r, s and the station number are
 -- those of the words.
@@ -25,6 +25,10 @@ pub record Collected (tabulation ws scratch : List ℕ) (r s station n : ℕ) : 
 abbrev pub Listed : List ℕ → List ℕ → List ℕ → Type 0
 Listed tabulation ws scratch = Lined (params-of tabulation ws) (tier-found tabulation ws) (keys-in ws) scratch
 
+-- their edges are being made
+abbrev pub EdgesFound : List ℕ → List ℕ → (before after : List ℕ) → (start i : ℕ) → Type 0
+EdgesFound tabulation ws before after start i = EdgesTo (family-of tabulation ws) (tier-found tabulation ws) (keys-in ws) before after start i
+
 -- The laws. Keys that are collected: they and their edges have room,
 module _ {tabulation ws scratch : List ℕ} {r s station n : ℕ} (C : Collected tabulation ws scratch r s station n) where
   abbrev pub formed : Shaped ws
@@ -39,8 +43,18 @@ module _ {tabulation ws scratch : List ℕ} {r s station n : ℕ} (C : Collected
     (omega (arith, C .count, C .slots, C .places, collected-few), omega (arith, C .slots, C .places, C .ready .room, formed .sizes)),
   )
 
-  -- and are listed once these are made.
-  pub collected-listed : {after : List ℕ} {start : ℕ} → start ≡ edges-at r s
-      → EdgesTo (edge-of (family-of tabulation ws) (tier-found tabulation ws)) scratch after start n → Listed tabulation ws after
-  collected-listed e T =
-      edges-lined (rw (C .count) at (C .front)) (rw (e, C .slots, C .places, C .count) at T) collected-few (rw (C .slots, C .places) at (collected-room .1 .1))
+  -- and these are made, one by one,
+  module _ {start : ℕ} (e : start ≡ edges-at r s) where
+    pub collected-start : EdgesFound tabulation ws scratch scratch start 0
+    collected-start = edges-start (omega (arith, C .count, collected-room))
+
+    module _ {after : List ℕ} {i : ℕ} (T : EdgesFound tabulation ws scratch after start i) where
+      pub collected-turn : {x : ℕ} → i < n → x ≡ edge-of (family-of tabulation ws) (tier-found tabulation ws) (getD after (i + 1) 0)
+          → EdgesFound tabulation ws scratch (set after (start + i) x) start (i + 1)
+      collected-turn l q =
+          let k = edges-key T (rw (C .count) at (C .front)) (omega (arith, C .count, collected-room)) (omega (arith, C .count)) in
+          edges-turn T (omega (arith, C .count)) (q ∙ ap (edge-of (family-of tabulation ws) (tier-found tabulation ws)) k)
+
+      -- until they are listed.
+      pub collected-listed : i ≡ n → Listed tabulation ws after
+      collected-listed k = edges-lined (rw (C .count) at (C .front)) (rw (e, C .slots, C .places) at T) (k ∙ C .count) collected-few

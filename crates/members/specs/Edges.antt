@@ -1,16 +1,18 @@
 -- The edge of a key: its two slots and its tier in one word (`edges`). And a set in scratch: its keys, each at its rank, and their edges. The definitions come first; the laws say that such a set can be built, and that its ranks have the slots of its keys. Assumes nothing.
-use Prim.Native.Nat.{ℕ, zero, suc, _+_, _*_, _≤_, _<_}
-use mathlib.Core.Path.{_≡_, refl, sym, _∙_, ap}
+use Prim.Native.Nat.{ℕ, zero, suc, _+_, _*_, _≤_, _<_, zero-le}
+use mathlib.Core.Path.{_≡_, sym, _∙_, ap}
 use mathlib.Core.Bool.{cond}
 use mathlib.Core.Logic.{inl, inr}
 use mathlib.Core.List.{List, _∷_, map}
+use native.Mathlib.Numerals.{add-one}
 use native.Mathlib.Omega.{arith}
 use borrow.Author.Tests.{le-ltb, lt-ltb}
 use lib.Dec.{ltb}
-use lib.ListN.{length, getD, take, drop, set, length-map, length-set, length-take, length-drop}
-use lib.Seq.{take-add, drop-drop, drop-at, take-take, getD-take, getD-drop, getD-set-same, getD-set-other, ext-getD}
-use Rattle.basics.specs.Tests.{eq?, le?}
+use lib.ListN.{length, getD, take, drop, set, length-map}
+use lib.Seq.{take-add, drop-drop, drop-at, take-take, getD-take, paste, paste-zero}
+use Rattle.basics.specs.Tests.{le?}
 use Rattle.basics.specs.Lists.{at-map}
+use Rattle.basics.specs.Parts.{part-length, pasted-more, pasted-length, pasted-front, pasted-all}
 use Rattle.edges.specs.Edge.{second-base, packed, first-of, second-of, tier-of-edge, Packable, Edge, no-edge}
 use Rattle.edges.specs.Edge.{packed-first, packed-second, packed-tier, packed-edge, no-edge-between}
 use Rattle.hashing.specs.Hash.{Family, tables}
@@ -43,6 +45,12 @@ edge-of F t key = edge-with F key (t key)
 pub record Lined (P : Params) (t : ℕ → ℕ) (S scratch : List ℕ) : Type 0 where
   pub keys : take (length S + 1) scratch ≡ 0 ∷ S
   pub edges : take (length S) (drop (edges-at (P .slots) (P .places)) scratch) ≡ map (edge-of (family P) t) S
+
+-- The edges of the keys S are being made, from `to` on: the first i of them stand there, and the words before them are as they were.
+pub record EdgesTo (F : Family) (t : ℕ → ℕ) (S before after : List ℕ) (to i : ℕ) : Type 0 where
+  pub some : i ≤ length S
+  pub room : to + length S ≤ length before
+  pub written : after ≡ paste before to (map (edge-of F t) S) i
 
 -- The laws.
 
@@ -102,7 +110,7 @@ unfolding edges-in parts
 edges-cut r s n scratch room =
     let xs = drop (held-at r s) scratch in
     let e : held-at r s + 2 * r ≡ edges-at r s = omega arith in
-    let long : length (take (2 * r) xs) ≡ 2 * r = simp (length-take, length-drop) (omega arith) in
+    let long = part-length (held-at r s) (2 * r) scratch (omega arith) in
     rw (take-add (2 * r) n xs, drop-at (take (2 * r) xs) (take n (drop (2 * r) xs)) (2 * r) long, drop-drop (2 * r) (held-at r s) scratch, e)
 
 module _ {P : Params} {t : ℕ → ℕ} {S scratch : List ℕ} (D : Lined P t S scratch) (room : used (P .slots) (P .places) ≤ length scratch) where
@@ -161,44 +169,49 @@ lined-built {P} {t} {S} {before} {after} D same room few B =
       edges = cut ∙ D .edges;
     }
 
--- The loop that makes the edges: after i turns the words below `to` are as they were, and from there on stand the edges of i keys, which stand from word 1 on.
-pub record EdgesTo (f : ℕ → ℕ) (before after : List ℕ) (to i : ℕ) : Type 0 where
-  pub same-length : length after ≡ length before
-  pub kept : (k : ℕ) → k < to → getD after k 0 ≡ getD before k 0
-  pub done : (j : ℕ) → j < i → getD after (to + j) 0 ≡ f (getD before (j + 1) 0)
+-- Edges that a loop made: what it wrote is told by keys and tiers alone, wherever it has them from.
+module _ {F : Family} {t : ℕ → ℕ} {S before : List ℕ} {to : ℕ} where
+  pub edges-start : to + length S ≤ length before → EdgesTo F t S before before to 0
+  edges-start room = record { some = zero-le; room = room; written = paste-zero before to (map (edge-of F t) S) }
 
-module _ {f : ℕ → ℕ} {before : List ℕ} {to : ℕ} where
-  pub edges-start : EdgesTo f before before to 0
-  edges-start = record { same-length = refl; kept = λ k l. refl; done = λ j l. absurd (omega arith) }
+  module _ {after : List ℕ} {i : ℕ} (T : EdgesTo F t S before after to i) where
+    abbrev column : List ℕ
+    column = map (edge-of F t) S
 
-  pub edges-turn : {after : List ℕ} {i x : ℕ} → EdgesTo f before after to i → i + 1 < to → to + i < length before → x ≡ f (getD after (i + 1) 0)
-      → EdgesTo f before (set after (to + i) x) to (i + 1)
-  edges-turn {after} {i} {x} T l m e = record {
-    same-length = length-set after (to + i) x ∙ T .same-length;
-    kept = λ k q. getD-set-other after (to + i) k x 0 (λ z. omega arith) ∙ T .kept k q;
-    done = λ j q. elim (eq? j i) [
-      | inl z ↦ rw z (getD-set-same after (to + i) x 0 (omega (arith, T .same-length)) ∙ e ∙ ap f (T .kept (i + 1) l))
-      | inr n ↦ getD-set-other after (to + i) (to + j) x 0 (λ z. n (omega arith)) ∙ T .done j (omega arith)
-    ];
-  }
+    count : length column ≡ length S
+    count = length-map S (edge-of F t)
 
--- all of them: where keys stood, a set stands
-pub edges-lined : {P : Params} {t : ℕ → ℕ} {S before after : List ℕ} → take (length S + 1) before ≡ 0 ∷ S
-    → EdgesTo (edge-of (family P) t) before after (edges-at (P .slots) (P .places)) (length S) → length S ≤ 2 * P .slots + P .places
-    → used (P .slots) (P .places) ≤ length before → Lined P t S after
-edges-lined {P} {t} {S} {before} {after} front T few room =
-    let n = length S in
-    let to = edges-at (P .slots) (P .places) in
-    let key : (i : ℕ) → i < n + 1 → getD before i 0 ≡ getD (0 ∷ S) i 0 = λ i l. sym (getD-take (n + 1) before i 0 l) ∙ ap (λ (X : List ℕ). getD X i 0) front in
-    let long : length (take (n + 1) after) ≡ suc n = simp length-take (omega (arith, T .same-length)) in
-    let size : length (take n (drop to after)) ≡ n = simp (length-take, length-drop) (omega (arith, T .same-length)) in
-    record {
-      keys = ext-getD 0 (take (n + 1) after) (0 ∷ S) long
-          (λ i l. getD-take (n + 1) after i 0 (omega arith) ∙ T .kept i (omega arith) ∙ key i (omega arith));
-      edges = ext-getD 0 (take n (drop to after)) (map (edge-of (family P) t) S) (size ∙ sym (length-map S (edge-of (family P) t)))
-          (λ i l.
-          let k : i < n = omega arith in
-          let a : i + 1 ≡ suc i = omega arith in
-          getD-take n (drop to after) i 0 k ∙ getD-drop to after i 0 ∙ T .done i k
-          ∙ ap (edge-of (family P) t) (ap (λ (j : ℕ). getD before j 0) a ∙ key (suc i) (omega arith)) ∙ sym (at-map (edge-of (family P) t) S i k));
+    pub edges-turn : {x : ℕ} → i < length S → x ≡ edge-of F t (getD S i 0) → EdgesTo F t S before (set after (to + i) x) to (i + 1)
+    edges-turn l e = record {
+      some = omega arith;
+      room = T .room;
+      written =
+          pasted-more before to column i (T .written) (omega (arith, count)) (omega (arith, T .room)) (e ∙ sym (at-map (edge-of F t) S i l));
     }
+
+    few : i ≤ length column
+    few = omega (arith, count, T .some)
+
+    fits : to + i ≤ length before
+    fits = omega (arith, T .some, T .room)
+
+    pub edges-length : length after ≡ length before
+    edges-length = pasted-length before to column i (T .written) few fits
+
+    -- the keys, where they stand before the edges, stay,
+    module _ (front : take (length S + 1) before ≡ 0 ∷ S) (low : length S < to) where
+      edges-front : take (length S + 1) after ≡ 0 ∷ S
+      edges-front = pasted-front before to column i (T .written) few fits (length S + 1) (omega arith) ∙ front
+
+      pub edges-key : i < length S → getD after (i + 1) 0 ≡ getD S i 0
+      edges-key l =
+          let k : i + 1 < length S + 1 = omega arith in
+          sym (getD-take (length S + 1) after (i + 1) 0 k) ∙ ap (λ (X : List ℕ). getD X (i + 1) 0) edges-front ∙ (rw (add-one i))
+
+    edges-all : i ≡ length S → take (length S) (drop to after) ≡ column
+    edges-all e = rw e at (pasted-all before to column i (T .written) few fits (e ∙ sym count))
+
+-- and a set stands where keys stood
+pub edges-lined : {P : Params} {t : ℕ → ℕ} {S before after : List ℕ} {i : ℕ} → take (length S + 1) before ≡ 0 ∷ S
+    → EdgesTo (family P) t S before after (edges-at (P .slots) (P .places)) i → i ≡ length S → length S ≤ 2 * P .slots + P .places → Lined P t S after
+edges-lined front T e few = record { keys = edges-front T front (omega arith); edges = edges-all T e }

@@ -9,11 +9,12 @@ use native.Mathlib.Omega.{arith}
 use native.Mathlib.Numerals.{add-one}
 use borrow.Author.Tests.{eq-eqb, ne-eqb}
 use lib.Dec.{eqb}
-use lib.ListN.{length, getD, take, drop, length-take, length-drop}
+use lib.ListN.{length, getD, take, drop, length-drop}
 use lib.Seq.{take-take, drop-drop, drop-at, take-add, take-append-le, getD-take, getD-drop, length-take-le}
 use Rattle.basics.specs.Tests.{test, eq?, zero-one}
 use Rattle.basics.specs.Sets.{member, member-in, first, Asc, without}
 use Rattle.basics.specs.Lists.{at-map, map-same, map-take, map-drop}
+use Rattle.basics.specs.Parts.{part-length}
 use Rattle.ordered.specs.Keys.{rank-of, with-key}
 use Rattle.ordered.specs.Place.{rank-le, rank-found, member-at, member-past, with-parts, without-parts, length-with, length-without}
 use Rattle.ordered.specs.Shift.{opened, closed, opened-column, closed-column, opened-length, closed-length, opened-behind, closed-behind}
@@ -68,7 +69,7 @@ module _ (scratch : List ℕ) (n : ℕ) (long : n < length scratch) where
   keys-lent {e} q = let k : e - 1 ≡ n = omega arith in rw k
 
   pub keys-length : length (keys-at n scratch) ≡ n
-  keys-length = simp (length-take, length-drop) (omega arith)
+  keys-length = part-length 1 n scratch (omega arith)
 
   module _ (key : ℕ) (asc : Asc (keys-at n scratch)) {at : ℕ} (q : at ≡ rank-of (keys-at n scratch) key) where
     pub stands-at : at < n → eqb (getD scratch (at + 1) 0) key ≡ member key (keys-at n scratch)

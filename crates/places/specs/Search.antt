@@ -8,10 +8,11 @@ use native.Mathlib.Numerals.{add-one}
 use native.Mathlib.Omega.{arith}
 use borrow.Author.Tests.{eq-eqb, ne-eqb}
 use lib.Dec.{eqb}
-use lib.ListN.{length, getD, take, drop, take-append-drop, length-drop}
-use lib.Seq.{getD-drop, drop-drop, drop-cons, take-all}
+use lib.ListN.{length, getD, take, drop, take-append-drop}
+use lib.Seq.{getD-drop, drop-drop, drop-cons}
 use Rattle.basics.specs.Tests.{test}
 use Rattle.basics.specs.Sets.{member, in-member, no-member}
+use Rattle.basics.specs.Parts.{to-end}
 use Rattle.layout.specs.Entries.{Entry, keys-of}
 use Rattle.layout.specs.Layout.{place-width, place-entries}
 use Rattle.layout.specs.Answers.{looked-up}
@@ -45,9 +46,7 @@ module _ (places : List ℕ) (count key : ℕ) where
       → (member key (take count places) || member key (take (length places - count) (drop count places))) ≡ false
       → 0 ∷ [] ≡ looked-up (place-entries count places) key
   not-among l t =
-      let whole : take (length places - count) (drop count places) ≡ drop count places =
-      take-all (length places - count) (drop count places) (omega (arith, length-drop count places)) in
-      let e = rw whole at t in
+      let e = rw (to-end count places) at t in
       let out : In key (keys-of (place-entries count places)) → ⊥ = λ i.
       let k : In key (take count places ++ drop count places) = rw (take-append-drop count places) (place-key-word count places l i) in
       elim (List·Memᴰ·append-cases (take count places) k) [

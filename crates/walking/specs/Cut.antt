@@ -5,12 +5,13 @@ use mathlib.Core.Path.{_≡_, refl, sym, _∙_, ap}
 use mathlib.Core.Logic.{_⊎_, inl, inr}
 use mathlib.Core.List.{List, _++_}
 use native.Mathlib.Omega.{arith}
-use lib.ListN.{length, getD, set, take, drop, replicate, length-take, length-drop}
+use lib.ListN.{length, getD, set, take, drop, replicate, length-drop}
 use borrow.Rule.Slice.PartMut.{midOf}
-use lib.Seq.{getD-take, getD-drop, length-take-le, take-length, take-all, paste, paste-suc, ext-getD}
+use lib.Seq.{getD-take, getD-drop, length-take-le, take-length, paste, ext-getD}
 use Rattle.basics.specs.Tests.{eq?}
 use Rattle.basics.specs.Sets.{Asc}
 use Rattle.basics.specs.Lists.{drop-zeros}
+use Rattle.basics.specs.Parts.{part-lent, to-end, part-length, pasted-more}
 use Rattle.cuckoo.specs.Graph.{root, occupant}
 use Rattle.cuckoo.specs.Settling.{Settled}
 use Rattle.cuckoo.specs.Seating.{Ends}
@@ -116,9 +117,7 @@ sought-end Q e = record { inside = sought-here Q; met = e; before = Q .before }
 -- a copy of n keys that is begun, ended, and over zeros
 pub copied-more : {u : List ℕ} {i : ℕ} (d s : List ℕ) → u ≡ paste d 0 s i → i < length d → i < length s → set u i (getD s i 0) ≡ paste d 0 s (i + 1)
 copied-more {i = i} d s e l k =
-    let z : 0 + i ≡ i = omega arith in
-    let f : i + 1 ≡ suc i = omega arith in
-    rw (e, f) (ap (λ (t : ℕ). set (paste d 0 s i) t (getD s i 0)) (sym z) ∙ paste-suc d 0 s i 0 (omega arith) k)
+    let z : 0 + i ≡ i = omega arith in rw z at (pasted-more d 0 s i e k (omega arith) refl)
 
 pub copied-all : (d s : List ℕ) → paste d 0 s (length s) ≡ s ++ drop (length s) d
 copied-all d s = let e : 0 + length s ≡ length s = omega arith in rw (e, take-length s)
@@ -128,7 +127,7 @@ copied-zeros k s = rw (drop-zeros (length s) k)
 
 -- as many keys as steps
 met-size : (r n : ℕ) (X : List ℕ) → r + r + (r + r) ≤ length X → n ≤ r + r → length (met-keys r X n) ≡ n
-met-size r n X long few = simp (length-take, length-drop) (omega arith)
+met-size r n X long few = part-length (r + r) n X (omega arith)
 
 -- What a walk that is over knows: it stands where it was after j steps.
 module _ {g h : ℕ → ℕ} {u r n v : ℕ} {X : List ℕ} (C : Closed g h u r X n v) where
@@ -155,24 +154,21 @@ module _ {g h : ℕ → ℕ} {u r n v : ℕ} {X : List ℕ} (C : Closed g h u r 
   ]
 
 pub met-lent : (X : List ℕ) {r n i k : ℕ} → i ≡ r → k ≡ n → midOf (2 * i) (2 * i + k - 2 * i) X ≡ met-keys r X n
-met-lent X {r} {n} p q =
-    let e : 2 * r + n - 2 * r ≡ n = omega arith in
-    let f : 2 * r ≡ r + r = omega arith in
-    rw (p, q, e, f)
+met-lent X {r} {n} {i} {k} p q = part-lent X {a = 2 * i} {e = 2 * i + k} (r + r) n (omega arith) (omega arith)
 
 -- code reads the keys as a part of scratch, K, and the visit of v as a word, x
 pub visited-at : {r n v i x : ℕ} {X : List ℕ} → Met r X n v → i ≡ v → x ≡ getD X i 0 → x ≡ first-visit X v + 1
 visited-at {X = X} M q e = e ∙ ap (λ (k : ℕ). getD X k 0) q ∙ M .visited
 
 module _ {r n v x : ℕ} {X K : List ℕ} (M : Met r X n v) (part : K ≡ met-keys r X n) (e : x ≡ first-visit X v + 1) where
-  part-length : length K ≡ n
-  part-length = ap length part ∙ met-size r n X (M .stretch .long) (M .stretch .few)
+  met-count : length K ≡ n
+  met-count = ap length part ∙ met-size r n X (M .stretch .long) (M .stretch .few)
 
   pub behind : x - 1 < length K
-  behind = omega (arith, part-length, M .earlier)
+  behind = omega (arith, met-count, M .earlier)
 
   rest-is : midOf (x - 1) (length K - (x - 1)) K ≡ drop (x - 1) K
-  rest-is = take-all (length K - (x - 1)) (drop (x - 1) K) (simp length-drop (omega arith))
+  rest-is = to-end (x - 1) K
 
   pub rest-some : 0 < length (midOf (x - 1) (length K - (x - 1)) K)
   rest-some = rw rest-is (simp length-drop (omega (arith, behind)))

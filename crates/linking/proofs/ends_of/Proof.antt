@@ -1,10 +1,8 @@
 -- `linking::ends_of` meets its contract: its slots are those of its edge.
 use native.Mathlib.Omega.{arith}
-use Prim.Native.Nat.{ℕ, _*_, _<_}
 use mathlib.Core.Path.{_≡_, _∙_, ap}
-use mathlib.Core.List.{List}
 use Rattle.edges.specs.Edge.{first-of, second-of}
-use Rattle.forest.specs.Edges.{Edges, edge-at, end-0, end-1, ends-fit}
+use Rattle.forest.specs.Edges.{end-0, end-1, ends-fit}
 use Rattle.forest.specs.Graph.{edges-in}
 use Rattle.build.specs.Scratch.{parts}
 use borrow.Author.Needs.{needs}

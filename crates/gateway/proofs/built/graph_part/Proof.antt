@@ -2,7 +2,7 @@
 use Prim.Native.Nat.{_+_, _*_}
 use native.Mathlib.Omega.{arith}
 use Rattle.build.specs.Scratch.{parts, held-at}
-use Rattle.gateway.specs.Columns.{part-lent}
+use Rattle.basics.specs.Parts.{part-lent}
 use borrow.Author.Needs.{needs}
 use Rattle.gateway.proofs.built.graph_part.Statement.{statement}
 use Rattle.gateway.proofs.built.graph_part.Tie as tie

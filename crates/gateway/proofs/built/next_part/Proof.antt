@@ -2,7 +2,7 @@
 use Prim.Native.Nat.{_+_, _*_}
 use native.Mathlib.Omega.{arith}
 use Rattle.build.specs.Scratch.{parts, next-at}
-use Rattle.gateway.specs.Columns.{part-lent}
+use Rattle.basics.specs.Parts.{part-lent}
 use borrow.Author.Needs.{needs}
 use Rattle.gateway.proofs.built.next_part.Statement.{statement}
 use Rattle.gateway.proofs.built.next_part.Tie as tie

@@ -1,7 +1,7 @@
 -- `gateway::built::stash_part` meets its contract: s words from where the stash begins.
 use native.Mathlib.Omega.{arith}
 use Rattle.build.specs.Scratch.{parts, stashed-at}
-use Rattle.gateway.specs.Columns.{part-lent}
+use Rattle.basics.specs.Parts.{part-lent}
 use borrow.Author.Needs.{needs}
 use Rattle.gateway.proofs.built.stash_part.Statement.{statement}
 use Rattle.gateway.proofs.built.stash_part.Tie as tie
