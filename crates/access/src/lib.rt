@@ -4,7 +4,7 @@ ghost use mathlib.Core.Path.{_≡_};
 ghost use mathlib.Core.List.{_++_};
 ghost use Prim.Native.Nat.{_+_, _*_, _≤_, _<_};
 ghost use lib.ListN.{length, getD, take, drop};
-ghost use Rattle.tabulation.specs.Hash.{max-slots};
+ghost use Rattle.hashing.specs.Hash.{max-slots};
 ghost use Rattle.layout.specs.Layout.{header-of, header-words, header-length, slot-width, slots-of};
 ghost use Rattle.layout.specs.Layout.{sizes-in-range, params-in-range, shaped, words-length};
 ghost use Rattle.layout.specs.Layout.{scratch-length, key-at, stash-at, tier-at, slot-entry};

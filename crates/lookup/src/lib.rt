@@ -7,7 +7,7 @@ ghost use Prim.Native.Nat.{_*_, _<_};
 ghost use lib.Dec.{eqb};
 ghost use lib.ListN.{length, getD};
 ghost use Rattle.refusals.specs.Refusal.{done};
-ghost use Rattle.tabulation.specs.Hash.{tabulation-length};
+ghost use Rattle.hashing.specs.Hash.{tabulation-length};
 ghost use Rattle.layout.specs.Entries.{tier-of};
 ghost use Rattle.layout.specs.Layout.{slots-of, key-at, slot-entry, stash-entries, looked-at};
 ghost use Rattle.layout.specs.Shape.{Shaped};

@@ -12,8 +12,8 @@ use lib.ListN.{length, getD, take, drop, set, length-map, length-set, length-tak
 use lib.Seq.{take-add, drop-drop, drop-at, take-take, getD-take, getD-drop, getD-set-same, getD-set-other, ext-getD}
 use Rattle.basics.specs.Tests.{eq?, le?}
 use Rattle.basics.specs.Lists.{at-map}
-use Rattle.tabulation.specs.Hash.{Family, tables}
-use Rattle.tabulation.specs.Slots.{slot-0, slot-1, slot-0-lt, slot-1-le, slot-1-lt}
+use Rattle.hashing.specs.Hash.{Family, tables}
+use Rattle.hashing.specs.Slots.{slot-0, slot-1, slot-0-lt, slot-1-le, slot-1-lt}
 use Rattle.forest.specs.Edges.{Edge, Edges, first-of, second-of, edge-at, edge-read, end-0, end-1}
 use Rattle.forest.specs.Graph.{edges-in}
 use Rattle.layout.specs.Entries.{max-tier, tier-of}
