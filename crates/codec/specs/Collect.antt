@@ -4,7 +4,7 @@ use Prim.Native.Nat.{ℕ, zero, suc, _+_, _*_, _-_, _≤_, _<_}
 use mathlib.Core.Path.{_≡_, refl, sym, _∙_, ap}
 use mathlib.Core.Bool.{not, cond}
 use mathlib.Core.Logic.{inl, inr}
-use mathlib.Core.List.{List, [], _∷_, _++_, append-assoc, append-nil}
+use mathlib.Core.List.{List, [], _∷_, _++_, map, append-assoc, append-nil}
 use native.Mathlib.Nat.{le-refl, add-zero}
 use native.Mathlib.Numerals.{add-one}
 use native.Mathlib.Omega.{arith}
@@ -19,8 +19,9 @@ use Rattle.ordered.specs.Sorting.{sorted-length}
 use Rattle.ordered.specs.Distinct.{distinct-length}
 use Rattle.hashing.specs.Hash.{blank}
 use Rattle.layout.specs.Entries.{keys-of}
-use Rattle.layout.specs.Layout.{header-length, slot-width, place-width, stash-at, slots-of, places-of, slot-keys, place-entries, stash-entries, key-words, keys-in}
+use Rattle.layout.specs.Layout.{header-length, slot-width, place-width, key-at, stash-at, slots-of, places-of, place-entries, stash-entries, slot-spots, spot-key, key-words, keys-in}
 use Rattle.layout.specs.Shape.{Shaped}
+use Rattle.layout.specs.Standing.{key-words-parts}
 use Rattle.codec.specs.Columns.{picked, picked-length}
 
 -- those that are not blank
@@ -35,12 +36,12 @@ non-blank-few ws from step count =
     let xs = picked ws from step count in
     let l = length-keep (λ w. not (blank w)) xs in omega (arith, picked-length ws from step count)
 
-picked-slots : (ws : List ℕ) (from count : ℕ) → picked ws from slot-width count ≡ slot-keys count (drop from ws)
-unfolding picked slot-keys
-picked-slots ws from zero = refl
-picked-slots ws from (suc count) =
-    let e : from + 0 ≡ from = omega arith in
-    rw (picked-slots ws (from + slot-width) count, getD-drop from ws 0 0, drop-drop slot-width from ws, e)
+picked-slots : (ws : List ℕ) (v count : ℕ) → picked ws (key-at v) slot-width count ≡ map spot-key (slot-spots ws v count)
+unfolding picked slot-spots
+picked-slots ws v zero = refl
+picked-slots ws v (suc count) =
+    let e : key-at v + slot-width ≡ key-at (suc v) = omega arith in
+    rw (e, picked-slots ws (suc v) count)
 
 picked-places : (ws : List ℕ) (from count : ℕ) → picked ws from place-width count ≡ keys-of (place-entries count (drop from ws))
 unfolding picked place-entries
@@ -88,8 +89,8 @@ module _ (ws : List ℕ) (h : Shaped ws) where
       non-blank (picked ws header-length slot-width (2 * r)) ++ non-blank (picked ws (stash-at r) place-width s) ≡ non-blank (key-words ws)
   gathered-keys =
       let e : 2 * r ≡ r + r = omega arith in
-      rw (e, picked-slots ws header-length (r + r), picked-places ws (stash-at r) s)
-      (sym (keep-append (λ w. not (blank w)) (slot-keys (r + r) (drop header-length ws)) (keys-of (stash-entries ws))))
+      rw (e, picked-slots ws 0 (r + r), picked-places ws (stash-at r) s, key-words-parts ws)
+      (sym (keep-append (λ w. not (blank w)) (map spot-key (slot-spots ws 0 (r + r))) (keys-of (stash-entries ws))))
 
   pub gathered-count :
       length (non-blank (picked ws header-length slot-width (2 * r))) + length (non-blank (picked ws (stash-at r) place-width s))

@@ -2,14 +2,15 @@
 -- call gives back"). These definitions are the promises.
 use Prim.Native.Nat.{ℕ, _*_, _-_}
 use mathlib.Core.Bool.{Bool, not, cond, _&&_}
-use mathlib.Core.List.{List, [], _∷_, List·Memᴰ as In}
+use mathlib.Core.List.{List, [], _∷_, _++_, List·Memᴰ as In}
 use lib.Dec.{eqb, ltb}
 use lib.ListN.{length, take, drop, replicate}
 use Rattle.basics.specs.Sets.{member}
 use Rattle.refusals.specs.Refusal.{done, wrong-tabulation, wrong-shape, not-canonical, blank-key, first-refusal, first-refusal-in}
 use Rattle.hashing.specs.Hash.{tabulation-length, blank}
 use Rattle.layout.specs.Entries.{Entry, keys-of, tier-of}
-use Rattle.layout.specs.Layout.{shaped, params-in-range, slots-of, places-of, stash-count, place-width, stash-at, words-length, looked-at}
+use Rattle.layout.specs.Layout.{header-words, header-length, shaped, params-in-range, slots-of, places-of, stash-count, place-width, stash-at, words-length, looked-at}
+use Rattle.layout.specs.declared.Header.{Header}
 use Rattle.layout.specs.declared.Found.{Found}
 use Rattle.layout.specs.declared.Found.the-variants.{Listed, Absent, Refused}
 
@@ -68,10 +69,15 @@ fresh-refusals len r s station = (wrong-shape, not (params-in-range r s station 
 unfoldable pub fresh-refusal : ℕ → ℕ → ℕ → ℕ → ℕ
 fresh-refusal len r s station = first-refusal (fresh-refusals len r s station)
 
+-- the heading of a dictionary that has no keys
+abbrev pub fresh-header : ℕ → ℕ → ℕ → Header
+fresh-header r s station = record { slots = r; places = s; keys = 0; stashed = 0; station = station }
+
 -- "accepted it leaves r, s and zeros", the station number "as word 4"; a refusal leaves the words
 unfoldable pub fresh-words : List ℕ → ℕ → ℕ → ℕ → List ℕ
 fresh-words ws r s station =
-    cond (eqb (fresh-refusal (length ws) r s station) done) (r ∷ s ∷ 0 ∷ 0 ∷ station ∷ replicate (length ws - 5) 0) ws
+    cond (eqb (fresh-refusal (length ws) r s station) done)
+    (header-words (fresh-header r s station) ++ replicate (length ws - header-length) 0) ws
 
 -- The laws. Which numbers each call can answer: "It gives 1, 2, 5, or else yes exactly when ..", "gives only 2, or 4 ..", "gives only 2".
 pub lookup-answer-in : (tabulation ws : List ℕ) (key : ℕ) → In (lookup-refusal tabulation ws key) (0 ∷ 1 ∷ 2 ∷ 5 ∷ [])

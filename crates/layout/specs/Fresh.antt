@@ -1,9 +1,9 @@
 -- Fresh words: the image of the empty set, which fits with every r, s and station; and what the test of sizes and length decides, for the code. Assumes nothing.
-use Prim.Native.Nat.{ℕ, zero, suc, _+_, _*_, _-_, _≤_}
-use mathlib.Core.Path.{_≡_, refl, sym, ap}
+use Prim.Native.Nat.{ℕ, zero, suc, _+_, _*_, _-_}
+use mathlib.Core.Path.{_≡_, refl, sym}
 use mathlib.Core.Bool.{true, false, _&&_}
 use mathlib.Core.Logic.{inl, inr}
-use mathlib.Core.List.{List, [], _∷_}
+use mathlib.Core.List.{List, [], _++_}
 use native.Mathlib.Omega.{arith}
 use borrow.Author.Tests.{eqb-true}
 use lib.Dec.{eqb}
@@ -11,9 +11,10 @@ use lib.ListN.{length, drop, replicate, replicate-append-replicate}
 use Rattle.cuckoo.specs.Graph.{settle, seated, stash, occupant, slot-key, slot-next}
 use Rattle.basics.specs.Tests.{test, and-true}
 use Rattle.basics.specs.Sets.{none}
+use Rattle.basics.specs.Lists.{drop-zeros}
 use Rattle.refusals.specs.Refusal.{done}
-use Rattle.layout.specs.Layout.{Params, ValidSet, slot-width, place-width, header-length, words-length, params-in-range, fits, slot-words, image, fits-by, image-by, slot-words-by}
-use Rattle.layout.specs.Answers.{fresh-refusal, fresh-words}
+use Rattle.layout.specs.Layout.{Params, ValidSet, slot-width, place-width, header-words, header-length, words-length, params-in-range, fits, slot-words, image, fits-by, image-by, slot-words-by}
+use Rattle.layout.specs.Answers.{fresh-refusal, fresh-header, fresh-words}
 use Rattle.layout.specs.Image.{le-fits}
 
 pub empty-valid : ValidSet []
@@ -31,12 +32,13 @@ module _ (P : Params) where
   empty-slots v (suc n) = let e : slot-width * suc n ≡ suc (suc (suc (slot-width * n))) = omega arith in rw (e, empty-slots (suc v) n)
 
   -- r, s, no keys, the station number and zeros
-  pub empty-image : image P [] ≡ P .slots ∷ P .places ∷ 0 ∷ 0 ∷ P .station ∷ replicate (words-length (P .slots) (P .places) - 5) 0
+  pub empty-image : image P []
+      ≡ header-words (fresh-header (P .slots) (P .places) (P .station)) ++ replicate (words-length (P .slots) (P .places) - header-length) 0
   unfolding image image-by stash
   empty-image =
       let r = P .slots in
       let s = P .places in
-      let e : words-length r s - 5 ≡ slot-width * (r + r) + place-width * (s - 0) = omega arith in
+      let e : words-length r s - header-length ≡ slot-width * (r + r) + place-width * (s - 0) = omega arith in
       rw (e, empty-slots 0 (r + r), replicate-append-replicate)
 
 -- an accepted call lays the image of the empty set
@@ -54,12 +56,6 @@ module _ (P : Params) (ws : List ℕ) (accepted : fresh-refusal (length ws) (P .
   unfolding fresh-words
   fresh-image = rw (accepted, fresh-sizes .1) (sym (empty-image P))
 
--- zeros behind a heading
-zeros-headed : (n : ℕ) → header-length ≤ n → drop {A = ℕ} header-length (replicate n 0) ≡ replicate (n - header-length) 0
-zeros-headed n l =
-    let e : n ≡ suc (suc (suc (suc (suc (n - header-length))))) = omega arith in
-    ap (λ (k : ℕ). drop {A = ℕ} header-length (replicate k 0)) e
-
 -- the same by the test that decides, for the code of `fresh`
 module _ (ws : List ℕ) (r s station : ℕ) where
   pub fresh-refused : (params-in-range r s station && eqb (length ws) (words-length r s)) ≡ false
@@ -67,8 +63,8 @@ module _ (ws : List ℕ) (r s station : ℕ) where
   unfolding fresh-refusal fresh-words
   fresh-refused e = (rw e, rw e)
 
-  pub fresh-accepted : (params-in-range r s station && eqb (length ws) (words-length r s)) ≡ true → header-length ≤ length ws
+  pub fresh-accepted : (params-in-range r s station && eqb (length ws) (words-length r s)) ≡ true
       → (0 ≡ fresh-refusal (length ws) r s station)
-      × (r ∷ s ∷ 0 ∷ 0 ∷ station ∷ drop header-length (replicate (length ws) 0) ≡ fresh-words ws r s station)
+      × (header-words (fresh-header r s station) ++ drop header-length (replicate (length ws) 0) ≡ fresh-words ws r s station)
   unfolding fresh-refusal fresh-words
-  fresh-accepted e h = (rw e, rw (e, zeros-headed (length ws) h))
+  fresh-accepted e = (rw e, rw (e, drop-zeros header-length (length ws)))

@@ -3,11 +3,12 @@
 use Prim.Native.Nat.{ℕ, zero, suc, _+_, _*_, _-_, _≤_}
 use mathlib.Core.Path.{_≡_}
 use mathlib.Core.Bool.{Bool, false, not, _&&_}
-use mathlib.Core.List.{List, [], _∷_, _++_, List·Memᴰ as In}
+use mathlib.Core.List.{List, [], _∷_, _++_, map, List·Memᴰ as In}
 use lib.Dec.{eqb, leb}
 use lib.ListN.{length, getD, drop, replicate}
 use Rattle.basics.specs.Sets.{keep, any, Asc}
 use Rattle.cuckoo.specs.Graph.{stash, slot-key, slot-next}
+use Rattle.cuckoo.specs.Placement.{Place, slot, place}
 use Rattle.ordered.specs.Keys.{sorted, distinct}
 use Rattle.hashing.specs.Hash.{Family, first-part, blank, slots-in-range, station-in-range, tables}
 use Rattle.hashing.specs.Slots.{slot-0, slot-1}
@@ -189,10 +190,9 @@ image P L = image-by (slot-0 (family P)) (slot-1 (family P)) (tier-of L) (P .slo
 
 -- what stands in given words
 
--- the key words of n slots, of words that begin with a slot
-unfoldable pub slot-keys : ℕ → List ℕ → List ℕ
-slot-keys zero ws = []
-slot-keys (suc n) ws = getD ws 0 0 ∷ slot-keys n (drop slot-width ws)
+-- slot v
+abbrev pub slot-entry : List ℕ → ℕ → Entry
+slot-entry ws v = record { key = getD ws (key-at v) 0; tier = getD ws (tier-at v) 0 }
 
 -- n places, of words that begin with one
 unfoldable pub place-entries : ℕ → List ℕ → List Entry
@@ -203,9 +203,31 @@ place-entries (suc n) ws = record { key = getD ws 0 0; tier = getD ws 1 0 } ∷ 
 abbrev pub stash-entries : List ℕ → List Entry
 stash-entries ws = place-entries (places-of ws) (drop (stash-at (slots-of ws)) ws)
 
+-- A spot: a slot or a place of the stash, and what stands there.
+pub record Spot : Type 0 where
+  pub at : Place
+  pub entry : Entry
+
+-- n slots from v on
+unfoldable pub slot-spots : List ℕ → ℕ → ℕ → List Spot
+slot-spots ws v zero = []
+slot-spots ws v (suc n) = record { at = slot v; entry = slot-entry ws v } ∷ slot-spots ws (suc v) n
+
+-- places from i on, with these entries
+abbrev pub place-spots : ℕ → List Entry → List Spot
+place-spots i [] = []
+place-spots i (e ∷ L) = record { at = place i; entry = e } ∷ place-spots (suc i) L
+
+-- all spots of given words, in word order: the slots of table 0, those of table 1, the places of the stash
+abbrev pub spots : List ℕ → List Spot
+spots ws = slot-spots ws 0 (slots-of ws + slots-of ws) ++ place-spots 0 (stash-entries ws)
+
+abbrev pub spot-key : Spot → ℕ
+spot-key x = x .entry .key
+
 -- every word at which a key can stand
 abbrev pub key-words : List ℕ → List ℕ
-key-words ws = slot-keys (slots-of ws + slots-of ws) (drop header-length ws) ++ keys-of (stash-entries ws)
+key-words ws = map spot-key (spots ws)
 
 -- Those that are not blank, ascending, each once. A word from 1 to 9 is no key, and no slot with it is empty either: it makes the words the image of no set
 -- (`below-ten` of Canonical).
@@ -213,9 +235,6 @@ unfoldable pub keys-in : List ℕ → List ℕ
 keys-in ws = distinct (sorted (keep (λ w. not (blank w)) (key-words ws)))
 
 -- where a key is looked for, in this order: its slot in table 0, its slot in table 1, the places of the stash
-abbrev pub slot-entry : List ℕ → ℕ → Entry
-slot-entry ws v = record { key = getD ws (key-at v) 0; tier = getD ws (tier-at v) 0 }
-
 abbrev pub looked-at : List ℕ → List ℕ → ℕ → List Entry
 looked-at tabulation ws key =
     let F = family-of tabulation ws in

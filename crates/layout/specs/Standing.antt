@@ -1,10 +1,10 @@
 -- Which keys stand in given words, told by position; and that in the image of a set exactly its keys stand. So a set is read back from its image.
 -- Assumes nothing.
-use Prim.Native.Nat.{ℕ, zero, suc, _+_, _*_, _-_, _<_}
+use Prim.Native.Nat.{ℕ, zero, suc, _+_, _*_, _-_, _≤_, _<_}
 use mathlib.Core.Path.{_≡_, refl, sym, _∙_, ap}
 use mathlib.Core.Bool.{true, false, not}
 use mathlib.Core.Logic.{inl, inr, _↔_}
-use mathlib.Core.List.{List, [], _∷_, _++_, List·Memᴰ as In, List·Memᴰ·head as here, List·Memᴰ·tail as there, Memᴰ·append-left, Memᴰ·append-right, List·Memᴰ·append-cases}
+use mathlib.Core.List.{List, [], _∷_, _++_, map, map-append, List·Memᴰ as In, List·Memᴰ·head as here, List·Memᴰ·tail as there, Memᴰ·append-left, Memᴰ·append-right, List·Memᴰ·append-cases}
 use native.Mathlib.Omega.{arith}
 use borrow.Author.Tests.{ne-eqb, not-true}
 use lib.ListN.{length, getD, drop, replicate}
@@ -23,8 +23,8 @@ use Rattle.hashing.specs.Hash.{blank}
 use Rattle.hashing.specs.Issues.{not-blank-iff}
 use Rattle.hashing.specs.Slots.{slot-0, slot-1, slot-0-lt, slot-1-lt}
 use Rattle.layout.specs.Entries.{Entry, keys-of, tier-of, tiered, keys-tiered, tiered-agree, tier-absent, tier-all, tiered-self, tiered-in, no-entry, keys-none, none-in, keys-append}
-use Rattle.layout.specs.Layout.{Params, family, family-of, ValidKeys, header-length, slot-width, place-width, key-at, stash-at, place-at, slots-of, places-of, place-words, image-by}
-use Rattle.layout.specs.Layout.{stash-of, fits, stash-words, image, slot-keys, place-entries, stash-entries, key-words, keys-in, slot-entry, looked-at, tier-in, set-in}
+use Rattle.layout.specs.Layout.{Params, family, family-of, ValidKeys, place-width, key-at, stash-at, place-at, slots-of, places-of, place-words, image-by}
+use Rattle.layout.specs.Layout.{stash-of, fits, stash-words, image, place-entries, stash-entries, slot-spots, place-spots, spot-key, key-words, keys-in, slot-entry, looked-at, tier-in, set-in}
 use Rattle.layout.specs.Image.{fits-le, image-slots, image-places, image-key, image-next, image-tier, image-stash}
 
 -- blank keys: all that is needed here of `blank`
@@ -42,18 +42,33 @@ pub data KeyWord (ws : List ℕ) (c : ℕ) : Type 0 where
   at-slot : (v : ℕ) → v < slots-of ws + slots-of ws → getD ws (key-at v) 0 ≡ c → KeyWord ws c
   in-stash : (i : ℕ) → i < places-of ws → getD ws (place-at (slots-of ws) i) 0 ≡ c → KeyWord ws c
 
-slot-keys-length : (n : ℕ) (ws : List ℕ) → length (slot-keys n ws) ≡ n
-unfolding slot-keys
-slot-keys-length zero ws = refl
-slot-keys-length (suc n) ws = ap suc (slot-keys-length n (drop slot-width ws))
+-- the key words of n slots from v on are those of the slots v to v + n - 1,
+slot-key-at : (ws : List ℕ) (v n : ℕ) {c : ℕ} → In c (map spot-key (slot-spots ws v n))
+    → (w : ℕ) × (w < v + n) × (getD ws (key-at w) 0 ≡ c)
+unfolding slot-spots
+slot-key-at ws v zero i = elim i [ ]
+slot-key-at ws v (suc n) (here q) = (v, omega arith, sym q)
+slot-key-at ws v (suc n) (there i) = let r = slot-key-at ws (suc v) n i in (r .0, omega (arith, r .1), r .2)
 
-slot-keys-at : (n : ℕ) (ws : List ℕ) (i : ℕ) → i < n → getD (slot-keys n ws) i 0 ≡ getD ws (slot-width * i) 0
-unfolding slot-keys
-slot-keys-at zero ws i l = absurd (omega arith)
-slot-keys-at (suc n) ws zero l = refl
-slot-keys-at (suc n) ws (suc i) l =
-    let e : slot-width * suc i ≡ slot-width + slot-width * i = omega arith in
-    rw e (slot-keys-at n (drop slot-width ws) i (omega arith) ∙ getD-drop slot-width ws (slot-width * i) 0)
+at-slot-key : (ws : List ℕ) (v n w : ℕ) → v ≤ w → w < v + n → {c : ℕ} → getD ws (key-at w) 0 ≡ c
+    → In c (map spot-key (slot-spots ws v n))
+unfolding slot-spots
+at-slot-key ws v zero w l m e = absurd (omega arith)
+at-slot-key ws v (suc n) w l m e = elim (eq? w v) [
+  | inl q ↦ here (sym e ∙ ap (λ (x : ℕ). getD ws (key-at x) 0) q)
+  | inr o ↦ there (at-slot-key ws (suc v) n w (omega arith) (omega arith) e)
+]
+
+-- and the key words of places those of their entries
+place-spots-keys : (i : ℕ) (L : List Entry) → map spot-key (place-spots i L) ≡ keys-of L
+place-spots-keys i [] = refl
+place-spots-keys i (e ∷ L) = ap (λ (R : List ℕ). e .key ∷ R) (place-spots-keys (suc i) L)
+
+pub key-words-parts : (ws : List ℕ)
+    → key-words ws ≡ map spot-key (slot-spots ws 0 (slots-of ws + slots-of ws)) ++ keys-of (stash-entries ws)
+key-words-parts ws =
+    map-append spot-key (slot-spots ws 0 (slots-of ws + slots-of ws)) (place-spots 0 (stash-entries ws))
+    ∙ (rw (place-spots-keys 0 (stash-entries ws)))
 
 place-entries-length : (n : ℕ) (ws : List ℕ) → length (keys-of (place-entries n ws)) ≡ n
 unfolding place-entries
@@ -69,15 +84,11 @@ place-entries-at (suc n) ws (suc i) l =
     rw e (place-entries-at n (drop place-width ws) i (omega arith) ∙ getD-drop place-width ws (place-width * i) 0)
 
 module _ (ws : List ℕ) where
-  slots-at : (v : ℕ) → v < slots-of ws + slots-of ws
-      → getD (slot-keys (slots-of ws + slots-of ws) (drop header-length ws)) v 0 ≡ getD ws (key-at v) 0
-  slots-at v l = slot-keys-at (slots-of ws + slots-of ws) (drop header-length ws) v l ∙ getD-drop header-length ws (slot-width * v) 0
-
   places-at : (i : ℕ) → i < places-of ws → getD (keys-of (stash-entries ws)) i 0 ≡ getD ws (place-at (slots-of ws) i) 0
   places-at i l =
       place-entries-at (places-of ws) (drop (stash-at (slots-of ws)) ws) i l ∙ getD-drop (stash-at (slots-of ws)) ws (place-width * i) 0
 
-  places-count : length (keys-of (stash-entries ws)) ≡ places-of ws
+  pub places-count : length (keys-of (stash-entries ws)) ≡ places-of ws
   places-count = place-entries-length (places-of ws) (drop (stash-at (slots-of ws)) ws)
 
   pub stash-key-in : {c : ℕ} → In c (keys-of (stash-entries ws)) → KeyWord ws c
@@ -87,22 +98,20 @@ module _ (ws : List ℕ) where
       in-stash (w .0) l (sym (places-at (w .0) l) ∙ w .2)
 
   in-key-words : {c : ℕ} → In c (key-words ws) → KeyWord ws c
-  in-key-words {c} h = elim (List·Memᴰ·append-cases (slot-keys (slots-of ws + slots-of ws) (drop header-length ws)) h) [
-    | inl i ↦
-        let w = in-at i in
-        let l : w .0 < slots-of ws + slots-of ws = omega (arith, w .1, slot-keys-length (slots-of ws + slots-of ws) (drop header-length ws)) in
-        at-slot (w .0) l (sym (slots-at (w .0) l) ∙ w .2)
-    | inr i ↦ stash-key-in i
-  ]
+  in-key-words {c} h =
+      let n = slots-of ws + slots-of ws in
+      elim (List·Memᴰ·append-cases (map spot-key (slot-spots ws 0 n)) (rw (key-words-parts ws) at h)) [
+        | inl i ↦ let w = slot-key-at ws 0 n i in at-slot (w .0) (omega (arith, w .1)) (w .2)
+        | inr i ↦ stash-key-in i
+      ]
 
   key-word-in : {c : ℕ} → KeyWord ws c → In c (key-words ws)
   key-word-in (at-slot v l e) =
-      let ks = slot-keys (slots-of ws + slots-of ws) (drop header-length ws) in
-      let i = getD-in ks v (omega (arith, slot-keys-length (slots-of ws + slots-of ws) (drop header-length ws))) in
-      Memᴰ·append-left (keys-of (stash-entries ws)) (rw (slots-at v l, e) at i)
+      rw (key-words-parts ws) (Memᴰ·append-left (keys-of (stash-entries ws))
+      (at-slot-key ws 0 (slots-of ws + slots-of ws) v (omega arith) (omega arith) e))
   key-word-in (in-stash j l e) =
       let i = getD-in (keys-of (stash-entries ws)) j (omega (arith, places-count)) in
-      Memᴰ·append-right (slot-keys (slots-of ws + slots-of ws) (drop header-length ws)) (rw (places-at j l, e) at i)
+      rw (key-words-parts ws) (Memᴰ·append-right (map spot-key (slot-spots ws 0 (slots-of ws + slots-of ws))) (rw (places-at j l, e) at i))
 
 -- the set of the keys that stand in given words
 

@@ -18,10 +18,10 @@ pub const MAX_TIER: u32 = 7;
 // The most places of a stash.
 pub const MAX_PLACES: u32 = 64;
 
-// The words that the largest dictionary has, and the scratch that its calls ask for: r = 1,024, s = 64.
-pub const MAX_WORDS: usize = 6277;
+// The words that the largest dictionary has, with r = 1,024, and the scratch that its calls ask for.
+pub const MAX_WORDS: usize = HEADER_LENGTH + SLOT_WIDTH * 2048 + PLACE_WIDTH * MAX_PLACES as usize;
 
-pub const MAX_SCRATCH: usize = 12800;
+pub const MAX_SCRATCH: usize = 12 * 1024 + 8 * MAX_PLACES as usize;
 
 // The heading of a dictionary: r, s, the number of keys, the number of stashed keys and the station number.
 pub struct Header {

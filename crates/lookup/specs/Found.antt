@@ -54,13 +54,17 @@ module _ (tabulation ws : List ℕ) (key : ℕ) where
     pub found-neither : eqb key (slot-entry ws (slot-1 F key) .key) ≡ false → 0 ∷ [] ≡ looked-up own-slots key
     found-neither f = rw (e, f)
 
--- and the stash
+-- and the stash, lent as a part of the words
+pub stash-part : (ws : List ℕ) {start count : ℕ} → start ≡ stash-at (slots-of ws) → count ≡ places-of ws
+    → place-entries count (midOf start (start + place-width * count - start) ws) ≡ stash-entries ws
+stash-part ws {start} {count} a n =
+    let l : start + place-width * count - start ≡ place-width * count = omega arith in
+    rw (l, places-take count (drop start ws), a, n)
+
 pub found-stash : (ws : List ℕ) (key : ℕ) {start count : ℕ} {vs : List ℕ} → start ≡ stash-at (slots-of ws) → count ≡ places-of ws
     → vs ≡ looked-up (place-entries count (midOf start (start + place-width * count - start) ws)) key
     → vs ≡ looked-up (stash-entries ws) key
-found-stash ws key {start} {count} a n q =
-    let l : start + place-width * count - start ≡ place-width * count = omega arith in
-    q ∙ (rw (l, places-take count (drop start ws), a, n))
+found-stash ws key a n q = q ∙ (rw (stash-part ws a n))
 
 -- Two entries before others: what is found in them counts, and where nothing is, what is found behind them.
 module _ (c d : Entry) (L : List Entry) (key : ℕ) where

@@ -168,7 +168,8 @@ pub fn stash_refusal(words: &[u32]) -> u32
     if !is_shaped(words) {
         return WRONG_SHAPE;
     }
-    if words[1] < words[3] {
+    let header = read_header(words);
+    if header.places < header.stashed {
         return NOT_CANONICAL;
     }
     0
@@ -181,7 +182,8 @@ pub fn stash(words: &[u32]) -> &[u32]
     if stash_refusal(words) != 0 {
         return &words[0..0];
     }
-    let start = stash_start(words[0]);
-    let end = start + PLACE_WIDTH * wide(words[3]);
+    let header = read_header(words);
+    let start = stash_start(header.slots);
+    let end = start + PLACE_WIDTH * wide(header.stashed);
     &words[start..end]
 }

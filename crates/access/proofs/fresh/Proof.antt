@@ -54,7 +54,7 @@ returns-3 c =
     let f = c .before .before .before .before .before .before in
     let e = f .before .before in
     let a = start (e .before .before) .args in
-    let s = fresh-accepted (a .words .now) (a .r) (a .s) (a .station) (rw (in-ranges (e .before .before)) (eq-eqb _ _ (long e))) (omega (arith, long e)) in
+    let s = fresh-accepted (a .words .now) (a .r) (a .s) (a .station) (rw (in-ranges (e .before .before)) (eq-eqb _ _ (long e))) in
     (s .0, c .before .before .write-header .ensures ∙ (rw (f .fill .ensures) (s .1)))
 
 pub fresh-spec : {M : Type 1} → statement M

@@ -4,7 +4,7 @@ use native.Mathlib.Nat.{add-sub-cancel-left}
 use native.Mathlib.Omega.{arith}
 use borrow.Author.Tests.{eq-eqb, ne-eqb}
 use Rattle.layout.specs.Answers.{view-refusal, view-of}
-use Rattle.layout.specs.Shape.{viewed}
+use Rattle.layout.specs.Shape.{viewed, same-header}
 use borrow.Author.Needs.{needs}
 use Rattle.lookup.proofs.stash.Statement.{statement}
 use Rattle.lookup.proofs.stash.Tie as tie
@@ -29,30 +29,23 @@ returns c = simp (ne-eqb _ 0 (λ e. c .before .if1 .taken (c .before .before .st
 accepted : (e : tie.Else1) → view-refusal (e .before .before .before .args .words .now) ≡ 0
 accepted e = sym (e .before .stash-refusal .ensures) ∙ e .if1 .left
 
-shared-slice-read-stash-start : tie.Need-shared-slice-read-stash-start
-shared-slice-read-stash-start c = omega (arith, viewed _ (accepted (c .before)))
+read-header-requires : tie.Need-read-header-requires
+read-header-requires c κs = omega (arith, viewed _ (accepted c))
 
 stash-start-requires : tie.Need-stash-start-requires
-stash-start-requires c κs = viewed _ (accepted (c .before)) .shape .sizes .slots-bound
-
-shared-slice-read-wide : tie.Need-shared-slice-read-wide
-shared-slice-read-wide c = omega (arith, viewed _ (accepted (c .before .before .before)))
+stash-start-requires c κs = omega (arith, same-header (c .read-header .ensures), viewed _ (accepted (c .before)))
 
 wide-requires : tie.Need-wide-requires
 wide-requires c κs = search needs
 
--- the stash has its place and its length
-abbrev granted : tie.After-wide → tie.Else1
-granted w = w .before .before .before .before
-
 mul-end : tie.Need-mul-end
-mul-end c = omega (arith, viewed _ (accepted (granted c)))
+mul-end c = search needs
 
 add-end : tie.Need-add-end
-add-end c = omega (arith, viewed _ (accepted (granted c)))
+add-end c = search needs
 
 mul-result : tie.Need-mul-result
-mul-result c = omega (arith, viewed _ (accepted (granted c)))
+mul-result c = search needs
 
 sub-result-2 : tie.Need-sub-result-2
 sub-result-2 c = search needs
@@ -60,12 +53,19 @@ sub-result-2 c = search needs
 part-result-start-2 : tie.Need-part-result-start-2
 part-result-start-2 c = search needs
 
+-- the heading is read
+abbrev read : tie.After-wide → tie.After-read-header
+read w = w .before .before
+
 part-result-end-2 : tie.Need-part-result-end-2
-part-result-end-2 c = omega (arith, viewed _ (accepted (granted c)))
+part-result-end-2 c = omega (arith, same-header (read c .read-header .ensures), viewed _ (accepted (read c .before)))
 
 returns-2 : tie.Need-returns-2
 unfolding view-of
-returns-2 c = simp (eq-eqb _ 0 (accepted (granted (c .before))), add-sub-cancel-left, c .before .before .before .stash-start .ensures, c .before .wide .ensures)
+returns-2 c =
+    let w = c .before in
+    let h = same-header (read w .read-header .ensures) in
+    simp (eq-eqb _ 0 (accepted (read w .before)), add-sub-cancel-left, w .before .stash-start .ensures, w .wide .ensures, h .slots, h .stashed)
 
 pub stash-spec : {M : Type 1} → statement M
 stash-spec =
@@ -76,9 +76,8 @@ stash-spec =
     part-result-start
     part-result-end
     returns
-    shared-slice-read-stash-start
+    read-header-requires
     stash-start-requires
-    shared-slice-read-wide
     wide-requires
     mul-end
     add-end
