@@ -85,8 +85,8 @@ trail-stands tabulation ws scratch key sheet = unchanged (trail-words tabulation
 
 -- "Like arguments are equal ones, what the work sheet and the meter hold aside": two trails that differ only in what the scratch holds are like.
 pub trail-like : (t tabulation scratch scratch′ : List ℕ) (key : ℕ) (sheet : List ℕ) → length scratch ≡ length scratch′
-    → Like t (Call.other (trail tabulation scratch key sheet)) (Call.other (trail tabulation scratch′ key sheet))
+    → Like t (Call.other (tracing tabulation scratch key sheet)) (Call.other (tracing tabulation scratch′ key sheet))
 trail-like t tabulation scratch scratch′ key sheet e =
-    Like.other (trail tabulation scratch key sheet) (trail tabulation scratch′ key sheet)
+    Like.other (tracing tabulation scratch key sheet) (tracing tabulation scratch′ key sheet)
     (λ ws. rw (trail-any-scratch tabulation ws scratch scratch′ key sheet e))
     (λ ws. rw (trail-any-scratch tabulation ws scratch scratch′ key sheet e))
