@@ -21,7 +21,7 @@ use Rattle.layout.specs.Shape.{Shaped, shape}
 use Rattle.layout.specs.Standing.{keys-in-valid}
 use Rattle.layout.specs.Issues.{listed-alone}
 use Rattle.layout.specs.Fitting.{without-fits}
-use Rattle.codec.specs.Collect.{keys-in-few}
+use Rattle.collect.specs.Collect.{keys-in-few}
 use Rattle.build.specs.Scratch.{used}
 use Rattle.build.specs.Build.{Buildable}
 use Rattle.outcome.specs.declared.Change.{Change}

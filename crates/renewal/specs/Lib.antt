@@ -1,3 +1,3 @@
--- What the contracts of `renewal` cite: what the build leaves in scratch for `codec` (Columns), and what reading and renewing answer and leave (Reading).
+-- What the contracts of `renewal` cite: what the build leaves in scratch for `image` (Columns), and what reading and renewing answer and leave (Reading).
 pub mod Columns
 pub mod Reading

@@ -21,7 +21,7 @@ use Rattle.build.specs.Scratch.{parts, used}
 use Rattle.build.specs.Build.{full, made, Built, Buildable}
 use Rattle.build.specs.declared.StashCount.{StashCount}
 use Rattle.build.specs.declared.StashCount.the-variants.{Ranks, Overflow}
-use Rattle.codec.specs.Image.{alike-image, written-image}
+use Rattle.image.specs.Image.{alike-image, written-image}
 use Rattle.outcome.specs.Outcome.{early-refusals}
 use Rattle.outcome.specs.Laws.{Ready, none-ready}
 use Rattle.members.specs.Edges.{tier-found, small-le, small-same, Lined, lined-buildable, lined-built}

@@ -12,7 +12,7 @@ ghost use Rattle.renewal.specs.Reading.{Renewed};
 use build::StashCount;
 use built::matches_built;
 use built::write_built;
-use codec::collect::collect_keys;
+use collect::collect_keys;
 use layout::Header;
 use members::hashing::write_edges;
 use members::one_issue;
