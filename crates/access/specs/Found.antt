@@ -11,8 +11,8 @@ use lib.ListN.{length, getD, take, drop}
 use Rattle.basics.specs.Tests.{test}
 use Rattle.basics.specs.Sets.{member, in-member}
 use Rattle.layout.specs.Entries.{Entry, keys-of, tier-of, tier-absent}
-use Rattle.tabulation.specs.Hash.{Family}
-use Rattle.tabulation.specs.Slots.{slot-0, slot-1}
+use Rattle.hashing.specs.Hash.{Family}
+use Rattle.hashing.specs.Slots.{slot-0, slot-1}
 use Rattle.layout.specs.Layout.{family-of, place-width, stash-at, slots-of, places-of, place-entries, slot-entry, stash-entries, looked-at}
 use Rattle.layout.specs.Answers.{values, looked-up}
 use Rattle.layout.specs.declared.Found.{Found}

@@ -6,7 +6,7 @@ ghost use mathlib.Core.List.{_∷_, _++_};
 ghost use Prim.Native.Nat.{_+_, _*_, _≤_, _<_};
 ghost use lib.Dec.{eqb};
 ghost use lib.ListN.{length, getD, take, drop};
-ghost use Rattle.tabulation.specs.Hash.{tabulation-length, max-slots};
+ghost use Rattle.hashing.specs.Hash.{tabulation-length, max-slots};
 ghost use Rattle.layout.specs.Layout.{header-words, header-length, slot-width, slots-of, places-of, key-count};
 ghost use Rattle.layout.specs.Layout.{stash-count, station-of, sizes-in-range, params-in-range, shaped, words-length};
 ghost use Rattle.layout.specs.Entries.{tier-of};

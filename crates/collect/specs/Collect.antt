@@ -17,7 +17,7 @@ use Rattle.basics.specs.Lists.{keep-append}
 use Rattle.ordered.specs.Keys.{sorted, distinct}
 use Rattle.ordered.specs.Sorting.{sorted-length}
 use Rattle.ordered.specs.Distinct.{distinct-length}
-use Rattle.tabulation.specs.Hash.{blank}
+use Rattle.hashing.specs.Hash.{blank}
 use Rattle.layout.specs.Entries.{keys-of}
 use Rattle.layout.specs.Layout.{header-length, slot-width, place-width, stash-at, slots-of, places-of, slot-keys, place-entries, stash-entries, key-words, keys-in}
 use Rattle.layout.specs.Shape.{Shaped}

@@ -7,7 +7,7 @@ ghost use mathlib.Core.List.{_∷_, _++_};
 ghost use Prim.Native.Nat.{_+_, _*_, _≤_, _<_};
 ghost use lib.ListN.{length, take};
 ghost use Rattle.ordered.specs.Keys.{sorted, distinct};
-ghost use Rattle.tabulation.specs.Hash.{blank};
+ghost use Rattle.hashing.specs.Hash.{blank};
 ghost use Rattle.layout.specs.Layout.{slots-of, places-of, key-words, keys-in};
 ghost use Rattle.layout.specs.Shape.{Shaped};
 ghost use Rattle.records.specs.Columns.{picked};

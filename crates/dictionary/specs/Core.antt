@@ -13,7 +13,7 @@ use Rattle.basics.specs.Sets.{member, member-in, in-member, without, out-in, As
 use Rattle.ordered.specs.Place.{rank-le, rank-found, length-with, length-without}
 use Rattle.ordered.specs.Keys.{rank-of, with-key}
 use Rattle.refusals.specs.Refusal.{done, not-canonical, blank-key, key-present, key-absent, stash-full, wrong-tier, other-tier, other-issue, first-refusal, front-applies}
-use Rattle.tabulation.specs.Hash.{Hashing, blank, tables}
+use Rattle.hashing.specs.Hash.{Hashing, blank, tables}
 use Rattle.layout.specs.Entries.{max-tier, keys-of, tier-of, tiered, keys-tiered, tier-tiered}
 use Rattle.layout.specs.Layout.{Params, ValidKeys, another-issue, OneIssue, params-of, slots-of, places-of, station-of, fits, image, keys-in, tier-in, set-in}
 use Rattle.layout.specs.Canonical.{canonical, canonical-true}

@@ -7,7 +7,7 @@ use mathlib.Core.Bool.{true, false, not}
 use mathlib.Core.List.{List}
 use borrow.Author.Tests.{eq-eqb, ne-eqb}
 use lib.ListN.{length}
-use Rattle.tabulation.specs.Hash.{tabulation-length}
+use Rattle.hashing.specs.Hash.{tabulation-length}
 use Rattle.layout.specs.Layout.{Params}
 use Rattle.outcome.specs.Held.{Holds}
 use Rattle.history.specs.Calls.{own, wrong, Step}

@@ -6,7 +6,7 @@ use mathlib.Core.Path.{_≡_}
 use mathlib.Core.List.{List, [], _∷_}
 use lib.ListN.{length}
 use Rattle.refusals.specs.Refusal.{done}
-use Rattle.tabulation.specs.Hash.{tabulation-length}
+use Rattle.hashing.specs.Hash.{tabulation-length}
 use Rattle.layout.specs.Layout.{Params}
 use Rattle.layout.specs.Answers.{lookup-refusal, lookup-values, view-refusal, view-of, fresh-refusal, fresh-words}
 use Rattle.outcome.specs.declared.Change.{Change}

@@ -15,7 +15,7 @@ use Rattle.basics.specs.Lists.{keep-all, keep-none}
 use Rattle.ordered.specs.Keys.{with-key, above}
 use Rattle.ordered.specs.Place.{asc-with}
 use Rattle.refusals.specs.Refusal.{done, wrong-tabulation, short-scratch, blank-key, first-refusal, and, front-none}
-use Rattle.tabulation.specs.Hash.{tabulation-length, blank}
+use Rattle.hashing.specs.Hash.{tabulation-length, blank}
 use Rattle.layout.specs.Entries.{Entry, keys-of, tier-of, tiered, tiered-agree, tiered-self}
 use Rattle.layout.specs.Layout.{Params}
 use Rattle.outcome.specs.declared.Change.{Change}

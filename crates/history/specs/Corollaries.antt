@@ -12,7 +12,7 @@ use lib.Dec.{ltb}
 use lib.ListN.{length, replicate}
 use Rattle.basics.specs.Sets.{member, Asc}
 use Rattle.refusals.specs.Refusal.{done, short-scratch, blank-key, key-absent, short-trail, first-refusal}
-use Rattle.tabulation.specs.Hash.{first-part, blank}
+use Rattle.hashing.specs.Hash.{first-part, blank}
 use Rattle.layout.specs.Entries.{Entry, keys-of}
 use Rattle.layout.specs.Layout.{Params, another-issue, station-of, scratch-length}
 use Rattle.layout.specs.Image.{image-station}

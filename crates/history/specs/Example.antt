@@ -17,9 +17,9 @@ use Rattle.cuckoo.specs.Trail.{other, trail-from}
 use Rattle.cuckoo.specs.Trail as cuckoo-trail
 use Rattle.ordered.specs.Keys.{with-key, above}
 use Rattle.refusals.specs.Refusal.{done, stash-full}
-use Rattle.tabulation.specs.Hash.{slots-in-range, station-in-range, blank, hash}
-use Rattle.tabulation.specs.Answer.{hashes-refusal, hashes-values}
-use Rattle.tabulation.specs.Slots.{slot-0, slot-1}
+use Rattle.hashing.specs.Hash.{slots-in-range, station-in-range, blank, hash}
+use Rattle.hashing.specs.Answer.{hashes-refusal, hashes-values}
+use Rattle.hashing.specs.Slots.{slot-0, slot-1}
 use Rattle.layout.specs.Entries.{Entry, keys-of, tier-of}
 use Rattle.layout.specs.Layout.{Params, another-issue, family, sizes-in-range, params-in-range, shaped, stash-of, fits, image, place-words, place-entries, tier-in}
 use Rattle.layout.specs.Answers.{view-refusal, view-of, fresh-refusal, fresh-words}

@@ -6,7 +6,7 @@ use mathlib.Core.Path.{_≡_, refl, _∙_}
 use mathlib.Core.Bool.{true}
 use mathlib.Core.List.{List, [], _∷_, map, List·Memᴰ as In, List·Memᴰ·head as here, List·Memᴰ·tail as there}
 use lib.ListN.{length}
-use Rattle.tabulation.specs.Hash.{tabulation-length}
+use Rattle.hashing.specs.Hash.{tabulation-length}
 use Rattle.layout.specs.Entries.{Entry, keys-of}
 use Rattle.layout.specs.Layout.{Params, ValidSet, fits, image}
 use Rattle.layout.specs.Fresh.{empty-valid, empty-fits, fresh-sizes, fresh-image}

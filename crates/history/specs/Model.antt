@@ -9,7 +9,7 @@ use Rattle.basics.specs.Sets.{member}
 use Rattle.ordered.specs.Keys.{with-key}
 use Rattle.refusals.specs.Refusal.{done, wrong-tabulation, short-scratch, blank-key, key-present, key-absent, stash-full, wrong-tier, other-tier, other-issue}
 use Rattle.refusals.specs.Refusal.{first-refusal}
-use Rattle.tabulation.specs.Hash.{tabulation-length, blank}
+use Rattle.hashing.specs.Hash.{tabulation-length, blank}
 use Rattle.layout.specs.Entries.{Entry, max-tier, keys-of, tier-of}
 use Rattle.layout.specs.Layout.{Params, another-issue, stash-of, scratch-length, fits, place-words}
 use Rattle.outcome.specs.declared.Change.{Change}

@@ -16,8 +16,8 @@ use Rattle.cuckoo.specs.Placement.{Placement}
 use Rattle.ordered.specs.Keys.{with-key}
 use Rattle.refusals.specs.Refusal.{done, wrong-tabulation, short-scratch, blank-key, key-present, stash-full, wrong-tier, other-tier, other-issue}
 use Rattle.refusals.specs.Refusal.{first-refusal, none, and, front-passes, front-none}
-use Rattle.tabulation.specs.Hash.{blank}
-use Rattle.tabulation.specs.Slots.{slot-0, slot-1}
+use Rattle.hashing.specs.Hash.{blank}
+use Rattle.hashing.specs.Slots.{slot-0, slot-1}
 use Rattle.layout.specs.Entries.{Entry, max-tier, keys-of, tier-of}
 use Rattle.layout.specs.Layout.{Params, another-issue, family, scratch-length, fits, image}
 use Rattle.layout.specs.Canonical.{image-one}

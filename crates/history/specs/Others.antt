@@ -7,8 +7,8 @@ use mathlib.Core.List.{List, [], _++_}
 use borrow.Author.Tests.{ne-eqb}
 use lib.ListN.{length}
 use Rattle.refusals.specs.Refusal.{done}
-use Rattle.tabulation.specs.Hash.{Family}
-use Rattle.tabulation.specs.Answer.{hashes-refusal, hashes-values}
+use Rattle.hashing.specs.Hash.{Family}
+use Rattle.hashing.specs.Answer.{hashes-refusal, hashes-values}
 use Rattle.layout.specs.Entries.{Entry}
 use Rattle.layout.specs.Layout.{Params}
 use Rattle.layout.specs.Answers.{fresh-refusal, fresh-words}

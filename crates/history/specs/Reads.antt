@@ -10,7 +10,7 @@ use lib.Dec.{eqb}
 use lib.ListN.{length}
 use Rattle.basics.specs.Tests.{test}
 use Rattle.refusals.specs.Refusal.{done, first-refusal}
-use Rattle.tabulation.specs.Hash.{tabulation-length, blank}
+use Rattle.hashing.specs.Hash.{tabulation-length, blank}
 use Rattle.layout.specs.Entries.{Entry}
 use Rattle.layout.specs.Layout.{Params}
 use Rattle.layout.specs.Answers.{lookup-refusal, lookup-values, looked-up}

@@ -9,7 +9,7 @@ use mathlib.Core.List.{List, [], _∷_, _++_, List·Memᴰ as In}
 use lib.IntN.{ℤ}
 use Rattle.basics.specs.Sets.{member}
 use Rattle.refusals.specs.Refusal.{done, blank-key, key-absent, wrong-price, first-refusal}
-use Rattle.tabulation.specs.Hash.{blank}
+use Rattle.hashing.specs.Hash.{blank}
 use Rattle.layout.specs.Entries.{keys-of, tier-of}
 use Rattle.layout.specs.Layout.{Params}
 use Rattle.outcome.specs.declared.Sale.{Sale}

@@ -12,7 +12,7 @@ use lib.Seq.{ext-getD}
 use Rattle.basics.specs.Tests.{and-true, bool-ext}
 use Rattle.basics.specs.Lists.{same, same-true, true-same}
 use Rattle.cuckoo.specs.Graph.{slot-key, slot-next}
-use Rattle.tabulation.specs.Slots.{slot-0, slot-1}
+use Rattle.hashing.specs.Slots.{slot-0, slot-1}
 use Rattle.layout.specs.Entries.{Entry, keys-of, tier-of}
 use Rattle.layout.specs.Layout.{Params, family, header-words, header-length, slot-width, place-width, key-at, tier-at, stash-at, place-at, words-length, slots-of, places-of}
 use Rattle.layout.specs.Layout.{key-count, stash-count, station-of, stash-of, fits, image}

@@ -7,7 +7,7 @@ use lib.Dec.{eqb, ltb}
 use lib.ListN.{length, take, drop, replicate}
 use Rattle.basics.specs.Sets.{member}
 use Rattle.refusals.specs.Refusal.{done, wrong-tabulation, wrong-shape, not-canonical, blank-key, first-refusal, first-refusal-in}
-use Rattle.tabulation.specs.Hash.{tabulation-length, blank}
+use Rattle.hashing.specs.Hash.{tabulation-length, blank}
 use Rattle.layout.specs.Entries.{Entry, keys-of, tier-of}
 use Rattle.layout.specs.Layout.{shaped, params-in-range, slots-of, places-of, stash-count, place-width, stash-at, words-length, looked-at}
 use Rattle.layout.specs.declared.Found.{Found}

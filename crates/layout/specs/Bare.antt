@@ -9,9 +9,9 @@ use mathlib.Core.List.{List, [], _∷_, _++_}
 use lib.ListN.{length, getD, take, drop, replicate}
 use Rattle.cuckoo.specs.Graph.{stash, slot-key, slot-next}
 use Rattle.cuckoo.specs.Agree.{stash-agree, slot-key-agree, slot-next-agree}
-use Rattle.tabulation.specs.Hash.{first-part}
-use Rattle.tabulation.specs.Slots.{slot-0, slot-1}
-use Rattle.tabulation.specs.Stations.{hash-01, Moved, moved-hash}
+use Rattle.hashing.specs.Hash.{first-part}
+use Rattle.hashing.specs.Slots.{slot-0, slot-1}
+use Rattle.hashing.specs.Stations.{hash-01, Moved, moved-hash}
 use Rattle.layout.specs.Entries.{Entry, keys-of, tier-of}
 use Rattle.layout.specs.Layout.{Params, family, header-length, slot-width, slots-of, fits, image, slot-words, stash-entries, slot-words-by, body-by, image-by}
 use Rattle.layout.specs.Ends.{Known, image-known}

@@ -16,9 +16,9 @@ use Rattle.basics.specs.Sets.{without, Asc, none, some}
 use Rattle.basics.specs.Lists.{same, same-true}
 use Rattle.cuckoo.specs.Graph.{label, joined, component, onCycle, cyclic, spare, settle, seated, stash, root, sits, occupant, next, slot-key, slot-next}
 use Rattle.cuckoo.specs.Agree.{agree-none, agree-some}
-use Rattle.tabulation.specs.Hash.{Family, first-part, entry, hash, blank, tabulation-length}
-use Rattle.tabulation.specs.Stations.{Moved}
-use Rattle.tabulation.specs.Slots.{slot-0, slot-1}
+use Rattle.hashing.specs.Hash.{Family, first-part, entry, hash, blank, tabulation-length}
+use Rattle.hashing.specs.Stations.{Moved}
+use Rattle.hashing.specs.Slots.{slot-0, slot-1}
 use Rattle.layout.specs.Entries.{Entry, max-tier, keys-of, tier-of, tiered}
 use Rattle.layout.specs.Layout.{Params, family, ValidSet, another-issue, one-issue, fits, image, fits-by, slot-words-by, image-by}
 use Rattle.layout.specs.Issues.{one-issue-iff}

@@ -14,8 +14,8 @@ use Rattle.basics.specs.Tests.{test, and-true}
 use Rattle.basics.specs.Sets.{any, any-true, true-any}
 use Rattle.basics.specs.Lists.{same, same-true, true-same}
 use Rattle.layout.specs.Entries.{Entry, max-tier, keys-of, keys-tiered, key-in, tiered-in, in-tiered}
-use Rattle.tabulation.specs.Hash.{first-part, blank}
-use Rattle.tabulation.specs.Issues.{not-blank-iff}
+use Rattle.hashing.specs.Hash.{first-part, blank}
+use Rattle.hashing.specs.Issues.{not-blank-iff}
 use Rattle.layout.specs.Layout.{Params, ValidKeys, ValidSet, OneIssue, one-issue, key-at, slots-of, params-of, params-in-range, shaped, fits, image, keys-in, tier-in, set-in}
 use Rattle.layout.specs.Shape.{shape}
 use Rattle.layout.specs.Image.{image-shaped, image-params}

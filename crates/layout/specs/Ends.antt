@@ -4,7 +4,7 @@ use Prim.Native.Nat.{ℕ, zero, suc, _+_}
 use mathlib.Core.Path.{_≡_, refl}
 use mathlib.Core.List.{List}
 use Rattle.cuckoo.specs.Agree.{Agree, stash-agree, slot-key-agree, slot-next-agree}
-use Rattle.tabulation.specs.Slots.{slot-0, slot-1}
+use Rattle.hashing.specs.Slots.{slot-0, slot-1}
 use Rattle.layout.specs.Entries.{Entry, keys-of, tier-of}
 use Rattle.layout.specs.Layout.{Params, family, fits-by, slot-words-by, image-by, fits, slot-words, image}
 

@@ -14,9 +14,9 @@ use Rattle.basics.specs.Sets.{without, Sub, Asc, some, out-in, asc-out}
 use Rattle.cuckoo.specs.Seating.{from-a}
 use Rattle.cuckoo.specs.Cycles.{Cycle, keys, cycle-of-two}
 use Rattle.cuckoo.specs.Placement.{Place, slot, MaySit, table-0, table-1, Placement, fits-placed, placed-fits, fits-bound, subset-fits}
-use Rattle.tabulation.specs.Hash.{Family, first-part}
-use Rattle.tabulation.specs.Issues.{issues-slots}
-use Rattle.tabulation.specs.Slots.{slot-0, slot-1, slot-0-lt, slot-1-lt, slots-apart}
+use Rattle.hashing.specs.Hash.{Family, first-part}
+use Rattle.hashing.specs.Issues.{issues-slots}
+use Rattle.hashing.specs.Slots.{slot-0, slot-1, slot-0-lt, slot-1-lt, slots-apart}
 use Rattle.layout.specs.Layout.{Params, family, ValidKeys, fits}
 use Rattle.layout.specs.Image.{fits-le, le-fits}
 use Rattle.layout.specs.Standing.{zero-outside}

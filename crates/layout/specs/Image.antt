@@ -11,7 +11,7 @@ use lib.ListN.{length, getD, set, drop, replicate, length-append, length-replica
 use lib.Seq.{getD-drop, drop-drop, drop-at, ext-getD}
 use Rattle.cuckoo.specs.Graph.{stash, slot-key, slot-next}
 use Rattle.basics.specs.Tests.{eq?, le?}
-use Rattle.tabulation.specs.Slots.{slot-0, slot-1}
+use Rattle.hashing.specs.Slots.{slot-0, slot-1}
 use Rattle.layout.specs.Entries.{Entry, keys-of, tier-of}
 use Rattle.layout.specs.Layout.{Params, family, header-words, header-length, slot-width, place-width, key-at, tier-at, stash-at, place-at, words-length, slots-of, places-of, fits-by, place-words, image-by, slot-words-by}
 use Rattle.layout.specs.Layout.{stash-count, station-of, params-of, params-in-range, shaped, stash-of, fits, slot-words, stash-words, image}

@@ -16,8 +16,8 @@ use Rattle.basics.specs.Sets.{any, any-true, true-any, Sub, Asc, some}
 use Rattle.basics.specs.Lists.{getD-in}
 use Rattle.ordered.specs.Keys.{rank-of, with-key}
 use Rattle.ordered.specs.Place.{with-cases, rank-le, before-rank, smaller-before, at-rank, larger-at}
-use Rattle.tabulation.specs.Hash.{first-part, blank}
-use Rattle.tabulation.specs.Issues.{part-le, part-between, not-blank-iff}
+use Rattle.hashing.specs.Hash.{first-part, blank}
+use Rattle.hashing.specs.Issues.{part-le, part-between, not-blank-iff}
 use Rattle.layout.specs.Layout.{ValidKeys, another-issue, OneIssue, one-issue}
 
 -- another issue of a key in S: a key of it with the same first part that is not this key

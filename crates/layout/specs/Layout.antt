@@ -9,8 +9,8 @@ use lib.ListN.{length, getD, drop, replicate}
 use Rattle.basics.specs.Sets.{keep, any, Asc}
 use Rattle.cuckoo.specs.Graph.{stash, slot-key, slot-next}
 use Rattle.ordered.specs.Keys.{sorted, distinct}
-use Rattle.tabulation.specs.Hash.{Family, first-part, blank, slots-in-range, station-in-range, tables}
-use Rattle.tabulation.specs.Slots.{slot-0, slot-1}
+use Rattle.hashing.specs.Hash.{Family, first-part, blank, slots-in-range, station-in-range, tables}
+use Rattle.hashing.specs.Slots.{slot-0, slot-1}
 use Rattle.layout.specs.Entries.{Entry, max-tier, keys-of, tier-of, tiered}
 use Rattle.layout.specs.declared.Header.{Header}
 

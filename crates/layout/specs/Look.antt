@@ -12,8 +12,8 @@ use lib.Seq.{take-at, getD-drop, drop-drop}
 use Rattle.basics.specs.Tests.{test, bool-ext, zero-one}
 use Rattle.basics.specs.Sets.{Asc, member, member-in, in-member, no-member}
 use Rattle.refusals.specs.Refusal.{done, blank-key}
-use Rattle.tabulation.specs.Hash.{Family, tabulation-length, blank}
-use Rattle.tabulation.specs.Slots.{slot-0, slot-1}
+use Rattle.hashing.specs.Hash.{Family, tabulation-length, blank}
+use Rattle.hashing.specs.Slots.{slot-0, slot-1}
 use Rattle.layout.specs.Entries.{Entry, keys-of, tier-of, tiered, key-in, tiered-self, tiered-in, in-tiered}
 use Rattle.layout.specs.Layout.{Params, ValidSet, slots-of, places-of, key-at, tier-at, place-at, place-entries, params-in-range, family-of, stash-of, fits, image, place-width, place-words, stash-at, stash-count, looked-at, tier-in}
 use Rattle.layout.specs.Answers.{lookup-refusal, lookup-values, looked-up, view-refusal, view-of}

@@ -17,10 +17,10 @@ use Rattle.ordered.specs.Keys.{with-key}
 use Rattle.ordered.specs.Place.{with-cases, with-here, with-there, asc-with}
 use Rattle.cuckoo.specs.Graph.{stash, slot-key, slot-next}
 use Rattle.cuckoo.specs.Renaming.{Renames, stash-map, slot-key-map, slot-next-map}
-use Rattle.tabulation.specs.Hash.{first-part}
-use Rattle.tabulation.specs.Issues.{not-blank-iff, issues-slots}
-use Rattle.tabulation.specs.Slots.{slot-0, slot-1}
-use Rattle.tabulation.specs.Stations.{Moved}
+use Rattle.hashing.specs.Hash.{first-part}
+use Rattle.hashing.specs.Issues.{not-blank-iff, issues-slots}
+use Rattle.hashing.specs.Slots.{slot-0, slot-1}
+use Rattle.hashing.specs.Stations.{Moved}
 use Rattle.layout.specs.Entries.{Entry, keys-of}
 use Rattle.layout.specs.Layout.{Params, ValidKeys, OneIssue, ValidSet, family, fits, fits-by, image}
 use Rattle.layout.specs.Issues.{order-parts}

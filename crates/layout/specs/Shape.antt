@@ -9,7 +9,7 @@ use lib.Dec.{leb, ltb}
 use lib.ListN.{length}
 use Rattle.basics.specs.Tests.{and-true}
 use Rattle.refusals.specs.Refusal.{none, and, front-none}
-use Rattle.tabulation.specs.Hash.{Family, tables, slots-in-range, station-in-range, max-slots, max-station, in-range-pos, in-range-max, range-in, station-max, station-in}
+use Rattle.hashing.specs.Hash.{Family, tables, slots-in-range, station-in-range, max-slots, max-station, in-range-pos, in-range-max, range-in, station-max, station-in}
 use Rattle.layout.specs.Layout.{family-of, header-length, slots-of, places-of, stash-count, station-of, max-places, sizes-in-range, params-in-range, shaped, words-length}
 use Rattle.layout.specs.Answers.{view-refusals, view-refusal}
 

@@ -12,7 +12,7 @@ use lib.ListN.{length}
 use Rattle.basics.specs.Tests.{test}
 use Rattle.basics.specs.Sets.{without, Asc, none, some}
 use Rattle.cuckoo.specs.Graph.{label, joined, component, onCycle, cyclic, spare, settle, seated, stash, root, sits, occupant, next, slot-key, slot-next}
-use Rattle.tabulation.specs.Hash.{hash-lt}
+use Rattle.hashing.specs.Hash.{hash-lt}
 use Rattle.layout.specs.Entries.{Entry, tier-of}
 use Rattle.layout.specs.Layout.{Params, family, fits, image, fits-by, slot-words-by, image-by}
 use Rattle.layout.specs.Fitting.{fits-length}

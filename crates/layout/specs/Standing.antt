@@ -19,9 +19,9 @@ use Rattle.cuckoo.specs.Seating.{look, occupant-from}
 use Rattle.cuckoo.specs.Filled.{seated-or-stash, stash-sub}
 use Rattle.ordered.specs.Sorting.{in-at}
 use Rattle.ordered.specs.Distinct.{distinct-sorted-asc, distinct-sorted-in, in-distinct-sorted}
-use Rattle.tabulation.specs.Hash.{blank}
-use Rattle.tabulation.specs.Issues.{not-blank-iff}
-use Rattle.tabulation.specs.Slots.{slot-0, slot-1, slot-0-lt, slot-1-lt}
+use Rattle.hashing.specs.Hash.{blank}
+use Rattle.hashing.specs.Issues.{not-blank-iff}
+use Rattle.hashing.specs.Slots.{slot-0, slot-1, slot-0-lt, slot-1-lt}
 use Rattle.layout.specs.Entries.{Entry, keys-of, tier-of, tiered, keys-tiered, tiered-agree, tier-absent, tier-all, tiered-self, tiered-in, no-entry, keys-none, none-in, keys-append}
 use Rattle.layout.specs.Layout.{Params, family, family-of, ValidKeys, header-length, slot-width, place-width, key-at, stash-at, place-at, slots-of, places-of, place-words, image-by}
 use Rattle.layout.specs.Layout.{stash-of, fits, stash-words, image, slot-keys, place-entries, stash-entries, key-words, keys-in, slot-entry, looked-at, tier-in, set-in}

@@ -15,8 +15,8 @@ use Rattle.basics.specs.Lists.{at-map}
 use Rattle.basics.specs.Parts.{part-length, pasted-more, pasted-length, pasted-front, pasted-all}
 use Rattle.edges.specs.Edge.{second-base, packed, first-of, second-of, tier-of-edge, Packable, Edge, no-edge}
 use Rattle.edges.specs.Edge.{packed-first, packed-second, packed-tier, packed-edge, no-edge-between}
-use Rattle.tabulation.specs.Hash.{Family, tables}
-use Rattle.tabulation.specs.Slots.{slot-0, slot-1, slot-0-lt, slot-1-le, slot-1-lt}
+use Rattle.hashing.specs.Hash.{Family, tables}
+use Rattle.hashing.specs.Slots.{slot-0, slot-1, slot-0-lt, slot-1-le, slot-1-lt}
 use Rattle.forest.specs.Edges.{Edges, edge-at, edge-read, end-0, end-1}
 use Rattle.forest.specs.Graph.{edges-in}
 use Rattle.layout.specs.Entries.{max-tier, tier-of}

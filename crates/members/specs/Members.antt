@@ -19,8 +19,8 @@ use Rattle.ordered.specs.Keys.{rank-of, with-key}
 use Rattle.ordered.specs.Place.{rank-le, rank-found, member-at, member-past, with-parts, without-parts, length-with, length-without}
 use Rattle.ordered.specs.Shift.{opened, closed, opened-column, closed-column, opened-length, closed-length, opened-behind, closed-behind}
 use Rattle.edges.specs.Edge.{tier-of-edge}
-use Rattle.tabulation.specs.Hash.{first-part, blank}
-use Rattle.tabulation.specs.Issues.{not-blank-iff}
+use Rattle.hashing.specs.Hash.{first-part, blank}
+use Rattle.hashing.specs.Issues.{not-blank-iff}
 use Rattle.layout.specs.Layout.{Params, another-issue, OneIssue, family}
 use Rattle.layout.specs.Issues.{issue-before, issue-at, issue-nowhere}
 use Rattle.layout.specs.Shape.{Sized}

@@ -3,7 +3,7 @@
 ghost use mathlib.Core.Path.{_≡_};
 ghost use Prim.Native.Nat.{_≤_};
 ghost use lib.ListN.{length};
-ghost use Rattle.tabulation.specs.Hash.{tabulation-length, tables, Hashing};
+ghost use Rattle.hashing.specs.Hash.{tabulation-length, tables, Hashing};
 ghost use Rattle.layout.specs.Entries.{max-tier};
 ghost use Rattle.layout.specs.Layout.{family-of, slots-of, station-of};
 ghost use Rattle.layout.specs.Shape.{Shaped};

@@ -6,7 +6,7 @@ ghost use Prim.Native.Nat.{_+_, _*_, _≤_, _<_};
 ghost use lib.ListN.{length};
 ghost use Rattle.basics.specs.Sets.{member, Asc};
 ghost use Rattle.ordered.specs.Keys.{rank-of};
-ghost use Rattle.tabulation.specs.Hash.{tables, Hashing};
+ghost use Rattle.hashing.specs.Hash.{tables, Hashing};
 ghost use Rattle.refusals.specs.Refusal.{done};
 ghost use Rattle.layout.specs.Entries.{max-tier};
 ghost use Rattle.layout.specs.Layout.{ValidKeys, another-issue, one-issue};

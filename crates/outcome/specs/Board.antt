@@ -14,7 +14,7 @@ use Rattle.cuckoo.specs.Trail.{other, trail-from, trail}
 use Rattle.cuckoo.specs.Agree.{trail-agree}
 use Rattle.ordered.specs.Keys.{with-key, above}
 use Rattle.refusals.specs.Refusal.{done, stash-full, short-trail}
-use Rattle.tabulation.specs.Hash.{tabulation-length, max-station, slots-in-range, station-in-range, first-part, blank}
+use Rattle.hashing.specs.Hash.{tabulation-length, max-station, slots-in-range, station-in-range, first-part, blank}
 use Rattle.layout.specs.Entries.{Entry, max-tier, keys-of}
 use Rattle.layout.specs.Layout.{ValidKeys, another-issue, ValidSet, scratch-length, sizes-in-range, params-in-range}
 use Rattle.layout.specs.Shape.{ranged-true}

@@ -16,9 +16,9 @@ use Rattle.cuckoo.specs.Placement.{Placement}
 use Rattle.ordered.specs.Keys.{with-key}
 use Rattle.ordered.specs.Place.{with-cases, with-here, with-there, asc-with, with-same, without-with, length-with}
 use Rattle.refusals.specs.Refusal.{done, short-scratch, blank-key, key-present, key-absent, stash-full, wrong-tier, other-tier, other-issue, first-refusal, none, and, front-none}
-use Rattle.tabulation.specs.Hash.{tabulation-length, first-part, blank}
-use Rattle.tabulation.specs.Issues.{not-blank-iff}
-use Rattle.tabulation.specs.Slots.{slot-0, slot-1}
+use Rattle.hashing.specs.Hash.{tabulation-length, first-part, blank}
+use Rattle.hashing.specs.Issues.{not-blank-iff}
+use Rattle.hashing.specs.Slots.{slot-0, slot-1}
 use Rattle.layout.specs.Entries.{Entry, max-tier, keys-of, tier-of, key-in, tiered, keys-tiered, tiered-agree, tier-tiered, tiered-self, tiered-in}
 use Rattle.layout.specs.Layout.{Params, ValidKeys, another-issue, OneIssue, ValidSet, family, params-of, slots-of, places-of, scratch-length, params-in-range, station-of, shaped, fits, image, keys-in, tier-in, set-in}
 use Rattle.layout.specs.Shape.{ranged, ranged-true, shape}

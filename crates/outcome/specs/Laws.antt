@@ -11,7 +11,7 @@ use lib.ListN.{length, replicate}
 use Rattle.basics.specs.Tests.{test}
 use Rattle.basics.specs.Sets.{member}
 use Rattle.refusals.specs.Refusal.{done, wrong-tabulation, wrong-shape, short-scratch, not-canonical, blank-key, first-refusal, None, none, and, numbers, first-refusal-in, front-passes, none-applies, front-none}
-use Rattle.tabulation.specs.Hash.{tabulation-length, blank}
+use Rattle.hashing.specs.Hash.{tabulation-length, blank}
 use Rattle.layout.specs.Entries.{Entry}
 use Rattle.layout.specs.Layout.{Params, params-of, slots-of, places-of, scratch-length, shaped, image, set-in}
 use Rattle.layout.specs.Canonical.{canonical, ImageOf, canonical-iff, not-canonical-iff}

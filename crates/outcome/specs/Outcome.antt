@@ -8,7 +8,7 @@ use lib.ListN.{length, replicate}
 use Rattle.basics.specs.Sets.{member, without}
 use Rattle.ordered.specs.Keys.{with-key}
 use Rattle.refusals.specs.Refusal.{done, wrong-tabulation, wrong-shape, short-scratch, not-canonical, blank-key, key-present, key-absent, stash-full, wrong-tier, other-tier, other-issue, first-refusal}
-use Rattle.tabulation.specs.Hash.{tabulation-length, blank}
+use Rattle.hashing.specs.Hash.{tabulation-length, blank}
 use Rattle.layout.specs.Entries.{Entry, max-tier, keys-of, tier-of, tiered}
 use Rattle.layout.specs.Layout.{Params, another-issue, params-of, slots-of, places-of, scratch-length, shaped, fits, image, set-in}
 use Rattle.layout.specs.Canonical.{canonical}

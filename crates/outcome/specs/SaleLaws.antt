@@ -14,7 +14,7 @@ use lib.Signed.{mag, leZ, ltZ, _≤ℤ_, ltZ-yes, ltZ-no, clashℤ}
 use Rattle.basics.specs.Tests.{test, eq?, and-true, T-true, zero-one}
 use Rattle.basics.specs.Sets.{member}
 use Rattle.refusals.specs.Refusal.{done, not-canonical, blank-key, key-absent, wrong-price, first-refusal, first-refusal-in, None, none, and, front-applies, front-passes, front-none}
-use Rattle.tabulation.specs.Hash.{tabulation-length, blank}
+use Rattle.hashing.specs.Hash.{tabulation-length, blank}
 use Rattle.layout.specs.Entries.{Entry, max-tier, keys-of, tier-of}
 use Rattle.layout.specs.Layout.{Params, looked-at, tier-in}
 use Rattle.layout.specs.Answers.{lookup-refusals, lookup-refusal, lookup-values, looked-up}

@@ -9,8 +9,8 @@ use Rattle.basics.specs.Sets.{member}
 use Rattle.cuckoo.specs.Graph.{seated}
 use Rattle.cuckoo.specs.Trail.{trail}
 use Rattle.refusals.specs.Refusal.{done, blank-key, key-absent, short-trail, first-refusal}
-use Rattle.tabulation.specs.Hash.{blank}
-use Rattle.tabulation.specs.Slots.{slot-0, slot-1}
+use Rattle.hashing.specs.Hash.{blank}
+use Rattle.hashing.specs.Slots.{slot-0, slot-1}
 use Rattle.layout.specs.Entries.{keys-of}
 use Rattle.layout.specs.Layout.{Params, family, params-of, keys-in, set-in}
 use Rattle.outcome.specs.declared.Traced.{Traced}

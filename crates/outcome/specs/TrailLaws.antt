@@ -16,8 +16,8 @@ use Rattle.cuckoo.specs.Settling.{seated-asc, seated-stops}
 use Rattle.cuckoo.specs.Walks.{Distinct}
 use Rattle.cuckoo.specs.Trail.{other, trail-none, stash-trail, trail-first, trail-ends, trail-next, trail-once, trail-component, trail-slots}
 use Rattle.refusals.specs.Refusal.{done, wrong-tabulation, wrong-shape, short-scratch, not-canonical, blank-key, key-absent, short-trail, first-refusal, first-refusal-in, front-applies, front-passes, front-none}
-use Rattle.tabulation.specs.Hash.{tabulation-length, blank}
-use Rattle.tabulation.specs.Slots.{slot-0, slot-1, slot-0-lt, slot-1-lt}
+use Rattle.hashing.specs.Hash.{tabulation-length, blank}
+use Rattle.hashing.specs.Slots.{slot-0, slot-1, slot-0-lt, slot-1-lt}
 use Rattle.layout.specs.Entries.{Entry, keys-of}
 use Rattle.layout.specs.Layout.{Params, ValidKeys, family, slots-of, places-of, scratch-length, shaped, keys-in}
 use Rattle.layout.specs.Canonical.{canonical, image-of-keys}

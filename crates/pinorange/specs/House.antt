@@ -8,7 +8,7 @@ use borrow.Author.Tests.{eq-eqb, ne-eqb}
 use lib.Dec.{eqb}
 use lib.ListN.{length}
 use Rattle.refusals.specs.Refusal.{done, wrong-tabulation, first-refusal, first-refusal-in}
-use Rattle.tabulation.specs.Hash.{tabulation-length}
+use Rattle.hashing.specs.Hash.{tabulation-length}
 use Rattle.house.specs.Rule.{house-table}
 
 -- 1 where the lent tabulation is not of the right length

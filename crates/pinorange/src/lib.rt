@@ -3,8 +3,8 @@
 // out-parameters. What these hold after a refusal is part of each promise.
 ghost use mathlib.Core.Path.{_≡_};
 ghost use lib.ListN.{length};
-ghost use Rattle.tabulation.specs.Hash.{tables};
-ghost use Rattle.tabulation.specs.Answer.{hashes-refusal, written};
+ghost use Rattle.hashing.specs.Hash.{tables};
+ghost use Rattle.hashing.specs.Answer.{hashes-refusal, written};
 ghost use Rattle.layout.specs.Answers.{lookup-refusal, view-refusal, fresh-refusal, fresh-words};
 ghost use Rattle.outcome.specs.Outcome.{change-outcome, check-outcome};
 ghost use Rattle.outcome.specs.Trail.{trail-outcome};

@@ -17,7 +17,7 @@ use Rattle.cuckoo.specs.Seating.{occupant-from}
 use Rattle.cuckoo.specs.Next.{next-in}
 use Rattle.cuckoo.specs.Filled.{stash-sub}
 use Rattle.cuckoo.specs.Renaming.{ranks, from-in, from-asc, ranked, Renames, ranked-renames, ranked-stash, ranked-slot-key, ranked-slot-next}
-use Rattle.tabulation.specs.Slots.{slot-0, slot-1}
+use Rattle.hashing.specs.Slots.{slot-0, slot-1}
 use Rattle.edges.specs.Edge.{tier-of-edge, low-tier}
 use Rattle.forest.specs.Edges.{end-0, end-1}
 use Rattle.forest.specs.Graph.{held-in, edges-in}

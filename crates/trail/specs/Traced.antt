@@ -20,8 +20,8 @@ use Rattle.cuckoo.specs.Places.{Seat, seat-ends, seat-occupant, occupant-seat}
 use Rattle.cuckoo.specs.Trail.{seat, seat-holds, trail-none}
 use Rattle.cuckoo.specs.Round.{path, path-none, path-step}
 use Rattle.refusals.specs.Refusal.{done, not-canonical, blank-key, key-absent, short-trail, first-refusal, front-applies}
-use Rattle.tabulation.specs.Hash.{tables, blank}
-use Rattle.tabulation.specs.Slots.{slot-0, slot-1, slot-0-lt, slot-1-le, slot-1-lt}
+use Rattle.hashing.specs.Hash.{tables, blank}
+use Rattle.hashing.specs.Slots.{slot-0, slot-1, slot-0-lt, slot-1-le, slot-1-lt}
 use Rattle.layout.specs.Entries.{keys-of, keys-tiered}
 use Rattle.layout.specs.Layout.{Params, family, family-of, params-of, slots-of, station-of, image, keys-in, tier-in, set-in, key-at}
 use Rattle.layout.specs.Canonical.{canonical, canonical-true}

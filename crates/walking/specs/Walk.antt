@@ -13,8 +13,8 @@ use lib.ListN.{length, getD, set, replicate, length-set, length-replicate, getD-
 use lib.Seq.{getD-set-same, getD-set-other}
 use Rattle.basics.specs.Tests.{test, eq?, and-true}
 use Rattle.cuckoo.specs.Round.{path, path-none, path-step}
-use Rattle.tabulation.specs.Hash.{Hashing, tables}
-use Rattle.tabulation.specs.Slots.{slot-0, slot-1, slot-0-lt, slot-1-lt}
+use Rattle.hashing.specs.Hash.{Hashing, tables}
+use Rattle.hashing.specs.Slots.{slot-0, slot-1, slot-0-lt, slot-1-lt}
 use Rattle.layout.specs.Layout.{family-of, slots-of, station-of, slot-entry}
 use Rattle.layout.specs.Shape.{Shaped, by-own-family}
 

@@ -5,7 +5,7 @@ ghost use mathlib.Core.Bool.{not, _&&_};
 ghost use Prim.Native.Nat.{_+_, _≤_, _<_, _%_};
 ghost use lib.Dec.{eqb};
 ghost use lib.ListN.{length, getD, replicate};
-ghost use Rattle.tabulation.specs.Hash.{Hashing};
+ghost use Rattle.hashing.specs.Hash.{Hashing};
 ghost use Rattle.layout.specs.Layout.{slots-of};
 ghost use Rattle.layout.specs.Shape.{Shaped};
 ghost use Rattle.walking.specs.Walk.{key-of, across, noted, run-length, Readable, New, Onward, Closed};

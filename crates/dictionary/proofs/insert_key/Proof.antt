@@ -2,7 +2,7 @@
 use Prim.Native.Nat.{_+_, _*_, _≤_, _<_}
 use native.Mathlib.Omega.{arith}
 use lib.ListN.{length}
-use Rattle.tabulation.specs.Hash.{Hashing}
+use Rattle.hashing.specs.Hash.{Hashing}
 use Rattle.layout.specs.Entries.{max-tier}
 use Rattle.layout.specs.Layout.{slots-of, places-of}
 use Rattle.layout.specs.Shape.{shape}

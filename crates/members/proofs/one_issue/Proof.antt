@@ -7,7 +7,7 @@ use borrow.Author.Tests.{eq-eqb, ne-eqb}
 use borrow.Author.Needs.{needs}
 use lib.Dec.{eqb}
 use lib.ListN.{drop}
-use Rattle.tabulation.specs.Hash.{first-part}
+use Rattle.hashing.specs.Hash.{first-part}
 use Rattle.layout.specs.Issues.{parts-apart, apart-next, apart-end, apart-one-issue}
 use Rattle.members.specs.Members.{keys-at, key-read, keys-length}
 use Rattle.members.proofs.one_issue.Statement.{statement}

@@ -3,7 +3,7 @@ use mathlib.Core.Path.{_≡_, sym, _∙_}
 use native.Mathlib.Omega.{arith}
 use borrow.Author.Needs.{needs}
 use lib.ListN.{getD}
-use Rattle.tabulation.specs.Hash.{first-part}
+use Rattle.hashing.specs.Hash.{first-part}
 use Rattle.members.specs.Members.{placed-le, issue-below, issue-past, issue-exact, issue-next}
 use Rattle.members.proofs.other_issue.Statement.{statement}
 use Rattle.members.proofs.other_issue.Tie as tie

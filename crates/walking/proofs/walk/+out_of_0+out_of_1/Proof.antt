@@ -2,8 +2,8 @@
 -- falls from call to call.
 use native.Mathlib.Omega.{arith}
 use borrow.Author.Needs.{needs}
-use Rattle.tabulation.specs.Hash.{tables}
-use Rattle.tabulation.specs.Slots.{slot-0-lt}
+use Rattle.hashing.specs.Hash.{tables}
+use Rattle.hashing.specs.Slots.{slot-0-lt}
 use Rattle.walking.specs.Walk.{unvisited, Stepped, stepped, out-0, out-1, onward-then, goes-new}
 use Prim.Native.Nat.{ℕ, _+_, _<_}
 use borrow.Fn.Kinds.{In}
