@@ -1,5 +1,5 @@
 // The layout in code: the heading, the slots, lengths, the shape test and fresh words. Nobody else counts words but
-// `lookup` and `codec`, by what stands here. Each function promises what a definition of layout/specs says.
+// `lookup`, `collect` and `image`, by what stands here. Each function promises what a definition of layout/specs says.
 ghost use mathlib.Core.Path.{_≡_};
 ghost use mathlib.Core.List.{_++_};
 ghost use Prim.Native.Nat.{_+_, _*_, _≤_, _<_};

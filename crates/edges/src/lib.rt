@@ -1,4 +1,4 @@
-// An edge: one word with the two slots of a key and its tier, all that the build and `codec` need of it. Edges are made
+// An edge: one word with the two slots of a key and its tier, all that the build and `image` need of it. Edges are made
 // and taken apart here, and nowhere else: whoever has one asks for its parts, and counts nothing.
 ghost use mathlib.Core.Path.{_≡_};
 ghost use Rattle.edges.specs.Edge.{packed, first-of, second-of, tier-of-edge, Packable};

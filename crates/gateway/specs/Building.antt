@@ -17,7 +17,7 @@ use Rattle.build.specs.Scratch.{parts, used}
 use Rattle.build.specs.Build.{full, made, Built, Buildable}
 use Rattle.build.specs.declared.StashCount.{StashCount}
 use Rattle.build.specs.declared.StashCount.the-variants.{Ranks, Overflow}
-use Rattle.codec.specs.Image.{alike-image, written-image}
+use Rattle.image.specs.Image.{alike-image, written-image}
 use Rattle.members.specs.Edges.{Lined, lined-built}
 use Rattle.gateway.specs.Columns.{SetColumns, alike-in, written-in, Readable, standing-readable, stash-count, set-columns}
 

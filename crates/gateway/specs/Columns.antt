@@ -1,5 +1,5 @@
--- What the build leaves in scratch for `codec`: the parts that an image is compared with and written from. Every rank that stands there has its words; and where
--- they are the ranks of a set, the columns that `codec` reads by rank are those of the set's image. Assumes nothing.
+-- What the build leaves in scratch for `image`: the parts that an image is compared with and written from. Every rank that stands there has its words; and where
+-- they are the ranks of a set, the columns that `image` reads by rank are those of the set's image. Assumes nothing.
 use Prim.Native.Nat.{ℕ, zero, suc, _+_, _*_, _-_, _≤_, _<_}
 use mathlib.Core.Path.{_≡_, refl, sym, _∙_, ap}
 use mathlib.Core.Bool.{Bool}
@@ -30,11 +30,12 @@ use Rattle.layout.specs.declared.Header.{Header}
 use Rattle.build.specs.EachSlot.{listed-at}
 use Rattle.build.specs.Scratch.{Parts, parts, used, PartsSized, parts-sized}
 use Rattle.build.specs.Build.{edges-of, stash-ranks, slot-rank, next-rank, Standing}
-use Rattle.codec.specs.Ranks.{tier-by, key-column, next-column, tier-column, ranks-alike, ranks-written, Ranked}
-use Rattle.codec.specs.Image.{ImageColumns}
+use Rattle.records.specs.Record.{tier-by}
+use Rattle.image.specs.Ranks.{key-column, next-column, tier-column, ranks-alike, ranks-written, Ranked}
+use Rattle.image.specs.Image.{ImageColumns}
 use Rattle.members.specs.Edges.{edge-of, Lined, edge-tier, lined-at, lined-first, lined-second}
 
--- the columns that `codec` reads: r slots to a table, the keys by rank are the first words of scratch, G are its parts
+-- the columns that `image` reads: r slots to a table, the keys by rank are the first words of scratch, G are its parts
 module _ (r : ℕ) (scratch : List ℕ) (G : Parts) where
   abbrev pub ranks-held : List ℕ
   ranks-held = held-in r (G .graph)

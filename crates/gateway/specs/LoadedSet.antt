@@ -14,7 +14,7 @@ use Rattle.layout.specs.Layout.{Params, ValidKeys, OneIssue, header-of, params-
 use Rattle.layout.specs.Canonical.{canonical-true}
 use Rattle.layout.specs.Shape.{Shaped, shape}
 use Rattle.layout.specs.Standing.{keys-in-valid}
-use Rattle.codec.specs.Collect.{keys-in-few}
+use Rattle.collect.specs.Collect.{keys-in-few}
 use Rattle.build.specs.Scratch.{used}
 use Rattle.build.specs.Build.{Buildable}
 use Rattle.members.specs.Edges.{Lined, lined-buildable}

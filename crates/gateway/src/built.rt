@@ -1,4 +1,4 @@
-// The image that the build leaves in scratch, in its parts: lent to `codec`, which compares words with them or writes
+// The image that the build leaves in scratch, in its parts: lent to `image`, which compares words with them or writes
 // them.
 ghost use mathlib.Core.Path.{_≡_};
 ghost use Rattle.layout.specs.Layout.{slots-of, places-of, words-length};
@@ -51,7 +51,7 @@ pub fn matches_built(words: &[u32], scratch: &[u32], r: u32, s: u32, n: usize, s
     let graph = graph_part(scratch, r, s, n);
     let next = next_part(scratch, r, s, n);
     let stash = stash_part(scratch, r, s, n);
-    codec::image::matches(words, n, stashed, scratch, graph, next, stash)
+    image::matches(words, n, stashed, scratch, graph, next, stash)
 }
 
 // Writes the image that stands in scratch over all of the words, whatever they were.
@@ -66,5 +66,5 @@ pub fn write_built(words: &mut [u32], scratch: &[u32], header: Header)
     let graph = graph_part(scratch, r, s, n);
     let next = next_part(scratch, r, s, n);
     let stash = stash_part(scratch, r, s, n);
-    codec::image::write_image(words, header, scratch, graph, next, stash);
+    image::write_image(words, header, scratch, graph, next, stash);
 }

@@ -13,7 +13,7 @@ ghost use Rattle.gateway.specs.Committing.{Committable, Committed};
 use build::StashCount;
 use built::matches_built;
 use built::write_built;
-use codec::collect::collect_keys;
+use collect::collect_keys;
 use layout::Header;
 use members::edge_column::write_edges;
 use members::one_issue;

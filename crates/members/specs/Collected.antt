@@ -7,7 +7,7 @@ use lib.ListN.{length, getD, set, take}
 use Rattle.layout.specs.Layout.{params-of, family-of, slots-of, places-of, station-of, keys-in}
 use Rattle.layout.specs.Shape.{Shaped, Sized, shape}
 use Rattle.build.specs.Scratch.{edges-at, used}
-use Rattle.codec.specs.Collect.{keys-in-few}
+use Rattle.collect.specs.Collect.{keys-in-few}
 use Rattle.layout.specs.Ready.{Ready}
 use Rattle.members.specs.Edges.{tier-found, edge-of, Lined, EdgesTo, edges-start, edges-turn, edges-key, edges-lined}
 

@@ -1,5 +1,5 @@
 // From keys to their edges: each key is hashed here, once, and found in the words, once. One word then has all that the
-// build and `codec` need of it (crate `edges`).
+// build and `image` need of it (crate `edges`).
 ghost use mathlib.Core.Path.{_≡_};
 ghost use Prim.Native.Nat.{_≤_};
 ghost use lib.ListN.{length};

@@ -1,4 +1,4 @@
--- `gateway::built::matches_built` meets its contract: what is lent to `codec` are the parts of scratch, and the words say r and s.
+-- `gateway::built::matches_built` meets its contract: what is lent to `image` are the parts of scratch, and the words say r and s.
 use mathlib.Core.Path.{_∙_, ap}
 use lib.ListN.{length}
 use Rattle.gateway.specs.Columns.{readable-stash}

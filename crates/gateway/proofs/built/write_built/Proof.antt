@@ -1,4 +1,4 @@
--- `gateway::built::write_built` meets its contract: what is lent to `codec` are the parts of scratch, and the heading says r, s and n.
+-- `gateway::built::write_built` meets its contract: what is lent to `image` are the parts of scratch, and the heading says r, s and n.
 use mathlib.Core.Path.{_∙_, ap}
 use lib.ListN.{length}
 use Rattle.gateway.specs.Columns.{Readable, readable-stash}
