@@ -17,6 +17,7 @@ use writing::put_word;
 // Every row that is printed fits into so many bytes.
 pub const ROW_ROOM: usize = 57;
 
+// A letter, a key and a number: its answer, or its tier.
 fn put_answer(out: &mut [u8], at: usize, letter: u8, key: u32, answer: u32) -> usize
     requires { ⌜ at + row-room ≤ length (now out) ⌝ }
     ensures written { λ next. ⌜ Written (answer-row letter key answer) (now (out .entry)) at (now (out .exit)) next ⌝ }
@@ -133,10 +134,7 @@ pub fn put_stashed(out: &mut [u8], at: usize, key: u32, tier: u32) -> usize
     ensures written { λ next. ⌜ Written (stash-row key tier) (now (out .entry)) at (now (out .exit)) next ⌝ }
     ensures short { λ next. ⌜ next ≤ at + row-room ⌝ }
 {
-    let second = put_byte(&mut *out, at, b'D');
-    let third = put_field(&mut *out, second, key);
-    let end = put_field(&mut *out, third, tier);
-    put_byte(&mut *out, end, NEWLINE)
+    put_answer(out, at, b'D', key, tier)
 }
 
 // B, for a book that is missing or of another length
