@@ -36,9 +36,9 @@ abbrev pub next-of : Built → List ℕ
 next-of overflow = []
 next-of (made held next stash count) = next
 
-abbrev pub stash-of : Built → List ℕ
-stash-of overflow = []
-stash-of (made held next stash count) = stash
+abbrev pub built-stash : Built → List ℕ
+built-stash overflow = []
+built-stash (made held next stash count) = stash
 
 abbrev pub count-of : Built → ℕ
 count-of overflow = 0

@@ -163,14 +163,14 @@ module _ {a b : ℕ → ℕ} {other : ℕ → ℕ → ℕ} (turn : (c v w : ℕ)
 
   module _ (few : m ≤ max-points) {S : List ℕ} (asc : Asc S) (nonzero : (c : ℕ) → In c S → c ≡ 0 → ⊥) where
     -- the keys of S that are not among R have been through, and F are those of them that are linked
-    record Reached (R F : List ℕ) (P : Linking) : Type 0 where
+    record LinkedSoFar (R F : List ℕ) (P : Linking) : Type 0 where
       linked : Linked a b m F P
       once : Once F
       marked : (x : ℕ) → In x S → (In x R → ⊥) → x < length (P .next) → Marked m F (P .next) x
       ahead : (x : ℕ) → In x R → In x F → ⊥
 
     -- so the keys are linked as `grow` says
-    link-grow : (R : List ℕ) {F : List ℕ} {P : Linking} → Asc R → Sub R S → Reached R F P → Reached [] (grow a b R F) (link-keys a b other m R P)
+    link-grow : (R : List ℕ) {F : List ℕ} {P : Linking} → Asc R → Sub R S → LinkedSoFar R F P → LinkedSoFar [] (grow a b R F) (link-keys a b other m R P)
     unfolding link-keys
     link-grow [] {F} ordered sub Q = rw (grow-none a b F) Q
     link-grow (c ∷ R) {F} {P} (some up ordered) sub Q =

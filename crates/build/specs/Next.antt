@@ -17,7 +17,7 @@ use Rattle.cuckoo.specs.Settling.{seated-asc, seated-sub, seated-forest}
 use Rattle.cuckoo.specs.Seating.{occupant-from}
 use Rattle.cuckoo.specs.Next.{larger, around, next-is}
 use Rattle.build.specs.Labels.{Labels, label-fit, same-label, label-joined}
-use Rattle.build.specs.Notes.{pair-base, lows, lows-least, found, none-of, Placed, Smallest, empty, rank}
+use Rattle.build.specs.Notes.{pair-base, lows, lows-least, found, none-of, RankPlaced, Smallest, empty, rank}
 use Rattle.build.specs.Finish.{Occupied, down, raise}
 
 -- the notes, and the words of the ranks, each a label or already a next rank
@@ -82,7 +82,7 @@ module _ (m : ℕ) where
 
 module _ {a b : ℕ → ℕ} (m : ℕ) (fits : (c : ℕ) → (a c < m) × (b c < m)) {S : List ℕ} (asc : Asc S) {lab : ℕ → ℕ} (L : Labels a b S m lab)
     (P : Chaining) (sz : length (P .notes) ≡ m) (inside : (x : ℕ) → In x S → (0 < x) × (x < pair-base) × (x < length (P .next)))
-    (placed : (x : ℕ) → In x S → Placed a b S m lab (P .next) x) (low : (l : ℕ) → l < m → Smallest a b S lab l (getD (P .notes) l 0 % pair-base)) where
+    (placed : (x : ℕ) → In x S → RankPlaced a b S m lab (P .next) x) (low : (l : ℕ) → l < m → Smallest a b S lab l (getD (P .notes) l 0 % pair-base)) where
   abbrev T : List ℕ
   T = seated a b S
 

@@ -157,13 +157,13 @@ module _ (m c : ℕ) (R : List ℕ) (N : Noting) where
     noted-full f r = rw (le-ltb (getD (N .next) c 0) m (omega arith), label-is, le-ltb (getD (N .notes) l 0) pair-base f, le-ltb (N .count) (length (N .stash)) r)
 
 -- What stands at label l when the ranks R are still to come.
-pub data Seen (m : ℕ) (S next low R : List ℕ) (l x : ℕ) : Type 0 where
-  none-yet : x ≡ getD low l 0 → ((y : ℕ) → In y S → getD next y 0 ≡ m + l → In y R) → Seen m S next low R l x
+pub data SeenAt (m : ℕ) (S next low R : List ℕ) (l x : ℕ) : Type 0 where
+  none-yet : x ≡ getD low l 0 → ((y : ℕ) → In y S → getD next y 0 ≡ m + l → In y R) → SeenAt m S next low R l x
   one-seen : (d : ℕ) → x ≡ getD low l 0 + pair-base * d → In d S → getD next d 0 ≡ m + l → ((y : ℕ) → In y S → getD next y 0 ≡ m + l → d ≤ y) → (In d R → ⊥)
-      → Seen m S next low R l x
+      → SeenAt m S next low R l x
 
 -- the word of a rank after this step
-pub record Placed (a b : ℕ → ℕ) (S : List ℕ) (m : ℕ) (lab : ℕ → ℕ) (next : List ℕ) (x : ℕ) : Type 0 where
+pub record RankPlaced (a b : ℕ → ℕ) (S : List ℕ) (m : ℕ) (lab : ℕ → ℕ) (next : List ℕ) (x : ℕ) : Type 0 where
   pub on : In x (seated a b S) → getD next x 0 ≡ lab (a x)
   pub off : (In x (seated a b S) → ⊥) → getD next x 0 ≡ m
 
@@ -171,15 +171,15 @@ module _ (a b : ℕ → ℕ) (m : ℕ) (S : List ℕ) (lab : ℕ → ℕ) (next 
   pub record Going (R : List ℕ) (N : Noting) : Type 0 where
     pub notes-size : length (N .notes) ≡ m
     pub next-size : length (N .next) ≡ length next
-    pub seen : (l : ℕ) → l < m → Seen m S next low R l (getD (N .notes) l 0)
+    pub seen : (l : ℕ) → l < m → SeenAt m S next low R l (getD (N .notes) l 0)
     pub ahead : (x : ℕ) → In x R → getD (N .next) x 0 ≡ getD next x 0
-    pub placed : (x : ℕ) → In x S → (In x R → ⊥) → Placed a b S m lab (N .next) x
+    pub placed : (x : ℕ) → In x S → (In x R → ⊥) → RankPlaced a b S m lab (N .next) x
 
   -- what the pass makes of N, where the ranks D are to go to the stash
-  pub data Outcome (D : List ℕ) (N out : Noting) : Type 0 where
-    full : length (N .stash) < N .count + length D → out .overflow ≡ true → Outcome D N out
+  pub data NotedAs (D : List ℕ) (N out : Noting) : Type 0 where
+    full : length (N .stash) < N .count + length D → out .overflow ≡ true → NotedAs D N out
     done : N .count + length D ≤ length (N .stash) → out .overflow ≡ N .overflow → out .count ≡ N .count + length D
-        → out .stash ≡ sets (N .stash) (N .count) D → Going [] out → Outcome D N out
+        → out .stash ≡ sets (N .stash) (N .count) D → Going [] out → NotedAs D N out
 
   -- what it gives over S, from stash words of any content
   pub data Stashed (words : List ℕ) (out : Noting) : Type 0 where
@@ -305,7 +305,7 @@ module _ {a b : ℕ → ℕ} (m : ℕ) (fits : (c : ℕ) → (a c < m) × (b c <
   rest R = keep (λ c. not (member c T)) R
 
   abbrev Out : List ℕ → Noting → Noting → Type 0
-  Out D N out = Outcome a b m S lab next low D N out
+  Out D N out = NotedAs a b m S lab next low D N out
 
   along : {D : List ℕ} (l c : ℕ) {N out : Noting} → Out D (note-at l c N) out → Out D N out
   along l c (full k e) = full k e

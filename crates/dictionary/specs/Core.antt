@@ -10,8 +10,8 @@ use lib.Dec.{eqb, ltb}
 use lib.ListN.{length, getD}
 use lib.Seq.{getD-take}
 use Rattle.basics.specs.Sets.{member, member-in, in-member, without, out-in, Asc}
-use Rattle.ordered.specs.Place.{rank-le, rank-found, length-with, length-without}
-use Rattle.ordered.specs.Keys.{rank-of, with-key}
+use Rattle.ordered.specs.Place.{bound-le, bound-found, length-with, length-without}
+use Rattle.ordered.specs.Keys.{lower-bound, with-key}
 use Rattle.refusals.specs.Refusal.{done, blank-key, key-present, key-absent, stash-full, wrong-tier, other-tier, other-issue, first-refusal}
 use Rattle.hashing.specs.Hash.{Hashing, blank, tables}
 use Rattle.layout.specs.declared.Header.{Header}
@@ -28,11 +28,11 @@ use Rattle.outcome.specs.declared.Change.the-variants.{Insert, Remove}
 use Rattle.outcome.specs.Outcome.{keys-changed, tier-changed, changed, set-refusals, change-refusal, change-outcome}
 use Rattle.outcome.specs.Laws.{later-refusals, change-refused}
 use Rattle.outcome.specs.Held.{one-too-many, changed-keys, keys-changed-valid}
-use Rattle.members.specs.Edges.{edge-with, Lined, lined-buildable}
-use Rattle.members.specs.Members.{keys-at, Placed, tier-placed, put-in, taken-out, lined-agree, lined-tier, lined-put, lined-taken}
+use Rattle.scratch_set.specs.Edges.{edge-with, Lined, lined-buildable}
+use Rattle.scratch_set.specs.Members.{keys-at, KeyPlaced, tier-placed, put-at, taken-out, lined-agree, lined-tier, lined-put, lined-taken}
 use Rattle.gateway.specs.declared.Loaded.{Loaded}
 use Rattle.gateway.specs.declared.Loaded.the-variants.{Set, Refused}
-use Rattle.gateway.specs.Loading.{LoadedSet, Told, loaded-refused, refused-first, loaded-passes}
+use Rattle.gateway.specs.Loading.{LoadedSet, LoadTold, loaded-refused, refused-first, loaded-passes}
 use Rattle.gateway.specs.LoadedSet.{loaded-shape, set-keys, set-tier, loaded-issues, loaded-count, loaded-few, loaded-room, loaded-range, loaded-keys, loaded-searchable}
 use Rattle.gateway.specs.Committing.{new-answer, new-words, Committable, Committed}
 
@@ -48,17 +48,17 @@ abbrev pub with-count : Header → ℕ → Header
 with-count h n = record { slots = h .slots; places = h .places; keys = n; stashed = h .stashed; station = h .station }
 
 -- An answer and words are what these refusals lead to: the first that applies, and the words stay; or the image of the changed set.
-abbrev pub Answered : List (ℕ × Bool) → Change → List ℕ → List ℕ → ℕ → (ℕ → List ℕ → Type 0)
-Answered rs kind tabulation ws key n us =
+abbrev pub Resolved : List (ℕ × Bool) → Change → List ℕ → List ℕ → ℕ → (ℕ → List ℕ → Type 0)
+Resolved rs kind tabulation ws key n us =
     (n ≡ first-refusal rs)
     × (us ≡ cond (eqb (first-refusal rs) done) (image (params-of tabulation ws) (changed kind key (set-in tabulation ws))) ws)
 
 -- what the set leads to, and with 5 before it what a set that was loaded leads to
 abbrev pub Decided : Change → List ℕ → List ℕ → ℕ → (ℕ → List ℕ → Type 0)
-Decided kind tabulation ws key = Answered (set-refusals kind (params-of tabulation ws) key (set-in tabulation ws)) kind tabulation ws key
+Decided kind tabulation ws key = Resolved (set-refusals kind (params-of tabulation ws) key (set-in tabulation ws)) kind tabulation ws key
 
 abbrev pub AfterLoad : Change → List ℕ → List ℕ → ℕ → (ℕ → List ℕ → Type 0)
-AfterLoad kind tabulation ws key = Answered (later-refusals kind tabulation ws key) kind tabulation ws key
+AfterLoad kind tabulation ws key = Resolved (later-refusals kind tabulation ws key) kind tabulation ws key
 
 -- The laws. 8 where it does not fit, and else done
 answer-turned : (f : Bool) → cond f done stash-full ≡ cond (not f) stash-full done
@@ -132,21 +132,20 @@ module _ {tabulation ws scratch : List ℕ} {h : Header} {n key : ℕ} (Z : Sett
       → Decided kind tabulation ws key a us
   changed-committed kind R q D decided =
       let u = tier-changed kind key (tier-of (set-in tabulation ws)) in
-      let w = R .by tabulation u (keys-changed kind key K) (keys-changed-valid kind key (Z .not-blank) valid) q (rw own D) in
-      (
+      let w = R .by tabulation u (keys-changed kind key K) (keys-changed-valid kind key (Z .not-blank) valid) q (rw own D) in (
         (rw own at (w .0)) ∙ decided .0,
         (rw own at (w .1)) ∙ ap (λ (S : List ℕ). new-words P (tiered u (keys-changed kind key S)) ws) (sym keys-are) ∙ decided .1,
       )
 
   -- Where the key belongs.
-  module _ {at : ℕ} (place : at ≡ rank-of (keys-at n scratch) key) where
-    at-rank : at ≡ rank-of K key
+  module _ {at : ℕ} (place : at ≡ lower-bound (keys-at n scratch) key) where
+    at-rank : at ≡ lower-bound K key
     at-rank = rw keys-stand at place
 
     pub at-le : at ≤ n
-    at-le = omega (arith, at-rank, rank-le key K, key-count)
+    at-le = omega (arith, at-rank, bound-le key K, key-count)
 
-    pub placed : Placed scratch n at key
+    pub placed : KeyPlaced scratch n at key
     placed = record {
       long = searchable .0;
       front = front-zero (Z .loaded .lined);
@@ -176,7 +175,7 @@ module _ {tabulation ws scratch : List ℕ} {h : Header} {n key : ℕ} (Z : Sett
       alone = listed-alone (loaded-issues (Z .loaded)) key here
 
       pub at-lt : at < n
-      at-lt = omega (arith, at-rank, rank-found key K (valid .asc) here .1, key-count)
+      at-lt = omega (arith, at-rank, bound-found key K (valid .asc) here .1, key-count)
 
       module _ {t : ℕ} (read : t ≡ tier-placed (h .slots) (h .places) at scratch) where
         tier-is : tier-of (set-in tabulation ws) key ≡ t
@@ -247,7 +246,7 @@ module _ {tabulation ws scratch : List ℕ} {h : Header} {n key : ℕ} (Z : Sett
 
         -- and is put in
         module _ (few : n < 2 * h .slots + h .places) {mid : List ℕ}
-            (in-it : mid ≡ put-in (h .slots) (h .places) n at key (edge-with (tables tabulation (h .slots) (h .station)) key tier) scratch)
+            (in-it : mid ≡ put-at (h .slots) (h .places) n at key (edge-with (tables tabulation (h .slots) (h .station)) key tier) scratch)
             (same-room : length mid ≡ length scratch) where
           one-more : h .keys + 1 ≡ length (with-key key K)
           one-more = omega (arith, length-with key K (valid .asc) gone, key-count, Z .count)
@@ -289,22 +288,22 @@ after-set tabulation ws kind key t e = rw t e
 -- insert and remove
 module _ (tabulation ws scratch : List ℕ) (kind : Change) (key : ℕ) where
   -- an answer and words are those of the outcome
-  abbrev pub Left : ℕ → List ℕ → Type 0
-  Left n us = (n ≡ change-outcome kind tabulation ws scratch key .answer) × (us ≡ change-outcome kind tabulation ws scratch key .words)
+  abbrev pub Concluded : ℕ → List ℕ → Type 0
+  Concluded n us = (n ≡ change-outcome kind tabulation ws scratch key .answer) × (us ≡ change-outcome kind tabulation ws scratch key .words)
 
-  module _ {left : List ℕ} {l : Loaded} (T : Told tabulation ws scratch left l) where
+  module _ {left : List ℕ} {l : Loaded} (T : LoadTold tabulation ws scratch left l) where
     -- 1 to 4: a refusal leaves the words
     refused-answer : {n : ℕ} → l ≡ Refused n → n ≡ change-outcome kind tabulation ws scratch key .answer
     unfolding change-outcome change-refusal
     refused-answer e = refused-first tabulation ws scratch T e (later-refusals kind tabulation ws key)
 
-    pub left-refused : {n : ℕ} → l ≡ Refused n → Left n ws
+    pub left-refused : {n : ℕ} → l ≡ Refused n → Concluded n ws
     left-refused e =
         let a = refused-answer e in
         (a, sym (change-refused tabulation ws scratch kind key (λ q. loaded-refused tabulation ws scratch T e .1 (a ∙ q))))
 
     -- what a set that was loaded leads to
-    pub left-set : {h : Header} → l ≡ Set h → {a : ℕ} {us : List ℕ} → AfterLoad kind tabulation ws key a us → Left a us
+    pub left-set : {h : Header} → l ≡ Set h → {a : ℕ} {us : List ℕ} → AfterLoad kind tabulation ws key a us → Concluded a us
     unfolding change-outcome change-refusal
     left-set q e =
         let r = sym (loaded-passes tabulation ws scratch T q (later-refusals kind tabulation ws key)) in

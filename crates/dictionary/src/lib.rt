@@ -3,7 +3,7 @@
 ghost use mathlib.Core.Path.{_≡_};
 ghost use Rattle.layout.specs.Layout.{header-of};
 ghost use Rattle.gateway.specs.Loading.{LoadedSet};
-ghost use Rattle.dictionary.specs.Core.{Settable, with-count, Decided, AfterLoad, Left};
+ghost use Rattle.dictionary.specs.Core.{Settable, with-count, Decided, AfterLoad, Concluded};
 ghost use Rattle.outcome.specs.Outcome.{change-outcome, check-outcome};
 ghost use Rattle.outcome.specs.declared.Change.the-variants.{Insert, Remove};
 use gateway::Loaded;
@@ -14,13 +14,6 @@ use gateway::refusal;
 use layout::Found;
 use layout::Header;
 use layout::MAX_TIER;
-use members::is_at;
-use members::look;
-use members::other_issue;
-use members::place_of;
-use members::put_key;
-use members::take_key;
-use members::tier_at;
 use outcome::Change;
 use refusals::BLANK_KEY;
 use refusals::KEY_ABSENT;
@@ -29,6 +22,13 @@ use refusals::OTHER_ISSUE;
 use refusals::OTHER_TIER;
 use refusals::STASH_FULL;
 use refusals::WRONG_TIER;
+use scratch_set::is_at;
+use scratch_set::look;
+use scratch_set::other_issue;
+use scratch_set::place_of;
+use scratch_set::put_key;
+use scratch_set::take_key;
+use scratch_set::tier_at;
 use words::wide;
 
 // The heading of a list that has another number of keys.
@@ -131,7 +131,15 @@ fn change_set(
     }
     let n = wide(heading.keys);
     match kind {
-        Change::Insert(tier) => insert_key(tabulation, &mut *words, &mut *scratch, heading, n, key, tier),
+        Change::Insert(tier) => insert_key(
+            tabulation,
+            &mut *words,
+            &mut *scratch,
+            heading,
+            n,
+            key,
+            tier,
+        ),
         Change::Remove => remove_key(tabulation, &mut *words, &mut *scratch, heading, n, key),
     }
 }
@@ -144,12 +152,19 @@ fn change_words(
     scratch: &mut [u32],
     key: u32,
 ) -> u32
-    ensures { λ a. ⌜ Left (now (tabulation .entry)) (now (words .entry)) (now (scratch .entry)) kind key a
+    ensures { λ a. ⌜ Concluded (now (tabulation .entry)) (now (words .entry)) (now (scratch .entry)) kind key a
         (now (words .exit)) ⌝ }
 {
     let loaded = load(tabulation, &*words, &mut *scratch);
     match loaded {
-        Loaded::Set(heading) => change_set(kind, tabulation, &mut *words, &mut *scratch, heading, key),
+        Loaded::Set(heading) => change_set(
+            kind,
+            tabulation,
+            &mut *words,
+            &mut *scratch,
+            heading,
+            key,
+        ),
         Loaded::Refused(n) => n,
     }
 }

@@ -109,14 +109,14 @@ module _ (a b : ℕ → ℕ) where
 
   module _ (S : List ℕ) where
     -- the keys of S below t have been through, F are those of them that the forest of S has, and `rest` is still to come
-    record Reached (rest F : List ℕ) (t : ℕ) : Type 0 where
+    record GrownSoFar (rest F : List ℕ) (t : ℕ) : Type 0 where
       seen : (x : ℕ) → In x S → (x < t) ⊎ In x rest
       ahead : (x : ℕ) → In x rest → In x S
       within-S : Sub F (forest a b S)
       all-F : (x : ℕ) → In x (forest a b S) → x < t → In x F
       low : (x : ℕ) → In x F → x < t
 
-    grow-forest : (rest : List ℕ) {F : List ℕ} (t : ℕ) → Asc rest → ((x : ℕ) → In x rest → t ≤ x) → Reached rest F t
+    grow-forest : (rest : List ℕ) {F : List ℕ} (t : ℕ) → Asc rest → ((x : ℕ) → In x rest → t ≤ x) → GrownSoFar rest F t
         → Sub (grow rest F) (forest a b S) × Sub (forest a b S) (grow rest F)
     grow-forest [] {F} t asc up R =
         rw (grow-none F) (R .within-S, λ x i. elim (R .seen x (forest-in a b S x i)) [ inl l ↦ R .all-F x i l | inr k ↦ elim k [ ] ])

@@ -67,7 +67,7 @@ module _ (a b : ℕ → ℕ) where
     pub each : (p : ℕ) → Oriented F h p
 
   -- The key c of F stands in slot v and leads to w: without c these two are apart, and c stands in no other slot of the tree.
-  pub record Leads (F h : List ℕ) (c v : ℕ) : Type 0 where
+  pub record LeadsTo (F h : List ℕ) (c v : ℕ) : Type 0 where
     pub w : ℕ
     pub ends : Ends a b c v w
     pub mem : In c F
@@ -235,7 +235,7 @@ module _ {a b : ℕ → ℕ} where
     }
 
   -- the key in a slot leads on
-  pub leads : {F h : List ℕ} {c v : ℕ} → Forest a b F → Oriented a b F h v → getD h v 0 ≡ c → (c ≡ 0 → ⊥) → Leads a b F h c v
+  pub leads : {F h : List ℕ} {c v : ℕ} → Forest a b F → Oriented a b F h v → getD h v 0 ≡ c → (c ≡ 0 → ⊥) → LeadsTo a b F h c v
   leads {F} {h} {c} {v} f o e nz =
       let w = o .own v c jrefl e nz in
       let near : Joined a b F v (a c) = jsym (end-near (w .ends) (w .mem) jrefl) in
@@ -256,7 +256,7 @@ module _ {a b : ℕ → ℕ} where
       }
 
   -- One tree becomes two: the key c is taken out of its slot v. Beyond c is the tree with the root of old, and v is the root of the other.
-  module _ {F h : List ℕ} (h′ : List ℕ) {c v : ℕ} (f : Forest a b F) (o : Oriented a b F h v) (s : Leads a b F h c v)
+  module _ {F h : List ℕ} (h′ : List ℕ) {c v : ℕ} (f : Forest a b F) (o : Oriented a b F h v) (s : LeadsTo a b F h c v)
       (e : (x : ℕ) → (x ≡ v → ⊥) → getD h′ x 0 ≡ getD h x 0) where
     pub tree-beyond : Oriented a b (without c F) h′ (s .w)
     tree-beyond = restrict f o (s .over) (λ x k.
@@ -269,7 +269,7 @@ module _ {a b : ℕ → ℕ} where
       | inr n ↦ same (λ t. n (s .only x (mono (λ d i. out-in c F i) k) t)) (e x n)
     ])
 
-  below-emptied : {F h : List ℕ} {c v : ℕ} → Forest a b F → Oriented a b F h v → Leads a b F h c v → Oriented a b (without c F) (set h v 0) v
+  below-emptied : {F h : List ℕ} {c v : ℕ} → Forest a b F → Oriented a b F h v → LeadsTo a b F h c v → Oriented a b (without c F) (set h v 0) v
   below-emptied {h = h} {v = v} f o s = tree-below (set h v 0) f o s (λ x n. off-set h v 0 x n) (emptied h v)
 
   -- some key parts two different slots of a tree
@@ -277,7 +277,7 @@ module _ {a b : ℕ → ℕ} where
   parted {F} {u} {v} f j ne = far-some {X = F} {p = v} (λ c i k y. f .acyclic c i y) (jsym j) ne
 
   -- at a bare slot u it stands at its other end
-  far-leads : {F h : List ℕ} {u v c : ℕ} → Forest a b F → Oriented a b F h u → getD h u 0 ≡ 0 → (r : Far a b F v c u) → Leads a b F h c (r .w)
+  far-leads : {F h : List ℕ} {u v c : ℕ} → Forest a b F → Oriented a b F h u → getD h u 0 ≡ 0 → (r : Far a b F v c u) → LeadsTo a b F h c (r .w)
   far-leads {h = h} {c = c} f o p r =
       let i = r .c-in in
       let s = o .stands c i (jsym (end-near (r .ends) i jrefl)) in
@@ -310,13 +310,13 @@ module _ {a b : ℕ → ℕ} where
   one-root {F} f o j p q = one-root-of (length F) (omega arith) f o j p q
 
   -- a key leads away from its own side of the tree, towards the root
-  pub not-below : {F h : List ℕ} {c v p : ℕ} → Forest a b F → Oriented a b F h v → Leads a b F h c v → getD h p 0 ≡ 0
+  pub not-below : {F h : List ℕ} {c v p : ℕ} → Forest a b F → Oriented a b F h v → LeadsTo a b F h c v → getD h p 0 ≡ 0
       → Joined a b (without c F) v p → ⊥
   not-below {F} {h} {c} {v} {p} f o s z k =
       let e = one-root (forest-sub (λ d. out-in c F) f) (below-emptied f o s) k (emptied h v) (still-bare h v p z) in
       f .nonzero c (s .mem) (sym (s .at) ∙ ap (λ (y : ℕ). getD h y 0) e ∙ z)
 
-  pub root-beyond : {F h : List ℕ} {c v p : ℕ} → Forest a b F → Oriented a b F h v → (s : Leads a b F h c v) → Joined a b F v p → getD h p 0 ≡ 0
+  pub root-beyond : {F h : List ℕ} {c v p : ℕ} → Forest a b F → Oriented a b F h v → (s : LeadsTo a b F h c v) → Joined a b F v p → getD h p 0 ≡ 0
       → Joined a b (without c F) (s .w) p
   root-beyond {F} {c = c} f o s j z = elim (sides (without c F) (s .ends) (around c F) j) [ inl k ↦ absurd (not-below f o s z k) | inr k ↦ k ]
 

@@ -15,7 +15,7 @@ use Rattle.basics.specs.Tests.{eq?}
 use Rattle.basics.specs.Sets.{without, out-in, around, out-shorter}
 use Rattle.cuckoo.specs.Joined.{Joined, jrefl, jsym, jtrans, mono}
 use Rattle.cuckoo.specs.Seating.{Ends, from-a, from-b}
-use Rattle.forest.specs.Oriented.{at-set, off-set, emptied, Forest, Oriented, Leads, forest-sub, recast, join, leads, tree-beyond, tree-below}
+use Rattle.forest.specs.Oriented.{at-set, off-set, emptied, Forest, Oriented, LeadsTo, forest-sub, recast, join, leads, tree-beyond, tree-below}
 
 -- `other v c` is the other slot of the key c that stands in slot v
 module _ (other : ℕ → ℕ → ℕ) where
@@ -71,7 +71,7 @@ module _ {a b : ℕ → ℕ} where
     }
 
   -- elsewhere the key c in v leads to w: the tree beyond c is re-rooted at w, and c is left there
-  module _ {F h out : List ℕ} (carry : ℕ) {c v : ℕ} (f : Forest a b F) (o : Oriented a b F h v) (s : Leads a b F h c v) (fit : v < length h)
+  module _ {F h out : List ℕ} (carry : ℕ) {c v : ℕ} (f : Forest a b F) (o : Oriented a b F h v) (s : LeadsTo a b F h c v) (fit : v < length h)
       (I : Rerooted a b (without c F) (set h v carry) c (s .w) out) where
     not-beyond : (x : ℕ) → Joined a b (without c F) (s .w) x → x ≡ v → ⊥
     not-beyond x k q = s .apart (jsym (rw q at k))
@@ -100,7 +100,7 @@ module _ {a b : ℕ → ℕ} {other : ℕ → ℕ → ℕ} (turn : (c v w : ℕ)
   ends-fit {c} (from-b e f) = rw f (fits c .0)
 
   step : (n : ℕ) {F h : List ℕ} (carry : ℕ) {v : ℕ} → Forest a b F → Oriented a b F h v → v < length h → (getD h v 0 ≡ 0 → ⊥)
-      → (s : Leads a b F h (getD h v 0) v)
+      → (s : LeadsTo a b F h (getD h v 0) v)
       → Rerooted a b (without (getD h v 0) F) (set h v carry) (getD h v 0) (s .w) (reroot other n (set h v carry) (getD h v 0) (s .w))
       → Rerooted a b F h carry v (reroot other (suc n) h carry v)
   step n {F} {h} carry {v} f o fit nz s I = rw (reroot-step other n h carry v nz, turn (getD h v 0) v (s .w) (s .ends)) (beyond carry f o s fit I)

@@ -14,7 +14,7 @@ use Rattle.basics.specs.Tests.{eq?, le?}
 use Rattle.basics.specs.Sets.{without, Sub, outs, out-in, in-out, out-shorter}
 use Rattle.cuckoo.specs.Joined.{Joined, jrefl, jtrans, mono}
 use Rattle.cuckoo.specs.Seating.{Ends, past-it, by-v, by-w, over, ends-edge}
-use Rattle.forest.specs.Oriented.{Forest, Oriented, Leads, forest-sub, leads, tree-beyond, one-root, not-below, root-beyond, no-keys}
+use Rattle.forest.specs.Oriented.{Forest, Oriented, LeadsTo, forest-sub, leads, tree-beyond, one-root, not-below, root-beyond, no-keys}
 
 module _ (other : ℕ → ℕ → ℕ) where
   -- at most n steps from v towards the root: the slot of the smallest key on the way, s being that of the smallest before
@@ -79,7 +79,7 @@ module _ {a b : ℕ → ℕ} {F h : List ℕ} {v p : ℕ} (f : Forest a b F) (o 
       record { from = inl refl; le = le-of-eq refl; low = λ c w. absurd (w .parts (rw q jrefl)) }
 
   -- the keys on the way from v are the key in v, and those on the way from its other slot
-  module _ {d : ℕ} (w : Leads a b F h d v) where
+  module _ {d : ℕ} (w : LeadsTo a b F h d v) where
     pub on-way-here : OnWay a b F v p d
     on-way-here = record { mem = w .mem; parts = not-below f o w z }
 
@@ -101,7 +101,7 @@ module _ {a b : ℕ → ℕ} {F h : List ℕ} {v p : ℕ} (f : Forest a b F) (o 
       parts = λ l. W .parts (jtrans (ends-edge (w .ends) (in-out c F (λ q. ne (sym q)) (w .mem))) (mono (λ x y. search outs) l));
     }
 
-  lowest-back : {s s′ t : ℕ} (w : Leads a b F h (getD h v 0) v) → Smaller h v s s′
+  lowest-back : {s s′ t : ℕ} (w : LeadsTo a b F h (getD h v 0) v) → Smaller h v s s′
       → Lowest a b (without (getD h v 0) F) h (w .w) p s′ t → Lowest a b F h v p s t
   lowest-back w k L = record {
     from = elim (L .from) [

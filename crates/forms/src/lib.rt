@@ -2,7 +2,7 @@
 // `grammar`.
 ghost use mathlib.Core.Path.{_≡_};
 ghost use mathlib.Core.List.{[], _∷_};
-ghost use Rattle.grammar.specs.Command.{by-letter, with-key, insertion, command-of};
+ghost use Rattle.grammar.specs.Command.{by-letter, command-with, insertion, command-of};
 ghost use Rattle.grammar.specs.Sizes.{sizes, sizes-of};
 use fields::find;
 use fields::number_in;
@@ -64,7 +64,7 @@ fn by_letter(letter: u8, key: u32) -> Command
 }
 
 fn with_key(letter: u8, number: Number) -> Command
-    ensures { λ r. ⌜ r ≡ with-key (letter ∷ []) number ⌝ }
+    ensures { λ r. ⌜ r ≡ command-with (letter ∷ []) number ⌝ }
 {
     let Number::Value(key) = number else {
         return Command::Other;

@@ -18,8 +18,8 @@ use Rattle.build.specs.Build.{full, made, Built, Buildable}
 use Rattle.build.specs.declared.StashCount.{StashCount}
 use Rattle.build.specs.declared.StashCount.the-variants.{Ranks, Overflow}
 use Rattle.image.specs.Image.{alike-image, written-image}
-use Rattle.members.specs.Edges.{Lined, lined-built}
-use Rattle.gateway.specs.Columns.{SetColumns, alike-in, written-in, Readable, standing-readable, stash-count, set-columns}
+use Rattle.scratch_set.specs.Edges.{Lined, lined-built}
+use Rattle.gateway.specs.Columns.{SetColumns, alike-in, written-in, RanksReadable, standing-readable, stash-count, set-columns}
 
 -- a set whose stash is too long does not fit
 full-fits : (P : Params) (S : List ℕ) → P .places < length (stash-of P S) → fits P S ≡ false
@@ -32,7 +32,7 @@ no-tier {S} t valid = tier-absent (tiered t S) (λ i. zero-outside valid (rw (ke
 
 -- A build that has room leaves what can be read by rank.
 pub built-readable : {r s n : ℕ} {before after : List ℕ} {count : StashCount} {k : ℕ} → Sized r s → Buildable r s n before → length after ≡ length before
-    → Built r s n before after count → count ≡ Ranks k → Readable r s n after
+    → Built r s n before after count → count ≡ Ranks k → RanksReadable r s n after
 built-readable sizes b same B e = elim (B .built) [
   | full l q ↦ absurd (omega (arith, rw e at q))
   | made l q v W ↦ standing-readable sizes (b .few) (omega (arith, b .room)) W

@@ -33,7 +33,7 @@ use Rattle.build.specs.Build.{edges-of, stash-ranks, slot-rank, next-rank, Stan
 use Rattle.records.specs.Record.{tier-by}
 use Rattle.image.specs.Ranks.{key-column, next-column, tier-column, ranks-alike, ranks-written, Ranked}
 use Rattle.image.specs.Image.{ImageColumns}
-use Rattle.members.specs.Edges.{edge-of, Lined, edge-tier, lined-at, lined-first, lined-second}
+use Rattle.scratch_set.specs.Edges.{edge-of, Lined, edge-tier, lined-at, lined-first, lined-second}
 
 -- the columns that `image` reads: r slots to a table, the keys by rank are the first words of scratch, G are its parts
 module _ (r : ℕ) (scratch : List ℕ) (G : Parts) where
@@ -54,7 +54,7 @@ abbrev pub written-in : (ws : List ℕ) (h : Header) (scratch : List ℕ) → Li
 written-in ws h scratch = let G = parts (h .slots) (h .places) (h .keys) scratch in ranks-written ws h scratch (G .graph) (G .next) (G .stash)
 
 -- The image of n ranks stands in scratch, in parts of their lengths: every rank that is read has its words.
-pub record Readable (r s n : ℕ) (scratch : List ℕ) : Type 0 where
+pub record RanksReadable (r s n : ℕ) (scratch : List ℕ) : Type 0 where
   pub sizes : Sized r s
   pub few : n ≤ 2 * r + s
   pub room : used r s ≤ length scratch
@@ -109,7 +109,7 @@ module _ {r s n : ℕ} {scratch : List ℕ} (sizes : Sized r s) (few : n ≤ 2 *
         | inr j ↦ omega (arith, in-zeros (s - length (stash-ranks r n E)) j)
       ]
 
-  pub standing-readable : Readable r s n scratch
+  pub standing-readable : RanksReadable r s n scratch
   standing-readable = record {
     sizes = sizes;
     few = few;
@@ -125,7 +125,7 @@ module _ {r s n : ℕ} {scratch : List ℕ} (sizes : Sized r s) (few : n ≤ 2 *
     };
   }
 
-pub readable-stash : {r s n : ℕ} {scratch : List ℕ} → Readable r s n scratch → length (parts r s n scratch .stash) ≡ s
+pub readable-stash : {r s n : ℕ} {scratch : List ℕ} → RanksReadable r s n scratch → length (parts r s n scratch .stash) ≡ s
 readable-stash {r} {s} {n} {scratch} R = parts-sized r s n scratch (R .few) (R .room) .stash-size
 
 -- The ranks are those of a set that stands there.
@@ -187,7 +187,7 @@ module _ {P : Params} {t : ℕ → ℕ} {S scratch : List ℕ} (valid : ValidKey
         let k = P .places - length (stash-ranks r n ends) in
         rw (← stash-count, stash-keys, W .stashed, map-append (ranked S) (stash-ranks r n ends) (replicate k 0), map-zeros (ranked S) refl k)
 
-    abbrev R : Readable r (P .places) n scratch
+    abbrev R : RanksReadable r (P .places) n scratch
     R = standing-readable sizes few room W
 
     abbrev size : PartsSized r (P .places) n A

@@ -13,8 +13,8 @@ use Rattle.layout.specs.Shape.{Sized}
 use Rattle.build.specs.Build.{Built, Buildable}
 use Rattle.build.specs.declared.StashCount.{StashCount}
 use Rattle.build.specs.declared.StashCount.the-variants.{Ranks, Overflow}
-use Rattle.members.specs.Edges.{Lined}
-use Rattle.gateway.specs.Columns.{Readable, written-in}
+use Rattle.scratch_set.specs.Edges.{Lined}
+use Rattle.gateway.specs.Columns.{RanksReadable, written-in}
 use Rattle.gateway.specs.Building.{built-readable, set-full, set-made, set-written}
 
 -- the answer and the words that a new set leads to: "full drawer", and the words stay, or the image of the set
@@ -58,7 +58,7 @@ module _ (h : Header) (ws : List ℕ) {scratch : List ℕ} (C : Committable h ws
 
     -- or its image is written.
     module _ {k : ℕ} (o : c ≡ Ranks k) where
-      pub committed-readable : (length ws ≡ words-length (h .slots) (h .places)) × Readable (h .slots) (h .places) (h .keys) after
+      pub committed-readable : (length ws ≡ words-length (h .slots) (h .places)) × RanksReadable (h .slots) (h .places) (h .keys) after
       committed-readable = (C .size, built-readable (C .sizes) (C .buildable) same (rw (← count) B) o)
 
       pub committed-made : {us : List ℕ}

@@ -17,8 +17,8 @@ use Rattle.layout.specs.Standing.{keys-in-valid}
 use Rattle.collect.specs.Collect.{keys-in-few}
 use Rattle.build.specs.Scratch.{used}
 use Rattle.build.specs.Build.{Buildable}
-use Rattle.members.specs.Edges.{Lined, lined-buildable}
-use Rattle.members.specs.Members.{keys-at, lined-keys}
+use Rattle.scratch_set.specs.Edges.{Lined, lined-buildable}
+use Rattle.scratch_set.specs.Members.{keys-at, lined-keys}
 use Rattle.gateway.specs.Loading.{LoadedSet}
 
 -- an image tells in word 2 how many keys it has

@@ -22,9 +22,9 @@ use Rattle.build.specs.Scratch.{used}
 use Rattle.build.specs.Build.{Built, Buildable}
 use Rattle.build.specs.declared.StashCount.{StashCount}
 use Rattle.build.specs.declared.StashCount.the-variants.{Ranks, Overflow}
-use Rattle.members.specs.Edges.{tier-found, small-le, small-same, Lined, lined-buildable}
-use Rattle.members.specs.Collected.{Collected, Listed, formed, collected-few}
-use Rattle.members.specs.Members.{keys-at, lined-agree, lined-keys}
+use Rattle.scratch_set.specs.Edges.{tier-found, small-le, small-same, Lined, lined-buildable}
+use Rattle.scratch_set.specs.Collected.{Collected, Listed, formed, collected-few}
+use Rattle.scratch_set.specs.Members.{keys-at, lined-agree, lined-keys}
 use Rattle.gateway.specs.Columns.{alike-in}
 use Rattle.gateway.specs.Building.{set-kept, set-full, set-made, set-alike}
 use Rattle.gateway.specs.declared.Loaded.{Loaded}
@@ -144,18 +144,18 @@ module _ {tabulation ws scratch mid : List ℕ} {r s station n : ℕ} (C : Colle
 
 -- What load promises, of scratch as it is left: `before` is how it was lent.
 module _ (tabulation ws before : List ℕ) where
-  abbrev pub Told : List ℕ → Loaded → Type 0
-  Told left l =
+  abbrev pub LoadTold : List ℕ → Loaded → Type 0
+  LoadTold left l =
       (number l ≡ load-refusal tabulation ws before)
       × ((headings l ≡ load-headings tabulation ws before) × (load-refusal tabulation ws before ≡ done → LoadedSet tabulation ws left))
 
   -- 1, 2 or 3,
-  refused-told : {n : ℕ} (left : List ℕ) → n ≡ load-refusal tabulation ws before → (n ≡ 0 → ⊥) → Told left (Refused n)
+  refused-told : {n : ℕ} (left : List ℕ) → n ≡ load-refusal tabulation ws before → (n ≡ 0 → ⊥) → LoadTold left (Refused n)
   refused-told {n} left e nz =
       let t : eqb (load-refusal tabulation ws before) done ≡ false = ne-eqb _ done (λ q. nz (e ∙ q)) in
       (e, (rw t, λ q. absurd (nz (e ∙ q))))
 
-  pub told-early : {n : ℕ} (left : List ℕ) → n ≡ early-refusal tabulation ws (length before) → (n ≡ 0 → ⊥) → Told left (Refused n)
+  pub told-early : {n : ℕ} (left : List ℕ) → n ≡ early-refusal tabulation ws (length before) → (n ≡ 0 → ⊥) → LoadTold left (Refused n)
   unfolding early-refusal
   told-early left e nz =
       refused-told left
@@ -166,23 +166,28 @@ module _ (tabulation ws before : List ℕ) where
     refusal-is = head-ready tabulation ws before [] ready
 
     -- 4,
-    pub told-tampered : (left : List ℕ) → b ≡ false → Told left (Refused not-canonical)
+    pub told-tampered : (left : List ℕ) → b ≡ false → LoadTold left (Refused not-canonical)
     told-tampered left q = refused-told left (sym (refusal-is ∙ (rw (sym compared ∙ q)))) (λ z. omega arith)
 
     -- or the set.
-    pub told-set : {left : List ℕ} {h : Header} → b ≡ true → h ≡ header-of ws → length left ≡ length before → Listed tabulation ws left → Told left (Set h)
+    pub told-set : {left : List ℕ} {h : Header} → b ≡ true → h ≡ header-of ws → length left ≡ length before → Listed tabulation ws left → LoadTold left (Set h)
     told-set q e same-room D =
         let c : canonical tabulation ws ≡ true = sym compared ∙ q in
         let n : load-refusal tabulation ws before ≡ done = refusal-is ∙ (rw c) in
-        let t = eq-eqb (load-refusal tabulation ws before) done n in
-        (sym n, (rw (t, e), λ z. record {
-          ready = record { full-length = ready .full-length; shape = ready .shape; room = omega (arith, ready .room) };
-          image = c;
-          lined = lined-agree D (tier-in tabulation ws) (λ k. canonical-small tabulation ws c);
-        }))
+        let t = eq-eqb (load-refusal tabulation ws before) done n in (
+          sym n,
+          (
+            rw (t, e),
+            λ z. record {
+              ready = record { full-length = ready .full-length; shape = ready .shape; room = omega (arith, ready .room) };
+              image = c;
+              lined = lined-agree D (tier-in tabulation ws) (λ k. canonical-small tabulation ws c);
+            },
+          ),
+        )
 
   -- What a caller is told: a refusal,
-  module _ {left : List ℕ} {l : Loaded} (T : Told left l) where
+  module _ {left : List ℕ} {l : Loaded} (T : LoadTold left l) where
     pub loaded-refused : {n : ℕ} → l ≡ Refused n → (n ≡ load-refusal tabulation ws before) × (n ≡ done → ⊥)
     loaded-refused {n} e = (number-is, λ z. go (rw (sym number-is ∙ z) at headings-are))
       where

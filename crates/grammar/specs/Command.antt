@@ -53,11 +53,11 @@ pair-of text = pair-in (fields text)
 abbrev pub by-letter : ℕ → ℕ → Command
 by-letter b key = cond (eqb b letter-W) (Remove key) (cond (eqb b letter-L) (Lookup key) no-command)
 
-abbrev pub with-key : List ℕ → Number → Command
-with-key [] x = no-command
-with-key (b ∷ []) (Value key) = by-letter b key
-with-key (b ∷ []) no-number = no-command
-with-key (b ∷ c ∷ f) x = no-command
+abbrev pub command-with : List ℕ → Number → Command
+command-with [] x = no-command
+command-with (b ∷ []) (Value key) = by-letter b key
+command-with (b ∷ []) no-number = no-command
+command-with (b ∷ c ∷ f) x = no-command
 
 -- "A (add)", "The program's A line gains the tier": the letter, a key and a tier
 abbrev pub insertion : Pair → Command
@@ -73,7 +73,7 @@ with-tier (b ∷ c ∷ f) x = no-command
 abbrev pub command : List (List ℕ) → Command
 command [] = no-command
 command (f ∷ []) = no-command
-command (f ∷ g ∷ []) = with-key f (number-of g)
+command (f ∷ g ∷ []) = command-with f (number-of g)
 command (f ∷ g ∷ h ∷ []) = with-tier f (pair (number-of g) (number-of h))
 command (f ∷ g ∷ h ∷ i ∷ fs) = no-command
 
@@ -163,14 +163,14 @@ add-behind t =
       | several f g (h ∷ fs) e d ↦ rw e
     ]
   where
-    one-number : (x : Number) → with-key (letter-A ∷ []) x ≡ no-command
+    one-number : (x : Number) → command-with (letter-A ∷ []) x ≡ no-command
     one-number (Value key) = refl
     one-number no-number = refl
 
     alike : (fs : List (List ℕ)) → fs ≡ t ∷ [] → command ((letter-A ∷ []) ∷ fs) ≡ insertion (pair-in fs)
     alike fs e = rw e (one-number (number-of t))
 
-key-behind : (a : ℕ) (t : List ℕ) → (a ≡ letter-A → ⊥) → command ((a ∷ []) ∷ fields t) ≡ with-key (a ∷ []) (number-of t)
+key-behind : (a : ℕ) (t : List ℕ) → (a ≡ letter-A → ⊥) → command ((a ∷ []) ∷ fields t) ≡ command-with (a ∷ []) (number-of t)
 key-behind a t n =
     elim (fielded t) [
       | one e ↦ rw e
@@ -186,7 +186,7 @@ command-add (b ∷ []) h e a = absurd (omega arith)
 command-add (b ∷ c ∷ t) h e a = rw (a, eq-eqb c comma e) (add-behind t)
 
 pub command-key : (l : List ℕ) → 1 < length l → getD l 1 0 ≡ comma → (getD l 0 0 ≡ letter-A → ⊥)
-    → command-of l ≡ with-key (getD l 0 0 ∷ []) (number-of (drop 2 l))
+    → command-of l ≡ command-with (getD l 0 0 ∷ []) (number-of (drop 2 l))
 unfolding command-of parted
 command-key [] h e n = absurd (omega arith)
 command-key (a ∷ []) h e n = absurd (omega arith)
@@ -196,7 +196,7 @@ command-key (a ∷ b ∷ t) h e n =
       | inr m ↦ rw (ne-eqb a comma m, eq-eqb b comma e) (key-behind a t n)
     ]
   where
-    not-letter : (x : Number) → with-key (comma ∷ []) x ≡ no-command
+    not-letter : (x : Number) → command-with (comma ∷ []) x ≡ no-command
     not-letter (Value n) = refl
     not-letter no-number = refl
 
@@ -310,7 +310,7 @@ command-exact l =
         (cc, t .1, t .2)
     add h e a no-pair t = tt
 
-    key : 1 < length l → getD l 1 0 ≡ comma → (x : Number) → number-of (drop 2 l) ≡ x → Command-text (with-key (getD l 0 0 ∷ []) x) l
+    key : 1 < length l → getD l 1 0 ≡ comma → (x : Number) → number-of (drop 2 l) ≡ x → Command-text (command-with (getD l 0 0 ∷ []) x) l
     key h e (Value n) f =
         let a = two-heads l h in
         let d = number-decimal (drop 2 l) f in

@@ -218,17 +218,17 @@ unfolding value
 value-more [] b n = refl
 value-more (c ∷ t) b n = value-more t b (10 * n + (c - 48))
 
-record Written (n : ℕ) : Type 0 where
+record NumberWritten (n : ℕ) : Type 0 where
   first : 0 < n → starts (decimal n) ≡ true
   leading : no-leading-zero (decimal n) ≡ true
   digits : all-digits (decimal n) ≡ true
   worth : value 0 (decimal n) ≡ n
 
-written : (n : ℕ) → Written n
+written : (n : ℕ) → NumberWritten n
 unfolding starts no-leading-zero all-digits value
-written = by-digits Written few more
+written = by-digits NumberWritten few more
   where
-    few : (n : ℕ) → n < 10 → Written n
+    few : (n : ℕ) → n < 10 → NumberWritten n
     few n h = record {
       first = λ l. rw (decimal-small n h, ne-eqb (digit n) 48 (λ e. omega arith));
       leading = rw (decimal-small n h);
@@ -236,7 +236,7 @@ written = by-digits Written few more
       worth = rw (decimal-small n h) (omega arith);
     }
 
-    more : (n : ℕ) → 10 ≤ n → Written (n / 10) → Written n
+    more : (n : ℕ) → 10 ≤ n → NumberWritten (n / 10) → NumberWritten n
     more n h w =
         let b = digit (n % 10) in
         let s = w .first (omega arith) in

@@ -17,8 +17,8 @@ use Rattle.grammar.specs.declared.Line.{Line}
 abbrev pub Fed : Line → ℕ → Line → Type 0
 Fed line byte r = (l : List ℕ) → Buffers line l → Buffers r (l ++ (byte ∷ []))
 
-abbrev pub Told : Line → Bool → Type 0
-Told line r = (l : List ℕ) → Buffers line l → r ≡ eqb (length l) 0
+abbrev pub LineTold : Line → Bool → Type 0
+LineTold line r = (l : List ℕ) → Buffers line l → r ≡ eqb (length l) 0
 
 -- `Run line input handed`: with this line so far and this input to come, these lines are handed on. A newline hands the line on and an empty one
 -- begins; any other byte is fed; the end hands the line on unless it is empty.
@@ -29,8 +29,8 @@ pub data Run : Line → List ℕ → List Line → Type 0 where
   fed : {line next : Line} {byte : ℕ} {rest : List ℕ} {handed : List Line}
       → (byte ≡ newline → ⊥) → Fed line byte next → Run next rest handed
       → Run line (byte ∷ rest) handed
-  over : {line : Line} → Told line true → Run line [] []
-  last : {line : Line} → Told line false → Run line [] (line ∷ [])
+  over : {line : Line} → LineTold line true → Run line [] []
+  last : {line : Line} → LineTold line false → Run line [] (line ∷ [])
 
 -- each line holds the text at its place
 pub data Hold : List Line → List (List ℕ) → Type 0 where

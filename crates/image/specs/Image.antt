@@ -19,7 +19,7 @@ use Rattle.layout.specs.Layout.{key-count, stash-count, station-of, stash-of, f
 use Rattle.layout.specs.Shape.{Shaped}
 use Rattle.layout.specs.Image.{Laid, place-keys, image-laid, laid-image}
 use Rattle.layout.specs.declared.Header.{Header}
-use Rattle.records.specs.Columns.{picked, put, picked-length, picked-at, put-length, put-at, put-off}
+use Rattle.records.specs.Columns.{picked, column-put, picked-length, picked-at, put-length, put-at, put-off}
 
 -- comparing, column by column: slots that begin at `start`, and stash places that do
 abbrev pub slots-alike : (ws : List ℕ) (start : ℕ) (held next tiers : List ℕ) → Bool
@@ -41,14 +41,14 @@ alike ws keys stashed held next tiers stash stash-tiers =
 -- writing, column by column
 abbrev pub slots-put : (ws : List ℕ) (start : ℕ) (held next tiers : List ℕ) → List ℕ
 slots-put ws start held next tiers =
-    put (put (put ws start slot-width held) (start + 1) slot-width next) (start + 2) slot-width tiers
+    column-put (column-put (column-put ws start slot-width held) (start + 1) slot-width next) (start + 2) slot-width tiers
 
 abbrev pub places-put : (ws : List ℕ) (start : ℕ) (stash tiers : List ℕ) → List ℕ
-places-put ws start stash tiers = put (put ws start place-width stash) (start + 1) place-width tiers
+places-put ws start stash tiers = column-put (column-put ws start place-width stash) (start + 1) place-width tiers
 
 -- the heading first
-abbrev pub written : (ws : List ℕ) (h : Header) (held next tiers stash stash-tiers : List ℕ) → List ℕ
-written ws h held next tiers stash stash-tiers =
+abbrev pub image-written : (ws : List ℕ) (h : Header) (held next tiers stash stash-tiers : List ℕ) → List ℕ
+image-written ws h held next tiers stash stash-tiers =
     places-put (slots-put (header-words h ++ drop header-length ws) header-length held next tiers) (stash-at (h .slots)) stash stash-tiers
 
 -- The columns of the image of a set.
@@ -138,7 +138,7 @@ module _ {P : Params} {L : List Entry} {held next tiers stash beside : List ℕ}
         (λ h. true-same ws (image P L) (laid-image e z (alike-laid h)))
         (λ h. laid-alike (rw (same-true ws (image P L) h) (image-laid e z)))
 
-  -- And what is written over words of the right length is the image.
+  -- And what is image-written over words of the right length is the image.
   module _ (ws : List ℕ) (some : 0 < P .slots) (size : length ws ≡ words-length (P .slots) (P .places)) where
     abbrev header : Header
     header = record { slots = P .slots; places = P .places; keys = length S; stashed = length (stash-of P S); station = P .station }
@@ -150,19 +150,19 @@ module _ {P : Params} {L : List Entry} {held next tiers stash beside : List ℕ}
     w0 = header-words header ++ drop header-length ws
 
     abbrev w1 : List ℕ
-    w1 = put w0 header-length slot-width held
+    w1 = column-put w0 header-length slot-width held
 
     abbrev w2 : List ℕ
-    w2 = put w1 (header-length + 1) slot-width next
+    w2 = column-put w1 (header-length + 1) slot-width next
 
     abbrev w3 : List ℕ
-    w3 = put w2 (header-length + 2) slot-width tiers
+    w3 = column-put w2 (header-length + 2) slot-width tiers
 
     abbrev w4 : List ℕ
-    w4 = put w3 st place-width stash
+    w4 = column-put w3 st place-width stash
 
     abbrev w5 : List ℕ
-    w5 = put w4 (st + 1) place-width beside
+    w5 = column-put w4 (st + 1) place-width beside
 
     w0-length : length w0 ≡ length ws
     w0-length = omega (arith, length-drop header-length ws)
@@ -173,7 +173,7 @@ module _ {P : Params} {L : List Entry} {held next tiers stash beside : List ℕ}
     w4-length : length w4 ≡ length ws
     w4-length = put-length w3 _ _ stash ∙ w3-length
 
-    -- the stash is written behind the slots
+    -- the stash is image-written behind the slots
     before-stash : (k : ℕ) → k < st → getD w5 k 0 ≡ getD w3 k 0
     before-stash k l = put-off w4 (st + 1) place-width beside k (λ i m q. omega arith) ∙ put-off w3 st place-width stash k (λ i m q. omega arith)
 
@@ -219,5 +219,5 @@ module _ {P : Params} {L : List Entry} {held next tiers stash beside : List ℕ}
           rw k (put-at w4 (st + 1) place-width beside i (omega arith) (omega (arith, C .beside-size)) (omega (arith, w4-length)) ∙ C .beside-is i l);
     }
 
-    pub written-image : written ws header held next tiers stash beside ≡ image P L
+    pub written-image : image-written ws header held next tiers stash beside ≡ image P L
     written-image = laid-image e z written-laid

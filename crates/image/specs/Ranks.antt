@@ -9,9 +9,9 @@ use lib.ListN.{length, getD, drop}
 use lib.Seq.{getD-take, length-take-le}
 use Rattle.layout.specs.Layout.{header-length, header-words, slot-width, place-width, slots-of, stash-at}
 use Rattle.layout.specs.declared.Header.{Header}
-use Rattle.records.specs.Record.{tier-by, Known, Chained}
+use Rattle.records.specs.Record.{tier-by, RankKnown, Chained}
 use Rattle.forest.specs.Graph.{held-in}
-use Rattle.image.specs.Image.{slots-alike, places-alike, slots-put, places-put, alike, written}
+use Rattle.image.specs.Image.{slots-alike, places-alike, slots-put, places-put, alike, image-written}
 
 abbrev pub key-column : List ℕ → List ℕ → List ℕ
 key-column keys ranks = map (λ k. getD keys k 0) ranks
@@ -32,7 +32,7 @@ pub record Ranked (r n : ℕ) (keys graph next stash : List ℕ) : Type 0 where
   pub nexts : (v : ℕ) → v < 2 * r → getD next (getD graph v 0) 0 ≤ n
   pub stashed : (i : ℕ) → i < length stash → getD stash i 0 ≤ n
 
--- the slots of some ranks, from `start` on, and the stash places: compared and written
+-- the slots of some ranks, from `start` on, and the stash places: compared and image-written
 abbrev pub ranked-slots-alike : (ws : List ℕ) (start r : ℕ) (keys graph next ranks : List ℕ) → Bool
 ranked-slots-alike ws start r keys graph next ranks =
     slots-alike ws start (key-column keys ranks) (next-column keys next ranks) (tier-column r graph ranks)
@@ -58,21 +58,21 @@ abbrev pub ranks-written : (ws : List ℕ) (h : Header) (keys graph next stash :
 ranks-written ws h keys graph next stash =
     let r = h .slots in
     let held = held-in r graph in
-    written ws h (key-column keys held) (next-column keys next held) (tier-column r graph held) (key-column keys stash) (tier-column r graph stash)
+    image-written ws h (key-column keys held) (next-column keys next held) (tier-column r graph held) (key-column keys stash) (tier-column r graph stash)
 
 -- ranks of slots, and of stash places, that have what their words are compared with or made of, and room in the words
 pub record SlotRanks (ws : List ℕ) (r : ℕ) (keys graph next ranks : List ℕ) : Type 0 where
   pub fits : header-length + slot-width * length ranks ≤ length ws
-  pub known : (i : ℕ) → i < length ranks → Known r keys graph (getD ranks i 0)
+  pub known : (i : ℕ) → i < length ranks → RankKnown r keys graph (getD ranks i 0)
   pub chained : (i : ℕ) → i < length ranks → Chained keys next (getD ranks i 0)
 
 pub record PlaceRanks (ws : List ℕ) (start r : ℕ) (keys graph ranks : List ℕ) : Type 0 where
   pub fits : start + place-width * length ranks ≤ length ws
-  pub known : (i : ℕ) → i < length ranks → Known r keys graph (getD ranks i 0)
+  pub known : (i : ℕ) → i < length ranks → RankKnown r keys graph (getD ranks i 0)
 
 -- The laws: what is told by ranks has them. q is r, as the code has it.
 module _ {r n : ℕ} {keys graph next stash : List ℕ} (R : Ranked r n keys graph next stash) (q : ℕ) (e : q ≡ r) where
-  known-to : (rank : ℕ) → rank ≤ n → Known q keys graph rank
+  known-to : (rank : ℕ) → rank ≤ n → RankKnown q keys graph rank
   known-to rank l = record { some = omega (arith, R .some); key = omega (arith, R .keys-long); edge = omega (arith, R .graph-long) }
 
   pub held-length : length (held-in q graph) ≡ 2 * q

@@ -1,4 +1,4 @@
--- Columns side by side, row by row: the words of one slot, or of one stash place, compared and written together. What is left of the columns of some ranks is
+-- Columns side by side, row by row: the words of one slot, or of one stash place, compared and image-written together. What is left of the columns of some ranks is
 -- the columns of the ranks that are left. Assumes nothing.
 use Prim.Native.Nat.{ℕ, _+_, _≤_, _<_}
 use mathlib.Core.Path.{_≡_, refl, _∙_, ap}
@@ -11,7 +11,7 @@ use lib.ListN.{length, getD, set, drop, drop-of-length-le}
 use lib.Seq.{drop-cons}
 use Rattle.basics.specs.Lists.{same}
 use Rattle.layout.specs.Layout.{slot-width, place-width}
-use Rattle.records.specs.Columns.{picked, put, put-set}
+use Rattle.records.specs.Columns.{picked, column-put, put-set}
 use Rattle.image.specs.Image.{slots-alike, places-alike, slots-put, places-put}
 use Rattle.records.specs.Record.{slot-alike, slot-put, place-alike, place-put, tier-by}
 use Rattle.image.specs.Ranks.{key-column, next-column, tier-column, ranked-slots-alike, ranked-slots-put, ranked-places-alike, ranked-places-put}
@@ -40,7 +40,7 @@ module _ (ws : List ℕ) (at x y : ℕ) (xs ys : List ℕ) where
   places-alike-row = rw (after at place-width 1) (interchange (eqb (getD ws at 0) x) _ _ _)
 
   slots-put-row : (z : ℕ) (zs : List ℕ) → slots-put ws at (x ∷ xs) (y ∷ ys) (z ∷ zs) ≡ slots-put (slot-put ws at x y z) (at + slot-width) xs ys zs
-  unfolding put
+  unfolding column-put
   slots-put-row z zs =
       let a = set ws at x in
       let b = set a (at + 1) y in
@@ -48,12 +48,12 @@ module _ (ws : List ℕ) (at x y : ℕ) (xs ys : List ℕ) where
         after at slot-width 1,
         after at slot-width 2,
         ← put-set a (at + slot-width) slot-width xs (at + 1) y (omega arith),
-        ← put-set (put b (at + slot-width) slot-width xs) (at + 1 + slot-width) slot-width ys (at + 2) z (omega arith),
+        ← put-set (column-put b (at + slot-width) slot-width xs) (at + 1 + slot-width) slot-width ys (at + 2) z (omega arith),
         ← put-set b (at + slot-width) slot-width xs (at + 2) z (omega arith),
       )
 
   places-put-row : places-put ws at (x ∷ xs) (y ∷ ys) ≡ places-put (place-put ws at x y) (at + place-width) xs ys
-  unfolding put
+  unfolding column-put
   places-put-row = rw (after at place-width 1, ← put-set (set ws at x) (at + place-width) place-width xs (at + 1) y (omega arith))
 
 -- The first of the ranks that are left, as it was read, and those after it; b is what comparing its words gave, vs what writing them gave.
@@ -100,9 +100,9 @@ module _ (r : ℕ) (keys graph next ws : List ℕ) (at : ℕ) (ranks : List ℕ)
   places-alike-none = rw (drop-of-length-le ranks l)
 
   pub slots-put-none : ranked-slots-put ws at r keys graph next (drop i ranks) ≡ ws
-  unfolding put
+  unfolding column-put
   slots-put-none = rw (drop-of-length-le ranks l)
 
   pub places-put-none : ranked-places-put ws at r keys graph (drop i ranks) ≡ ws
-  unfolding put
+  unfolding column-put
   places-put-none = rw (drop-of-length-le ranks l)

@@ -254,11 +254,11 @@ small-tiers : (L : List Entry) → small L ≡ true → (e : Entry) → In e L �
 small-tiers (f ∷ L) t e (here q) = rw q (leb-true (f .tier) max-tier (and-true (leb (f .tier) max-tier) (small L) t .0))
 small-tiers (f ∷ L) t e (there i) = small-tiers L (and-true (leb (f .tier) max-tier) (small L) t .1) e i
 
-record Ready (r s : ℕ) (L : List Entry) : Type 0 where
+record RowReady (r s : ℕ) (L : List Entry) : Type 0 where
   valid : ValidSet L
   known : Known (board r s) (plain-0 r) (plain-1 r) (keys-of L)
 
-ready-is : (r s : ℕ) (L : List Entry) → ready r s L ≡ true → Ready r s L
+ready-is : (r s : ℕ) (L : List Entry) → ready r s L ≡ true → RowReady r s L
 unfolding blank
 ready-is r s L e =
     let S = keys-of L in

@@ -14,8 +14,8 @@ use lib.Seq.{drop-cons, drop-length}
 use Rattle.basics.specs.Tests.{test, eq?, le?, and-true, bool-ext}
 use Rattle.basics.specs.Sets.{any, any-true, true-any, Sub, Asc, some}
 use Rattle.basics.specs.Lists.{getD-in}
-use Rattle.ordered.specs.Keys.{rank-of, with-key}
-use Rattle.ordered.specs.Place.{with-cases, rank-le, before-rank, smaller-before, at-rank, larger-at}
+use Rattle.ordered.specs.Keys.{lower-bound, with-key}
+use Rattle.ordered.specs.Place.{with-cases, bound-le, before-rank, smaller-before, at-rank, larger-at}
 use Rattle.hashing.specs.Hash.{first-part, blank}
 use Rattle.hashing.specs.Issues.{part-le, part-between, not-blank-iff}
 use Rattle.layout.specs.Layout.{ValidKeys, another-issue, OneIssue, one-issue}
@@ -86,12 +86,12 @@ order-parts one c d i j = (
 -- Keys of one first part are neighbours in ascending order: another issue of a key stands before its rank or at it.
 module _ (key : ℕ) {S : List ℕ} (asc : Asc S) where
   abbrev at : ℕ
-  at = rank-of S key
+  at = lower-bound S key
 
   pub issue-before : 0 < at → first-part (getD S (at - 1) 0) ≡ first-part key → another-issue key S ≡ true
   issue-before l q =
       let d = getD S (at - 1) 0 in
-      another-iff key S .1 (d, (getD-in S (at - 1) (omega (arith, rank-le key S)), (q, λ e. omega (arith, before-rank key asc l))))
+      another-iff key S .1 (d, (getD-in S (at - 1) (omega (arith, bound-le key S)), (q, λ e. omega (arith, before-rank key asc l))))
 
   pub issue-at : at < length S → (getD S at 0 ≡ key → ⊥) → first-part (getD S at 0) ≡ first-part key → another-issue key S ≡ true
   issue-at l n q = another-iff key S .1 (getD S at 0, (getD-in S at l, (q, n)))

@@ -12,12 +12,12 @@ ghost use Rattle.build.specs.Scratch.{parts, with-graph, with-sets};
 ghost use Rattle.build.specs.Access.{Enough};
 ghost use Rattle.build.specs.LinkCode.{Found, Linkable, rank-linked, ranks-linked, unlinked-parts, linked-parts};
 ghost use Rattle.build.specs.LinkCode.{Marks, labelled-parts};
-use parts::edges_start;
-use parts::held_start;
-use parts::next_start;
-use parts::put_word;
-use parts::sets_start;
-use parts::word;
+use scratch_layout::edges_start;
+use scratch_layout::held_start;
+use scratch_layout::next_start;
+use scratch_layout::put_word;
+use scratch_layout::sets_start;
+use scratch_layout::word;
 
 // The representative of a slot's set.
 fn set_of(scratch: &[u32], r: u32, s: u32, n: usize, slot: u32) -> u32
@@ -76,7 +76,7 @@ fn ends_of(scratch: &[u32], r: u32, s: u32, n: usize, rank: u32) -> Ends
     ensures { λ e. ⌜ Found r (edges-in r (parts r s n (now (scratch .entry)) .graph))
         (parts r s n (now (scratch .entry)) .sets) rank (e .first) (e .second) (e .one) (e .two) ⌝ }
 {
-    let edge = parts::edge(scratch, r, s, n, rank);
+    let edge = scratch_layout::edge(scratch, r, s, n, rank);
     let first = edges::first(edge);
     let second = edges::second(edge);
     let one = set_of(scratch, r, s, n, first);
@@ -165,7 +165,7 @@ pub fn label_ranks(scratch: &mut [u32], r: u32, s: u32, n: usize)
     let mut i = 0;
     while i < last {
         i += 1;
-        let slot = edges::first(parts::edge(&*scratch, r, s, n, i));
+        let slot = edges::first(scratch_layout::edge(&*scratch, r, s, n, i));
         let label = set_of(&*scratch, r, s, n, slot);
         let mark = word(&*scratch, r, s, n, i);
         put_word(&mut *scratch, r, s, n, i, mark + label);

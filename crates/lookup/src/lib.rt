@@ -21,11 +21,11 @@ use access::stash_start;
 use layout::Found;
 use layout::PLACE_WIDTH;
 use places::find_place;
+use ranges::TABULATION_LENGTH;
 use refusals::BLANK_KEY;
 use refusals::NOT_CANONICAL;
 use refusals::WRONG_SHAPE;
 use refusals::WRONG_TABULATION;
-use ranges::TABULATION_LENGTH;
 use words::wide;
 
 // Whether the key stands in a slot.

@@ -7,15 +7,15 @@ ghost use Rattle.build.specs.Access.{Enough};
 ghost use Rattle.build.specs.NotesCode.{cleared-parts, smallest-parts, with-noting, answer, rank-noted, ranks-noted};
 ghost use Rattle.build.specs.NotesCode.{Labelled};
 use build::StashCount;
-use parts::PAIR_BASE;
-use parts::next_start;
-use parts::note;
-use parts::put_note;
-use parts::put_stashed;
-use parts::put_word;
-use parts::sets_start;
-use parts::stashed_start;
-use parts::word;
+use scratch_layout::PAIR_BASE;
+use scratch_layout::next_start;
+use scratch_layout::note;
+use scratch_layout::put_note;
+use scratch_layout::put_stashed;
+use scratch_layout::put_word;
+use scratch_layout::sets_start;
+use scratch_layout::stashed_start;
+use scratch_layout::word;
 use words::fill;
 
 // No note, and no rank in the stash.

@@ -14,7 +14,7 @@ use lib.Seq.{getD-append-seam, take-append-seam, drop-append-seam, drop-append-a
 use Rattle.basics.specs.Tests.{eq?, le?}
 use Rattle.basics.specs.Sets.{member, without, Asc, none, some, asc-ext, asc-keep, asc-out, keep-in, keep-test, in-keep, length-keep, below, below-in, below-lt, in-below, out-in, out-ne, in-out, in?, in-member, no-member}
 use Rattle.basics.specs.Lists.{getD-in}
-use Rattle.ordered.specs.Keys.{rank-of, above, with-key}
+use Rattle.ordered.specs.Keys.{lower-bound, above, with-key}
 use Rattle.ordered.specs.Sorting.{in-at}
 
 -- the larger keys
@@ -121,13 +121,13 @@ pub length-without : (key : ℕ) (S : List ℕ) → Asc S → In key S → suc (
 length-without key S h i = sym (with-length key S h) ∙ ap length (with-same key S h i)
 
 -- the rank is an index, or the length
-pub rank-le : (key : ℕ) (S : List ℕ) → rank-of S key ≤ length S
-unfolding rank-of below
-rank-le key S = length-keep (λ d. ltb d key) S
+pub bound-le : (key : ℕ) (S : List ℕ) → lower-bound S key ≤ length S
+unfolding lower-bound below
+bound-le key S = length-keep (λ d. ltb d key) S
 
 -- what stands there is in the set, and a key of the set stands there
-found-rank : (key : ℕ) (S : List ℕ) → rank-of S key < length S → getD S (rank-of S key) 0 ≡ key → In key S
-found-rank key S l e = rw e at (getD-in S (rank-of S key) l)
+found-rank : (key : ℕ) (S : List ℕ) → lower-bound S key < length S → getD S (lower-bound S key) 0 ≡ key → In key S
+found-rank key S l e = rw e at (getD-in S (lower-bound S key) l)
 
 -- what stands before the rank, at it and behind it
 module _ (key : ℕ) (S : List ℕ) (h : Asc S) where
@@ -138,96 +138,96 @@ module _ (key : ℕ) (S : List ℕ) (h : Asc S) where
   unfolding with-key
   split-in i = sym (with-same key S h i)
 
-  pub rank-found : In key S → (getD S (rank-of S key) 0 ≡ key) × (rank-of S key < length S)
-  unfolding rank-of
-  rank-found i = (
+  pub bound-found : In key S → (getD S (lower-bound S key) 0 ≡ key) × (lower-bound S key < length S)
+  unfolding lower-bound
+  bound-found i = (
     ap (λ (L : List ℕ). getD L (length (below key S)) 0) (split-in i) ∙ getD-append-seam (below key S) key (above key S) 0,
     omega (arith, ap length (split-in i), length-append (below key S) (key ∷ above key S)),
   )
 
   -- the words of the set with the key, and of the set without it
-  pub with-parts : (In key S → ⊥) → take (rank-of S key) S ++ (key ∷ drop (rank-of S key) S) ≡ with-key key S
-  unfolding rank-of with-key
+  pub with-parts : (In key S → ⊥) → take (lower-bound S key) S ++ (key ∷ drop (lower-bound S key) S) ≡ with-key key S
+  unfolding lower-bound with-key
   with-parts n =
       let a = ap (take (length (below key S))) (split-out n) ∙ take-append-seam (below key S) (above key S) in
       let b = ap (drop (length (below key S))) (split-out n) ∙ drop-append-seam (below key S) (above key S) in
       cc
 
-  pub without-parts : In key S → take (rank-of S key) S ++ drop (rank-of S key + 1) S ≡ without key S
-  unfolding rank-of
+  pub without-parts : In key S → take (lower-bound S key) S ++ drop (lower-bound S key + 1) S ≡ without key S
+  unfolding lower-bound
   without-parts i =
       let a = ap (take (length (below key S))) (split-in i) ∙ take-append-seam (below key S) (key ∷ above key S) in
       let b = ap (drop (length (below key S) + 1)) (split-in i) ∙ drop-append-add (below key S) (key ∷ above key S) 1 in
       cc (without-split key S h)
 
 -- one key more
-rank-less : (key c : ℕ) (R : List ℕ) → c < key → rank-of (c ∷ R) key ≡ suc (rank-of R key)
-unfolding rank-of below
-rank-less key c R l = rw (lt-ltb c key l)
+bound-less : (key c : ℕ) (R : List ℕ) → c < key → lower-bound (c ∷ R) key ≡ suc (lower-bound R key)
+unfolding lower-bound below
+bound-less key c R l = rw (lt-ltb c key l)
 
-rank-cons : (key c : ℕ) (R : List ℕ) → rank-of (c ∷ R) key ≤ suc (rank-of R key)
-unfolding rank-of below
-rank-cons key c R = elim (le? key c) [ inl l ↦ rw (le-ltb c key l) (omega arith) | inr l ↦ rw (lt-ltb c key l) (omega arith) ]
+bound-cons : (key c : ℕ) (R : List ℕ) → lower-bound (c ∷ R) key ≤ suc (lower-bound R key)
+unfolding lower-bound below
+bound-cons key c R = elim (le? key c) [ inl l ↦ rw (le-ltb c key l) (omega arith) | inr l ↦ rw (lt-ltb c key l) (omega arith) ]
 
-rank-none : (key : ℕ) (R : List ℕ) → ((d : ℕ) → In d R → key ≤ d) → rank-of R key ≡ 0
-unfolding rank-of below
-rank-none key [] h = refl
-rank-none key (c ∷ R) h = rw (le-ltb c key (h c (here refl))) (rank-none key R (λ d i. h d (there i)))
+bound-none : (key : ℕ) (R : List ℕ) → ((d : ℕ) → In d R → key ≤ d) → lower-bound R key ≡ 0
+unfolding lower-bound below
+bound-none key [] h = refl
+bound-none key (c ∷ R) h = rw (le-ltb c key (h c (here refl))) (bound-none key R (λ d i. h d (there i)))
 
 -- binary search: a smaller key is before the rank, and no other is
-pub rank-low : (key : ℕ) {S : List ℕ} → Asc S → (i : ℕ) → i < length S → getD S i 0 < key → i < rank-of S key
-rank-low key none i l k = absurd (not-suc-le-zero l)
-rank-low key (some {c} {R} g r) zero l k = rw (rank-less key c R k) (omega arith)
-rank-low key (some {c} {R} g r) (suc i) l k =
+pub bound-low : (key : ℕ) {S : List ℕ} → Asc S → (i : ℕ) → i < length S → getD S i 0 < key → i < lower-bound S key
+bound-low key none i l k = absurd (not-suc-le-zero l)
+bound-low key (some {c} {R} g r) zero l k = rw (bound-less key c R k) (omega arith)
+bound-low key (some {c} {R} g r) (suc i) l k =
     let m = g (getD R i 0) (getD-in R i (le-of-suc-le-suc l)) in
-    rw (rank-less key c R (omega arith)) (suc-le-suc (rank-low key r i (le-of-suc-le-suc l) k))
+    rw (bound-less key c R (omega arith)) (suc-le-suc (bound-low key r i (le-of-suc-le-suc l) k))
 
-pub rank-high : (key : ℕ) {S : List ℕ} → Asc S → (i : ℕ) → i < length S → key ≤ getD S i 0 → rank-of S key ≤ i
-rank-high key none i l k = absurd (not-suc-le-zero l)
-rank-high key (some {c} {R} g r) zero l k =
-    omega (arith, rank-none key (c ∷ R) (λ d i. elim i [ here q ↦ omega arith | there j ↦ omega (arith, g d j) ]))
-rank-high key (some {c} {R} g r) (suc i) l k = omega (arith, rank-cons key c R, rank-high key r i (le-of-suc-le-suc l) k)
+pub bound-high : (key : ℕ) {S : List ℕ} → Asc S → (i : ℕ) → i < length S → key ≤ getD S i 0 → lower-bound S key ≤ i
+bound-high key none i l k = absurd (not-suc-le-zero l)
+bound-high key (some {c} {R} g r) zero l k =
+    omega (arith, bound-none key (c ∷ R) (λ d i. elim i [ here q ↦ omega arith | there j ↦ omega (arith, g d j) ]))
+bound-high key (some {c} {R} g r) (suc i) l k = omega (arith, bound-cons key c R, bound-high key r i (le-of-suc-le-suc l) k)
 
 -- The keys beside a rank: before it stands the largest of the smaller keys, and at it the smallest of the others.
 module _ (key : ℕ) {S : List ℕ} (h : Asc S) where
   up : (i j : ℕ) → i ≤ j → j < length S → getD S i 0 ≤ getD S j 0
   up i j l m = elim (le? (getD S i 0) (getD S j 0)) [
     | inl k ↦ k
-    | inr k ↦ absurd (omega (arith, rank-low (getD S i 0) h j m k, rank-high (getD S i 0) h i (omega arith) (omega arith)))
+    | inr k ↦ absurd (omega (arith, bound-low (getD S i 0) h j m k, bound-high (getD S i 0) h i (omega arith) (omega arith)))
   ]
 
-  pub before-rank : 0 < rank-of S key → getD S (rank-of S key - 1) 0 < key
-  before-rank l = elim (le? key (getD S (rank-of S key - 1) 0)) [
-    | inl k ↦ absurd (omega (arith, rank-high key h (rank-of S key - 1) (omega (arith, rank-le key S)) k))
+  pub before-rank : 0 < lower-bound S key → getD S (lower-bound S key - 1) 0 < key
+  before-rank l = elim (le? key (getD S (lower-bound S key - 1) 0)) [
+    | inl k ↦ absurd (omega (arith, bound-high key h (lower-bound S key - 1) (omega (arith, bound-le key S)) k))
     | inr k ↦ k
   ]
 
-  pub smaller-before : {d : ℕ} → In d S → d < key → (0 < rank-of S key) × (d ≤ getD S (rank-of S key - 1) 0)
+  pub smaller-before : {d : ℕ} → In d S → d < key → (0 < lower-bound S key) × (d ≤ getD S (lower-bound S key - 1) 0)
   smaller-before {d} i l =
       let w = in-at i in
-      let m = rank-low key h (w .0) (w .1) (rw (w .2) l) in
-      (omega arith, rw (w .2) at (up (w .0) (rank-of S key - 1) (omega arith) (omega (arith, rank-le key S))))
+      let m = bound-low key h (w .0) (w .1) (rw (w .2) l) in
+      (omega arith, rw (w .2) at (up (w .0) (lower-bound S key - 1) (omega arith) (omega (arith, bound-le key S))))
 
-  pub at-rank : rank-of S key < length S → key ≤ getD S (rank-of S key) 0
-  at-rank l = elim (le? key (getD S (rank-of S key) 0)) [
+  pub at-rank : lower-bound S key < length S → key ≤ getD S (lower-bound S key) 0
+  at-rank l = elim (le? key (getD S (lower-bound S key) 0)) [
     | inl k ↦ k
-    | inr k ↦ absurd (omega (arith, rank-low key h (rank-of S key) l k))
+    | inr k ↦ absurd (omega (arith, bound-low key h (lower-bound S key) l k))
   ]
 
-  pub larger-at : {d : ℕ} → In d S → key ≤ d → (rank-of S key < length S) × (getD S (rank-of S key) 0 ≤ d)
+  pub larger-at : {d : ℕ} → In d S → key ≤ d → (lower-bound S key < length S) × (getD S (lower-bound S key) 0 ≤ d)
   larger-at {d} i l =
       let w = in-at i in
-      let m = rank-high key h (w .0) (w .1) (rw (w .2) l) in
-      (omega (arith, w .1), rw (w .2) at (up (rank-of S key) (w .0) m (w .1)))
+      let m = bound-high key h (w .0) (w .1) (rw (w .2) l) in
+      (omega (arith, w .1), rw (w .2) at (up (lower-bound S key) (w .0) m (w .1)))
 
 -- a search that ends at the rank says whether the key is there
 module _ (key : ℕ) (S : List ℕ) (h : Asc S) where
-  pub member-at : rank-of S key < length S → eqb (getD S (rank-of S key) 0) key ≡ member key S
+  pub member-at : lower-bound S key < length S → eqb (getD S (lower-bound S key) 0) key ≡ member key S
   member-at l =
       elim (in? key S) [
-        | inl i ↦ eq-eqb _ _ (rank-found key S h i .0) ∙ sym (in-member i)
+        | inl i ↦ eq-eqb _ _ (bound-found key S h i .0) ∙ sym (in-member i)
         | inr n ↦ ne-eqb _ _ (λ e. n (found-rank key S l e)) ∙ sym (no-member key S n)
       ]
 
-  pub member-past : length S ≤ rank-of S key → false ≡ member key S
-  member-past l = sym (no-member key S (λ i. omega (arith, rank-found key S h i .1)))
+  pub member-past : length S ≤ lower-bound S key → false ≡ member key S
+  member-past l = sym (no-member key S (λ i. omega (arith, bound-found key S h i .1)))

@@ -13,15 +13,15 @@ tally f r zero = 0
 tally f r (suc n) = cond (eqb (f n) r) (suc (tally f r n)) (tally f r n)
 
 -- what was child's is parent's
-unfoldable pub moved : ℕ → ℕ → ℕ → ℕ
-moved child parent r = cond (eqb r child) parent r
+unfoldable pub tally-moved : ℕ → ℕ → ℕ → ℕ
+tally-moved child parent r = cond (eqb r child) parent r
 
-pub moved-child : (child parent r : ℕ) → r ≡ child → moved child parent r ≡ parent
-unfolding moved
+pub moved-child : (child parent r : ℕ) → r ≡ child → tally-moved child parent r ≡ parent
+unfolding tally-moved
 moved-child child parent r e = rw (eq-eqb r child e)
 
-pub moved-other : (child parent r : ℕ) → (r ≡ child → ⊥) → moved child parent r ≡ r
-unfolding moved
+pub moved-other : (child parent r : ℕ) → (r ≡ child → ⊥) → tally-moved child parent r ≡ r
+unfolding tally-moved
 moved-other child parent r ne = rw (ne-eqb r child ne)
 
 module _ (f : ℕ → ℕ) (r : ℕ) where
@@ -62,12 +62,12 @@ tally-ext f g r (suc n) h = rw (h n (omega arith), tally-ext f g r n (λ v l. h 
 
 module _ (f : ℕ → ℕ) (child parent : ℕ) where
   -- the parent has its own and the child's
-  pub tally-parent : (n : ℕ) → (child ≡ parent → ⊥) → tally (λ v. moved child parent (f v)) parent n ≡ tally f parent n + tally f child n
+  pub tally-parent : (n : ℕ) → (child ≡ parent → ⊥) → tally (λ v. tally-moved child parent (f v)) parent n ≡ tally f parent n + tally f child n
   unfolding tally
   tally-parent zero ne = refl
   tally-parent (suc n) ne =
       let ih = tally-parent n ne in
-      let g : ℕ → ℕ = λ v. moved child parent (f v) in
+      let g : ℕ → ℕ = λ v. tally-moved child parent (f v) in
       elim (eq? (f n) child) [
         | inl e ↦ omega (arith, hit g parent n (moved-child child parent (f n) e), hit f child n e, miss f parent n (λ q. ne (sym e ∙ q)))
         | inr m ↦
@@ -79,12 +79,12 @@ module _ (f : ℕ → ℕ) (child parent : ℕ) where
       ]
 
   -- the others keep theirs
-  pub tally-other : (r n : ℕ) → (r ≡ child → ⊥) → (r ≡ parent → ⊥) → tally (λ v. moved child parent (f v)) r n ≡ tally f r n
+  pub tally-other : (r n : ℕ) → (r ≡ child → ⊥) → (r ≡ parent → ⊥) → tally (λ v. tally-moved child parent (f v)) r n ≡ tally f r n
   unfolding tally
   tally-other r zero nc np = refl
   tally-other r (suc n) nc np =
       let ih = tally-other r n nc np in
-      let g : ℕ → ℕ = λ v. moved child parent (f v) in
+      let g : ℕ → ℕ = λ v. tally-moved child parent (f v) in
       elim (eq? (f n) child) [
         | inl e ↦ omega (arith, miss g r n (λ q. np (sym q ∙ moved-child child parent (f n) e)), miss f r n (λ q. nc (sym q ∙ e)))
         | inr m ↦

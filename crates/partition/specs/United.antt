@@ -10,7 +10,7 @@ use lib.ListN.{length, getD}
 use Rattle.basics.specs.Tests.{eq?, le?}
 use Rattle.cuckoo.specs.Joined.{Joined, jsym, jtrans, more, edge-head}
 use Rattle.partition.specs.Words.{Representative, rep-of, size-of, Mergeable, linked, smaller, larger, united}
-use Rattle.partition.specs.Tally.{tally, moved, moved-child, moved-other, tally-ext, tally-parent, tally-other}
+use Rattle.partition.specs.Tally.{tally, tally-moved, moved-child, moved-other, tally-ext, tally-parent, tally-other}
 use Rattle.partition.specs.Partition.{members, Reached, reached-rep, Partition, alike-more, size-le, rep-is, rep-marked, mergeable}
 use Rattle.partition.specs.Chain.{chain-rep, chain-other, chain-child, linked-length, linked-child, linked-other, size-parent, size-other}
 
@@ -20,7 +20,7 @@ module _
     (order : size-of words child ≤ size-of words parent)
   where
     -- from v the parents lead to the same representative, or by one step more from the child to the parent
-    reached-linked : {v : ℕ} (h : Reached words v) → (k : Reached (linked words child parent) v) × (k .rep ≡ moved child parent (h .rep))
+    reached-linked : {v : ℕ} (h : Reached words v) → (k : Reached (linked words child parent) v) × (k .rep ≡ tally-moved child parent (h .rep))
     reached-linked h =
         elim (eq? (h .rep) child) [
           | inl e ↦ (
@@ -71,17 +71,17 @@ module _
         ]
 
     -- who had the child for a representative has the parent
-    rep-linked : (v : ℕ) → v < n → rep-of (linked words child parent) v ≡ moved child parent (rep-of words v)
+    rep-linked : (v : ℕ) → v < n → rep-of (linked words child parent) v ≡ tally-moved child parent (rep-of words v)
     rep-linked v l =
         let h = reached-linked (P .reached v l) in
         let k : Representative (linked words child parent) (h .0 .rep) = chain-rep (h .0 .chain) (omega (arith, linked-length two, P .long)) in
-        reached-rep (h .0) (omega (arith, linked-size-le k, P .points-bound)) ∙ h .1 ∙ ap (moved child parent) (sym (rep-is P v l))
+        reached-rep (h .0) (omega (arith, linked-size-le k, P .points-bound)) ∙ h .1 ∙ ap (tally-moved child parent) (sym (rep-is P v l))
 
-    members-linked : (r : ℕ) → members (linked words child parent) r ≡ tally (λ v. moved child parent (rep-of words v)) r (length words)
+    members-linked : (r : ℕ) → members (linked words child parent) r ≡ tally (λ v. tally-moved child parent (rep-of words v)) r (length words)
     members-linked r =
-        let alike : (v : ℕ) → v < length words → rep-of (linked words child parent) v ≡ moved child parent (rep-of words v) =
+        let alike : (v : ℕ) → v < length words → rep-of (linked words child parent) v ≡ tally-moved child parent (rep-of words v) =
         λ v l. rep-linked v (omega (arith, P .long)) in
-        rw (linked-length two) (tally-ext (rep-of (linked words child parent)) (λ v. moved child parent (rep-of words v)) r (length words) alike)
+        rw (linked-length two) (tally-ext (rep-of (linked words child parent)) (λ v. tally-moved child parent (rep-of words v)) r (length words) alike)
 
     honest-linked :
         (r : ℕ) → Representative (linked words child parent) r → size-of (linked words child parent) r ≡ members (linked words child parent) r
@@ -99,7 +99,7 @@ module _
 
     -- A key c between the two sets: x is in the child's and y in the parent's, and c joins them.
     add-linked : (c x y : ℕ) → a c < n → b c < n → x < n → y < n → rep-of words x ≡ child → rep-of words y ≡ parent → Joined a b (c ∷ R) x y
-        → moved child parent (rep-of words (a c)) ≡ moved child parent (rep-of words (b c)) → Partition a b (c ∷ R) n (linked words child parent)
+        → tally-moved child parent (rep-of words (a c)) ≡ tally-moved child parent (rep-of words (b c)) → Partition a b (c ∷ R) n (linked words child parent)
     add-linked c x y la lb lx ly ex ey j e = record {
       long = linked-length two ∙ P .long;
       points-bound = P .points-bound;
@@ -114,14 +114,14 @@ module _
         -- what was together stays together
         alike-old :
             (u v : ℕ) → u < n → v < n → Joined a b R u v → rep-of (linked words child parent) u ≡ rep-of (linked words child parent) v
-        alike-old u v lu lv k = rep-linked u lu ∙ ap (moved child parent) (P .law u v lu lv .1 k) ∙ sym (rep-linked v lv)
+        alike-old u v lu lv k = rep-linked u lu ∙ ap (tally-moved child parent) (P .law u v lu lv .1 k) ∙ sym (rep-linked v lv)
 
         -- u was the child's, and v is the parent's
         across : (u v : ℕ) → u < n → v < n → rep-of words u ≡ child → rep-of words v ≡ parent → Joined a b (c ∷ R) u v
         across u v lu lv eu ev =
             jtrans (more (P .law u x lu lx .0 (eu ∙ sym ex))) (jtrans j (more (P .law y v ly lv .0 (ey ∙ sym ev))))
 
-        joins : (u v : ℕ) → u < n → v < n → moved child parent (rep-of words u) ≡ moved child parent (rep-of words v) → Joined a b (c ∷ R) u v
+        joins : (u v : ℕ) → u < n → v < n → tally-moved child parent (rep-of words u) ≡ tally-moved child parent (rep-of words v) → Joined a b (c ∷ R) u v
         joins u v lu lv q =
             elim (eq? (rep-of words u) child) [
               | inl eu ↦ elim (eq? (rep-of words v) child) [
@@ -160,14 +160,14 @@ module _ {words : List ℕ} {first second : ℕ} (two : Mergeable words first se
   ordered = elim (sorted words first second) [ inl q ↦ rw (q .0, q .1) (q .2) | inr q ↦ rw (q .0, q .1) (q .2) ]
 
   -- both go to the larger
-  first-moved : moved (smaller words first second) (larger words first second) first ≡ larger words first second
+  first-moved : tally-moved (smaller words first second) (larger words first second) first ≡ larger words first second
   first-moved =
       elim (sorted words first second) [
         | inl q ↦ moved-child (smaller words first second) (larger words first second) first (sym (q .0))
         | inr q ↦ moved-other (smaller words first second) (larger words first second) first (λ e. two .differ (e ∙ q .0)) ∙ sym (q .1)
       ]
 
-  second-moved : moved (smaller words first second) (larger words first second) second ≡ larger words first second
+  second-moved : tally-moved (smaller words first second) (larger words first second) second ≡ larger words first second
   second-moved =
       elim (sorted words first second) [
         | inl q ↦ moved-other (smaller words first second) (larger words first second) second (λ e. two .differ (sym (e ∙ q .0))) ∙ sym (q .1)

@@ -1,6 +1,6 @@
 -- The parameters of a call that is walked, by their kinds: how the value of each is spelled for the machine, that its
 -- type tells so, and that what is spelled is of the type.
---     number, shared-slice, unique-slice, unique-ref       a u32, a `&[X]`, a `&mut [X]`, a `&mut S`. A slice and the
+--     number-kind, shared-slice, unique-slice, unique-ref       a u32, a `&[X]`, a `&mut [X]`, a `&mut S`. A slice and the
 --                      reference say which lifetime is theirs, counted from 0, that there is such a one (`tt`), and
 --                      what they are of (u16, a `the-row`)
 --     rows-of, spells-of, tells-of, vals-of, typed-of      all of these, for the list of a call's parameters
@@ -21,7 +21,7 @@ use denote.Slice.{ShrSlice, MutSlice, slice-vals, shr-slice-tells, mut-slice-tel
 use denote.Signature.{AllWithin, meetAt}
 
 -- a parameter of a call with n lifetimes
-pub record Kind (n : ℕ) : Type 2 where
+pub record ParameterKind (n : ℕ) : Type 2 where
   pub row-at : Lfts n → RattleType
   pub spell : (κs : Lfts n) → row-at κs .Denot → List Val
   pub tells : (κs : Lfts n) → Tells (row-at κs) (Is (row-at κs)) (spell κs)
@@ -29,15 +29,15 @@ pub record Kind (n : ℕ) : Type 2 where
       → Typed (row-at κs .mir) (spell κs x)
 
 module _ {n : ℕ} where
-  abbrev pub number : Kind n
-  number = record {
+  abbrev pub number-kind : ParameterKind n
+  number-kind = record {
     row-at = λ κs. u32;
     spell = λ κs. uint-vals w32;
     tells = λ κs. uint-tells w32;
     typed = λ κs x is. ((tt, record { fits = is .1 }), tt);
   }
 
-  abbrev pub shared-slice : (j : ℕ) → AllWithin n (j ∷ []) → RattleType → Kind n
+  abbrev pub shared-slice : (j : ℕ) → AllWithin n (j ∷ []) → RattleType → ParameterKind n
   shared-slice j ok X = record {
     row-at = λ κs. ShrSlice (named j) (meetAt n (j ∷ []) ok κs) X;
     spell = λ κs. slice-vals;
@@ -45,7 +45,7 @@ module _ {n : ℕ} where
     typed = λ κs x is. ((tt, (tt, (record { fits = is .0 .1 .0 }, tt))), tt);
   }
 
-  abbrev pub unique-slice : (j : ℕ) → AllWithin n (j ∷ []) → RattleType → Kind n
+  abbrev pub unique-slice : (j : ℕ) → AllWithin n (j ∷ []) → RattleType → ParameterKind n
   unique-slice j ok X = record {
     row-at = λ κs. MutSlice (named j) (meetAt n (j ∷ []) ok κs) X;
     spell = λ κs. slice-vals;
@@ -53,7 +53,7 @@ module _ {n : ℕ} where
     typed = λ κs x is. ((tt, (tt, (record { fits = is .0 .1 .0 }, tt))), tt);
   }
 
-  abbrev pub unique-ref : (j : ℕ) → AllWithin n (j ∷ []) → RattleType → Kind n
+  abbrev pub unique-ref : (j : ℕ) → AllWithin n (j ∷ []) → RattleType → ParameterKind n
   unique-ref j ok S = record {
     row-at = λ κs. MutRef (named j) (meetAt n (j ∷ []) ok κs) S;
     spell = λ κs. ptr-vals;
@@ -61,23 +61,23 @@ module _ {n : ℕ} where
     typed = λ κs x is. ((tt, tt), tt);
   }
 
-  abbrev pub rows-of : List (Kind n) → Lfts n → List RattleType
+  abbrev pub rows-of : List (ParameterKind n) → Lfts n → List RattleType
   rows-of [] κs = []
   rows-of (k ∷ ks) κs = k .row-at κs ∷ rows-of ks κs
 
-  abbrev pub spells-of : (ks : List (Kind n)) (κs : Lfts n) → Spells (rows-of ks κs)
+  abbrev pub spells-of : (ks : List (ParameterKind n)) (κs : Lfts n) → Spells (rows-of ks κs)
   spells-of [] κs = tt
   spells-of (k ∷ ks) κs = (k .spell κs, spells-of ks κs)
 
-  abbrev pub tells-of : (ks : List (Kind n)) (κs : Lfts n)
+  abbrev pub tells-of : (ks : List (ParameterKind n)) (κs : Lfts n)
       → Tellss (rows-of ks κs) (Ises (rows-of ks κs)) (spells-of ks κs)
   tells-of [] κs = tt
   tells-of (k ∷ ks) κs = (k .tells κs, tells-of ks κs)
 
-  abbrev pub vals-of : (ks : List (Kind n)) (κs : Lfts n) → Denots (rows-of ks κs) → Valss (rows-of ks κs)
+  abbrev pub vals-of : (ks : List (ParameterKind n)) (κs : Lfts n) → Denots (rows-of ks κs) → Valss (rows-of ks κs)
   vals-of ks κs a = valss (rows-of ks κs) (spells-of ks κs) a
 
-  pub typed-of : (ks : List (Kind n)) (κs : Lfts n) (a : Denots (rows-of ks κs))
+  pub typed-of : (ks : List (ParameterKind n)) (κs : Lfts n) (a : Denots (rows-of ks κs))
       → Are (rows-of ks κs) (Ises (rows-of ks κs)) a (vals-of ks κs a)
       → Typed (mirs (rows-of ks κs)) (flat (rows-of ks κs) (vals-of ks κs a))
   typed-of [] κs a are = tt

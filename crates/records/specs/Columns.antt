@@ -13,9 +13,9 @@ picked ws from step zero = []
 picked ws from step (suc count) = getD ws from 0 ∷ picked ws (from + step) step count
 
 -- the words with a column written from `from` on
-unfoldable pub put : List ℕ → ℕ → ℕ → List ℕ → List ℕ
-put ws from step [] = ws
-put ws from step (x ∷ xs) = put (set ws from x) (from + step) step xs
+unfoldable pub column-put : List ℕ → ℕ → ℕ → List ℕ → List ℕ
+column-put ws from step [] = ws
+column-put ws from step (x ∷ xs) = column-put (set ws from x) (from + step) step xs
 
 -- the words that are left, and those after the next one
 pub left-next : (step left : ℕ) → 0 < left → step * left ≡ step + step * (left - 1)
@@ -36,23 +36,23 @@ picked-at ws from step (suc n) (suc i) l =
     rw e (picked-at ws (from + step) step n i (omega arith))
 
 -- what is written: the words of the column,
-pub put-length : (ws : List ℕ) (from step : ℕ) (xs : List ℕ) → length (put ws from step xs) ≡ length ws
-unfolding put
+pub put-length : (ws : List ℕ) (from step : ℕ) (xs : List ℕ) → length (column-put ws from step xs) ≡ length ws
+unfolding column-put
 put-length ws from step [] = refl
 put-length ws from step (x ∷ xs) = put-length (set ws from x) (from + step) step xs ∙ length-set ws from x
 
 -- and no others
 pub put-off : (ws : List ℕ) (from step : ℕ) (xs : List ℕ) (k : ℕ) → ((i : ℕ) → i < length xs → k ≡ from + step * i → ⊥)
-    → getD (put ws from step xs) k 0 ≡ getD ws k 0
-unfolding put
+    → getD (column-put ws from step xs) k 0 ≡ getD ws k 0
+unfolding column-put
 put-off ws from step [] k n = refl
 put-off ws from step (x ∷ xs) k n =
     put-off (set ws from x) (from + step) step xs k (λ i l q. n (suc i) (omega arith) (omega (arith, mul-suc step i)))
     ∙ getD-set-other ws from k x 0 (λ q. n zero (omega arith) (omega (arith, mul-zero step)))
 
 pub put-at : (ws : List ℕ) (from step : ℕ) (xs : List ℕ) (i : ℕ) → 0 < step → i < length xs → from + step * i < length ws
-    → getD (put ws from step xs) (from + step * i) 0 ≡ getD xs i 0
-unfolding put
+    → getD (column-put ws from step xs) (from + step * i) 0 ≡ getD xs i 0
+unfolding column-put
 put-at ws from step [] i p l m = absurd (omega arith)
 put-at ws from step (x ∷ xs) zero p l m =
     let z : from + step * 0 ≡ from = omega (arith, mul-zero step) in
@@ -62,7 +62,7 @@ put-at ws from step (x ∷ xs) (suc i) p l m =
     rw e (put-at (set ws from x) (from + step) step xs i p (omega arith) (omega (arith, length-set ws from x, mul-suc step i)))
 
 -- a word before the column may be written before it or after it
-pub put-set : (ws : List ℕ) (from step : ℕ) (xs : List ℕ) (k x : ℕ) → k < from → put (set ws k x) from step xs ≡ set (put ws from step xs) k x
-unfolding put
+pub put-set : (ws : List ℕ) (from step : ℕ) (xs : List ℕ) (k x : ℕ) → k < from → column-put (set ws k x) from step xs ≡ set (column-put ws from step xs) k x
+unfolding column-put
 put-set ws from step [] k x l = refl
 put-set ws from step (y ∷ ys) k x l = rw (set-comm ws k from x y (λ q. omega arith)) (put-set (set ws from y) (from + step) step ys k x (omega arith))

@@ -26,7 +26,7 @@ abbrev pub tier-by : ℕ → List ℕ → ℕ → ℕ
 tier-by r graph rank = tier-of-edge (getD graph (2 * r + rank - 1) 0)
 
 -- a rank that has its key and its edge,
-pub record Known (r : ℕ) (keys graph : List ℕ) (rank : ℕ) : Type 0 where
+pub record RankKnown (r : ℕ) (keys graph : List ℕ) (rank : ℕ) : Type 0 where
   pub some : 0 < r
   pub key : rank < length keys
   pub edge : 2 * r + rank ≤ length graph

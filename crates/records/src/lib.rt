@@ -4,7 +4,7 @@
 ghost use mathlib.Core.Path.{_≡_};
 ghost use Prim.Native.Nat.{_+_, _*_, _≤_, _<_};
 ghost use lib.ListN.{length, getD};
-ghost use Rattle.records.specs.Record.{slot-alike, slot-put, place-alike, place-put, tier-by, Known, Chained};
+ghost use Rattle.records.specs.Record.{slot-alike, slot-put, place-alike, place-put, tier-by, RankKnown, Chained};
 use words::wide;
 
 // The tier of a rank. Before the first edge stands the last held rank, which is small: so 0 has tier 0.
@@ -25,7 +25,7 @@ pub fn same_slot(
     next: &[u32],
     rank: usize,
 ) -> bool
-    requires { ⌜ (at + 2 < length (now words)) × Known r (now keys) (now graph) rank
+    requires { ⌜ (at + 2 < length (now words)) × RankKnown r (now keys) (now graph) rank
         × Chained (now keys) (now next) rank ⌝ }
     ensures { λ b. ⌜ b ≡ slot-alike (now (words .entry)) at (getD (now (keys .entry)) rank 0)
         (getD (now (keys .entry)) (getD (now (next .entry)) rank 0) 0) (tier-by r (now (graph .entry)) rank) ⌝ }
@@ -49,7 +49,7 @@ pub fn same_place(
     graph: &[u32],
     rank: usize,
 ) -> bool
-    requires { ⌜ (at + 1 < length (now words)) × Known r (now keys) (now graph) rank ⌝ }
+    requires { ⌜ (at + 1 < length (now words)) × RankKnown r (now keys) (now graph) rank ⌝ }
     ensures { λ b. ⌜ b ≡ place-alike (now (words .entry)) at (getD (now (keys .entry)) rank 0)
         (tier-by r (now (graph .entry)) rank) ⌝ }
 {
@@ -69,7 +69,7 @@ pub fn write_slot(
     next: &[u32],
     rank: usize,
 )
-    requires { ⌜ (at + 2 < length (now words)) × Known r (now keys) (now graph) rank
+    requires { ⌜ (at + 2 < length (now words)) × RankKnown r (now keys) (now graph) rank
         × Chained (now keys) (now next) rank ⌝ }
     ensures { λ _. ⌜ now (words .exit) ≡ slot-put (now (words .entry)) at (getD (now (keys .entry)) rank 0)
         (getD (now (keys .entry)) (getD (now (next .entry)) rank 0) 0) (tier-by r (now (graph .entry)) rank) ⌝ }
@@ -82,7 +82,7 @@ pub fn write_slot(
 
 // Writes the key and the tier of a rank over the stash place that begins at `at`.
 pub fn write_place(words: &mut [u32], at: usize, r: usize, keys: &[u32], graph: &[u32], rank: usize)
-    requires { ⌜ (at + 1 < length (now words)) × Known r (now keys) (now graph) rank ⌝ }
+    requires { ⌜ (at + 1 < length (now words)) × RankKnown r (now keys) (now graph) rank ⌝ }
     ensures { λ _. ⌜ now (words .exit) ≡ place-put (now (words .entry)) at (getD (now (keys .entry)) rank 0)
         (tier-by r (now (graph .entry)) rank) ⌝ }
 {

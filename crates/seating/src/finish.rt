@@ -7,11 +7,11 @@ ghost use Rattle.forest.specs.Graph.{Graph, edges-in, finished-tree, finished-c
 ghost use Rattle.build.specs.Scratch.{parts, with-graph};
 ghost use Rattle.build.specs.Access.{Enough};
 ghost use Rattle.build.specs.FinishCode.{Finishable, rank-finished, ranks-finished};
-use parts::PAIR_BASE;
-use parts::edges_start;
-use parts::held_start;
-use parts::note;
-use parts::word;
+use scratch_layout::PAIR_BASE;
+use scratch_layout::edges_start;
+use scratch_layout::held_start;
+use scratch_layout::note;
+use scratch_layout::word;
 
 // The graph is lent to `forest`.
 fn finish_tree(scratch: &mut [u32], r: u32, s: u32, n: usize, rank: u32)

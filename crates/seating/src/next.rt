@@ -4,11 +4,11 @@ ghost use mathlib.Core.Path.{_≡_};
 ghost use Rattle.build.specs.Scratch.{parts};
 ghost use Rattle.build.specs.Access.{Enough};
 ghost use Rattle.build.specs.NextCode.{chained-parts};
-use parts::PAIR_BASE;
-use parts::note;
-use parts::put_note;
-use parts::put_word;
-use parts::word;
+use scratch_layout::PAIR_BASE;
+use scratch_layout::note;
+use scratch_layout::put_note;
+use scratch_layout::put_word;
+use scratch_layout::word;
 
 // Descending; a rank of the stash is passed over. At the end no rank, 0, gets 0, so that an empty slot needs no test.
 pub fn chain_ranks(scratch: &mut [u32], r: u32, s: u32, n: usize)

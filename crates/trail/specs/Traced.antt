@@ -41,7 +41,7 @@ use Rattle.walking.specs.Walk.{key-of, across, across-lt, Readable, Closed}
 use Rattle.walking.specs.Cut.{Cut, met-keys, first-visit, cut-trail}
 
 -- What is told of a trail L, where n is the number: how many keys it has, and its keys with zeros behind them over the old words; refused, these stay.
-pub record Told (n : ℕ) (L old : List ℕ) (t : Traced) (new : List ℕ) : Type 0 where
+pub record TrailTold (n : ℕ) (L old : List ℕ) (t : Traced) (new : List ℕ) : Type 0 where
   pub numbered : number t ≡ n
   pub valued : values t ≡ cond (eqb n done) (length L ∷ []) []
   pub written : new ≡ cond (eqb n done) (L ++ replicate (length old - length L) 0) old
@@ -49,7 +49,7 @@ pub record Told (n : ℕ) (L old : List ℕ) (t : Traced) (new : List ℕ) : Typ
 -- what is told of the trail of a key of the set: 11 is all that can be refused
 abbrev pub ToldOfTrail : List ℕ → List ℕ → ℕ → List ℕ → (Traced → List ℕ → Type 0)
 ToldOfTrail tabulation ws key old t new =
-    Told (first-refusal ((short-trail, ltb (length old) (length (trail-in tabulation ws key))) ∷ [])) (trail-in tabulation ws key) old t new
+    TrailTold (first-refusal ((short-trail, ltb (length old) (length (trail-in tabulation ws key))) ∷ [])) (trail-in tabulation ws key) old t new
 
 -- the slot in which a key is looked for: that of table 0, if it stands there, and else that of table 1
 abbrev pub seat-in : List ℕ → List ℕ → ℕ → ℕ
@@ -65,31 +65,31 @@ pub record Traceable (tabulation ws scratch : List ℕ) (r station key : ℕ) : 
   pub some-key : key ≡ 0 → ⊥
 
 -- The laws. What is told
-pub told-refused : {n m : ℕ} {L old : List ℕ} → n ≡ m → (n ≡ done → ⊥) → Told m L old (Refused n) old
+pub told-refused : {n m : ℕ} {L old : List ℕ} → n ≡ m → (n ≡ done → ⊥) → TrailTold m L old (Refused n) old
 told-refused {n} e z = rw (← e) (record { numbered = refl; valued = rw (ne-eqb n done z); written = rw (ne-eqb n done z) })
 
-pub told-length : {k m : ℕ} {L old new : List ℕ} → m ≡ done → k ≡ length L → new ≡ L ++ replicate (length old - length L) 0 → Told m L old (Length k) new
+pub told-length : {k m : ℕ} {L old new : List ℕ} → m ≡ done → k ≡ length L → new ≡ L ++ replicate (length old - length L) 0 → TrailTold m L old (Length k) new
 told-length {m = m} e q w =
     let t = eq-eqb m done e in
     record { numbered = sym e; valued = rw (t, q); written = rw t w }
 
-pub told-as : {n m : ℕ} {L old new : List ℕ} {t : Traced} → n ≡ m → Told n L old t new → Told m L old t new
+pub told-as : {n m : ℕ} {L old new : List ℕ} {t : Traced} → n ≡ m → TrailTold n L old t new → TrailTold m L old t new
 told-as e R = rw (← e) R
 
 -- of a trail that is empty, too long, or written from the keys K of a walk
 pub told-empty : {L old new : List ℕ} → L ≡ [] → new ≡ replicate (length old) 0
-    → Told (first-refusal ((short-trail, ltb (length old) (length L)) ∷ [])) L old (Length 0) new
+    → TrailTold (first-refusal ((short-trail, ltb (length old) (length L)) ∷ [])) L old (Length 0) new
 told-empty {old = old} e w =
     let z : length old - 0 ≡ length old = omega arith in
     rw e (told-length (rw (le-ltb (length old) 0 (omega arith))) refl (rw z w))
 
 pub told-short : {q : ℕ} {L old : List ℕ} → length L ≡ q → length old < q
-    → Told (first-refusal ((short-trail, ltb (length old) (length L)) ∷ [])) L old (Refused short-trail) old
+    → TrailTold (first-refusal ((short-trail, ltb (length old) (length L)) ∷ [])) L old (Refused short-trail) old
 told-short {L = L} {old} e l = told-refused (rw (lt-ltb (length old) (length L) (omega arith))) (λ z. omega arith)
 
 pub told-found : {q : ℕ} {L K M old new : List ℕ} → L ≡ take q K → length L ≡ q → M ≡ K → q ≤ length old
     → new ≡ midOf 0 (q - 0) M ++ replicate (length old - length (midOf 0 (q - 0) M)) 0
-    → Told (first-refusal ((short-trail, ltb (length old) (length L)) ∷ [])) L old (Length q) new
+    → TrailTold (first-refusal ((short-trail, ltb (length old) (length L)) ∷ [])) L old (Length q) new
 told-found {q} {L} {K} {M} {old} e n m l w =
     let z : q - 0 ≡ q = omega arith in
     let k : midOf 0 (q - 0) M ≡ L = rw (z, m) (sym e) in
@@ -101,7 +101,7 @@ cleared X e q l = (omega arith, rw q e)
 
 -- is the outcome.
 pub told-outcome : (tabulation ws scratch : List ℕ) (key : ℕ) {old new left : List ℕ} {t : Traced}
-    → Told (trail-refusal tabulation ws scratch key (length old)) (trail-in tabulation ws key) old t new → left ≡ replicate (length scratch) 0
+    → TrailTold (trail-refusal tabulation ws scratch key (length old)) (trail-in tabulation ws key) old t new → left ≡ replicate (length scratch) 0
     → record { number = number t; values = values t; words = ws; scratch = left; trail = new } ≡ trail-outcome tabulation ws scratch key old
 unfolding trail-outcome
 told-outcome tabulation ws scratch key R e = rw (R .numbered, R .valued, R .written, e)
@@ -235,7 +235,7 @@ loaded-traceable {key = key} Z e b =
 -- What a set that was loaded leads to: 5,
 module _ (tabulation ws : List ℕ) (key : ℕ) (old : List ℕ) where
   abbrev pub ToldOfSet : Traced → List ℕ → Type 0
-  ToldOfSet t new = Told (first-refusal (trail-refusals tabulation ws key (length old))) (trail-in tabulation ws key) old t new
+  ToldOfSet t new = TrailTold (first-refusal (trail-refusals tabulation ws key (length old))) (trail-in tabulation ws key) old t new
 
   pub told-blank : blank key ≡ true → ToldOfSet (Refused blank-key) old
   told-blank b = told-refused (rw b) (λ q. omega arith)
@@ -252,7 +252,7 @@ module _ (tabulation ws : List ℕ) (key : ℕ) (old : List ℕ) where
 -- The whole call: 1 to 4, as load refuses,
 module _ (tabulation ws scratch : List ℕ) (key : ℕ) (old : List ℕ) where
   abbrev pub ToldOfCall : Traced → List ℕ → Type 0
-  ToldOfCall t new = Told (trail-refusal tabulation ws scratch key (length old)) (trail-in tabulation ws key) old t new
+  ToldOfCall t new = TrailTold (trail-refusal tabulation ws scratch key (length old)) (trail-in tabulation ws key) old t new
 
   module _ {left : List ℕ} {l : Loaded} (T : loading.Told tabulation ws scratch left l) where
     pub told-load : {n : ℕ} → l ≡ loaded.Refused n → ToldOfCall (Refused n) old

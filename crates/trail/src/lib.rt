@@ -12,12 +12,12 @@ use gateway::Loaded;
 use gateway::clear;
 use gateway::load;
 use layout::Header;
-use members::is_at;
-use members::place_of;
 use outcome::Traced;
 use refusals::BLANK_KEY;
 use refusals::KEY_ABSENT;
 use refusals::SHORT_TRAIL;
+use scratch_set::is_at;
+use scratch_set::place_of;
 use slots::first_slot;
 use slots::second_slot;
 use walking::cut::cut;
@@ -114,7 +114,14 @@ fn trail_words(
 {
     let loaded = load(tabulation, words, &mut *scratch);
     match loaded {
-        Loaded::Set(heading) => trace_listed(tabulation, words, &mut *scratch, heading, key, &mut *trail),
+        Loaded::Set(heading) => trace_listed(
+            tabulation,
+            words,
+            &mut *scratch,
+            heading,
+            key,
+            &mut *trail,
+        ),
         Loaded::Refused(n) => Traced::Refused(n),
     }
 }

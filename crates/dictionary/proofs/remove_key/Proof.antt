@@ -6,7 +6,7 @@ use mathlib.Core.Logic.{inl, inr}
 use denote.Enum.Declared.{tagOf}
 use Rattle.basics.specs.Sets.{member}
 use Rattle.layout.proofs.Found.{the-type}
-use Rattle.members.specs.Members.{keys-at, looked-listed, looked-absent}
+use Rattle.scratch_set.specs.Members.{keys-at, looked-listed, looked-absent}
 use Rattle.dictionary.specs.Core.{searchable, in-range, at-lt, remove-absent, remove-committable, remove-committed}
 use borrow.Author.Needs.{needs}
 use Rattle.dictionary.proofs.remove_key.Statement.{statement}

@@ -6,7 +6,7 @@ use native.Mathlib.Omega.{arith}
 use borrow.Author.Tests.{not-true, not-false}
 use Rattle.layout.specs.Layout.{one-issue, keys-in}
 use Rattle.layout.specs.Shape.{shape, same-header}
-use Rattle.members.specs.Collected.{Collected, collected-room}
+use Rattle.scratch_set.specs.Collected.{Collected, collected-room}
 use Rattle.gateway.specs.Building.{built-readable}
 use Rattle.gateway.specs.Loading.{collected-searchable, collected-issues, collected-buildable, read-twice, read-full, read-told}
 use borrow.Author.Needs.{needs}

@@ -1,7 +1,7 @@
 -- `gateway::built::write_built` meets its contract: what is lent to `image` are the parts of scratch, and the heading says r, s and n.
 use mathlib.Core.Path.{_∙_, ap}
 use lib.ListN.{length}
-use Rattle.gateway.specs.Columns.{Readable, readable-stash}
+use Rattle.gateway.specs.Columns.{RanksReadable, readable-stash}
 use borrow.Author.Needs.{needs}
 use Rattle.gateway.proofs.built.write_built.Statement.{statement}
 use Rattle.gateway.proofs.built.write_built.Tie as tie
@@ -11,7 +11,7 @@ wide-requires c κs = search needs
 
 -- n is known, and scratch can be read
 readable : (w : tie.After-wide) → let h = w .before .before .before .args .header in
-    Readable (h .slots) (h .places) (w .wide .result) (w .before .before .before .args .scratch .now)
+    RanksReadable (h .slots) (h .places) (w .wide .result) (w .before .before .before .args .scratch .now)
 readable w = rw (w .wide .ensures) (w .before .before .before .pre .1)
 
 graph-part-requires : tie.Need-graph-part-requires
