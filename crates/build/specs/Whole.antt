@@ -166,7 +166,7 @@ module _ {r s n : ℕ} (P : Parts) (G : Edges r (edges-in r (P .graph))) (Z : Pa
             sym c ∙ ap (λ (M : Noting). M .count) noting-is ∙ ap Built.count-of m,
             ap Built.held-of m,
             λ v f. rw (ap Built.next-of m) (w v f),
-            ap Built.stash-of m,
+            ap Built.built-stash m,
           )
     ]
 
