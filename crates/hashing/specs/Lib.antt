@@ -1,4 +1,4 @@
--- What the contracts of `tabulation` cite, and the laws that the crates above use.
+-- What the contracts of `ranges`, `slots` and `tabulation` cite, and the laws that the crates above use.
 pub mod Hash
 pub mod Answer
 pub mod Sum

@@ -1,5 +1,5 @@
-// The hash of a key as definitions and laws, apart from the code that works it out, which is `tabulation`: a wrong
-// definition is refused in seconds here.
+// The hash of a key as definitions and laws, apart from the code that works it out, in `ranges`, `slots` and
+// `tabulation`: a wrong definition is refused in seconds here.
 
 // Both hashes of a key, in table 0 and in table 1, or the number of the refusal.
 pub enum Hashed {
