@@ -34,8 +34,7 @@ use Rattle.outcome.specs.declared.Traced.the-variants.{Length, Refused}
 use Rattle.outcome.specs.Trail.{number, values, trail-of, trail-in, trail-refusals, trail-refusal, trail-outcome}
 use Rattle.gateway.specs.declared.Loaded.{Loaded}
 use Rattle.gateway.specs.declared.Loaded.the-variants as loaded
-use Rattle.gateway.specs.Loading.{LoadedSet, loaded-refused, refused-first, loaded-passes}
-use Rattle.gateway.specs.Loading as loading
+use Rattle.gateway.specs.Loading.{LoadedSet, LoadTold, loaded-refused, refused-first, loaded-passes}
 use Rattle.gateway.specs.LoadedSet.{loaded-shape, loaded-range}
 use Rattle.walking.specs.Walk.{key-of, across, across-lt, Readable, Closed}
 use Rattle.walking.specs.Cut.{Cut, met-keys, first-visit, cut-trail}
@@ -254,7 +253,7 @@ module _ (tabulation ws scratch : List ℕ) (key : ℕ) (old : List ℕ) where
   abbrev pub ToldOfCall : Traced → List ℕ → Type 0
   ToldOfCall t new = TrailTold (trail-refusal tabulation ws scratch key (length old)) (trail-in tabulation ws key) old t new
 
-  module _ {left : List ℕ} {l : Loaded} (T : loading.Told tabulation ws scratch left l) where
+  module _ {left : List ℕ} {l : Loaded} (T : LoadTold tabulation ws scratch left l) where
     pub told-load : {n : ℕ} → l ≡ loaded.Refused n → ToldOfCall (Refused n) old
     unfolding trail-refusal
     told-load e =
