@@ -1,5 +1,5 @@
--- Lists beyond membership (which is in Sets): equality as a test, what tests keep, and, of numbers, what stands where, images, the smallest of an ascending list,
--- and counting. Nothing here knows of slots. Assumes nothing.
+-- Lists beyond membership (which is in Sets): equality as a test, what tests keep, and, of numbers, what stands where,
+-- images, the smallest of an ascending list, and counting. Nothing here knows of slots. Assumes nothing.
 use Prim.Native.Nat.{ℕ, zero, suc, _+_, _-_, _%_, _<_, _≤_, zero-le}
 use mathlib.Core.Path.{_≡_, refl, sym, _∙_, ap}
 use mathlib.Core.Bool.{Bool, true, false, not, _&&_, false≢true}
@@ -28,7 +28,8 @@ same-by test (x ∷ xs) (y ∷ ys) = test x y && same-by test xs ys
 unfoldable pub same : List ℕ → List ℕ → Bool
 same xs ys = same-by eqb xs ys
 
-same-by-true : {A : Type 0} (test : A → A → Bool) → ((x y : A) → test x y ≡ true → x ≡ y) → (xs ys : List A) → same-by test xs ys ≡ true → xs ≡ ys
+same-by-true : {A : Type 0} (test : A → A → Bool) → ((x y : A) → test x y ≡ true → x ≡ y) → (xs ys : List A)
+    → same-by test xs ys ≡ true → xs ≡ ys
 same-by-true test h [] [] e = refl
 same-by-true test h [] (y ∷ ys) e = absurd (false≢true e)
 same-by-true test h (x ∷ xs) [] e = absurd (false≢true e)
@@ -38,7 +39,8 @@ same-by-true test h (x ∷ xs) (y ∷ ys) e =
     let r = same-by-true test h xs ys (p .1) in
     cc
 
-same-by-self : {A : Type 0} (test : A → A → Bool) → ((x : A) → test x x ≡ true) → (xs : List A) → same-by test xs xs ≡ true
+same-by-self : {A : Type 0} (test : A → A → Bool) → ((x : A) → test x x ≡ true) → (xs : List A)
+    → same-by test xs xs ≡ true
 same-by-self test h [] = refl
 same-by-self test h (x ∷ xs) = rw (h x) (same-by-self test h xs)
 
@@ -63,7 +65,8 @@ keep-keep p q [] = refl
 keep-keep p q (c ∷ R) = elim (test (q c)) [ inl e ↦ rw (e, keep-keep p q R) | inr e ↦ rw (e, keep-keep p q R) ]
 
 -- kept by q and then by p, or at once by r, which passes only what q passes and there agrees with p
-pub keep-both : {A : Type 0} (p q r : A → Bool) (R : List A) → ((c : A) → In c R → r c ≡ true → q c ≡ true) → ((c : A) → In c R → q c ≡ true → r c ≡ p c)
+pub keep-both : {A : Type 0} (p q r : A → Bool) (R : List A) → ((c : A) → In c R → r c ≡ true → q c ≡ true)
+    → ((c : A) → In c R → q c ≡ true → r c ≡ p c)
     → keep r R ≡ keep p (keep q R)
 keep-both p q r R k h =
     keep-ext r (λ c. q c && p c) R (λ c i. bool-ext (r c) (q c && p c)
@@ -86,7 +89,8 @@ keep-append p [] S = refl
 keep-append p (c ∷ R) S = elim (test (p c)) [ inl e ↦ rw (e, keep-append p R S) | inr e ↦ rw (e, keep-append p R S) ]
 
 -- what passes a test and what does not are all together
-pub length-split : {A : Type 0} (p : A → Bool) (S : List A) → length (keep p S) + length (keep (λ c. not (p c)) S) ≡ length S
+pub length-split : {A : Type 0} (p : A → Bool) (S : List A)
+    → length (keep p S) + length (keep (λ c. not (p c)) S) ≡ length S
 length-split p [] = refl
 length-split p (c ∷ S) = go (test (p c)) (length-split p S)
   where

@@ -1,5 +1,5 @@
--- A part of words: k of them from a place on. How it is lent (`&words[a..e]` is `midOf a (e - a)`), read, written and put back; and a part that a loop writes
--- word by word. Nothing here knows what the words are. Assumes nothing.
+-- A part of words: k of them from a place on. How it is lent (`&words[a..e]` is `midOf a (e - a)`), read, written and
+-- put back; and a part that a loop writes word by word. Nothing here knows what the words are. Assumes nothing.
 use Prim.Native.Nat.{ℕ, _+_, _-_, _≤_, _<_}
 use mathlib.Core.Path.{_≡_, refl, sym, _∙_, ap}
 use mathlib.Core.Logic.{inl, inr}
@@ -7,7 +7,8 @@ use mathlib.Core.List.{List, _++_, append-assoc}
 use native.Mathlib.Numerals.{add-one}
 use native.Mathlib.Omega.{arith}
 use lib.ListN.{length, getD, set, take, drop, length-take, length-drop, List·getD-append}
-use lib.Seq.{getD-take, getD-drop, getD-append-add, take-at, drop-at, take-all, take-take, length-take-le, take-append-le, drop-append-le}
+use lib.Seq.{getD-take, getD-drop, getD-append-add, take-at, drop-at, take-all, take-take, length-take-le}
+use lib.Seq.{take-append-le, drop-append-le}
 use lib.Seq.{take-set-lt, take-set-le, drop-set-add, drop-set-lt, paste, paste-suc, length-paste, length-paste-head}
 use borrow.Rule.Slice.PartMut.{midOf, putMid, set-mid-at}
 use Rattle.basics.specs.Tests.{le?}
@@ -54,7 +55,8 @@ module _ (at k : ℕ) (xs : List ℕ) where
       ]
 
   -- what stands behind it does not count
-  pub part-before : (m : ℕ) (zs : List ℕ) → at + k ≤ m → m ≤ length xs → part at k (take m xs ++ zs) ≡ part at k (take m xs)
+  pub part-before : (m : ℕ) (zs : List ℕ) → at + k ≤ m → m ≤ length xs
+      → part at k (take m xs ++ zs) ≡ part at k (take m xs)
   part-before m zs h l =
       let a : at ≤ length (take m xs) = omega (arith, length-take-le m xs l) in
       let b : k ≤ length (drop at (take m xs)) = omega (arith, length-take-le m xs l, length-drop at (take m xs)) in
@@ -73,7 +75,13 @@ module _ {at : ℕ} {of : List ℕ → List ℕ} (L : PartAt at of) (X : List �
   -- and as it comes back
   pub place-put : (n : ℕ) → length X ≡ n → (ys : List ℕ) → putMid at n (of X) ys ≡ of ys
   place-put n e ys =
-      rw (L .is X, L .is ys, drop-at (L .front) (X ++ L .back) at (L .long), take-at (L .front) (X ++ L .back) at (L .long), drop-at X (L .back) n e)
+      rw (
+        L .is X,
+        L .is ys,
+        drop-at (L .front) (X ++ L .back) at (L .long),
+        take-at (L .front) (X ++ L .back) at (L .long),
+        drop-at X (L .back) n e,
+      )
 
   -- a word written
   pub place-set : (v x : ℕ) → v < length X → set (of X) (at + v) x ≡ of (set X v x)
@@ -83,7 +91,8 @@ module _ {at : ℕ} {of : List ℕ → List ℕ} (L : PartAt at of) (X : List �
 
 -- A list s that a loop writes over d from `at` on, word by word: after i turns the words are `paste d at s i`.
 module _ (d : List ℕ) (at : ℕ) (s : List ℕ) (i : ℕ) {u : List ℕ} (T : u ≡ paste d at s i) where
-  pub pasted-more : {x : ℕ} → i < length s → at + i < length d → x ≡ getD s i 0 → set u (at + i) x ≡ paste d at s (i + 1)
+  pub pasted-more : {x : ℕ} → i < length s → at + i < length d → x ≡ getD s i 0
+      → set u (at + i) x ≡ paste d at s (i + 1)
   pasted-more l m e = rw (T, e, add-one i) (paste-suc d at s i 0 m l)
 
   module _ (l : i ≤ length s) (m : at + i ≤ length d) where
@@ -95,11 +104,17 @@ module _ (d : List ℕ) (at : ℕ) (s : List ℕ) (i : ℕ) {u : List ℕ} (T : 
     pasted-front k q =
         let a : k ≤ length (take at d ++ take i s) = omega (arith, length-paste-head d at s i (omega arith) l) in
         let b : k ≤ length (take at d) = omega (arith, length-take-le at d (omega arith)) in
-        rw T (take-append-le k (take at d ++ take i s) (drop (at + i) d) a ∙ take-append-le k (take at d) (take i s) b ∙ take-take k at d q)
+        rw T
+        (take-append-le k (take at d ++ take i s) (drop (at + i) d) a
+        ∙ take-append-le k (take at d) (take i s) b ∙ take-take k at d q)
 
     -- and in the end the whole list stands there
     pub pasted-all : i ≡ length s → part at i u ≡ s
     pasted-all e =
         let a = length-take-le at d (omega arith) in
-        rw (T, append-assoc (take at d) (take i s) (drop (at + i) d), drop-at (take at d) (take i s ++ drop (at + i) d) at a)
+        rw (
+          T,
+          append-assoc (take at d) (take i s) (drop (at + i) d),
+          drop-at (take at d) (take i s ++ drop (at + i) d) at a,
+        )
         (take-at (take i s) (drop (at + i) d) i (length-take-le i s l) ∙ take-all i s (omega arith))

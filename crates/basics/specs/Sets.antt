@@ -1,5 +1,6 @@
--- Lists of numbers as sets: membership, the members that pass a test (`keep`, of any list), all but one (`without`), the smaller ones (`below`), and ascending
--- lists, which are equal where their members are (`asc-ext`). The definitions come first: a reader must believe them. Assumes nothing.
+-- Lists of numbers as sets: membership, the members that pass a test (`keep`, of any list), all but one (`without`),
+-- the smaller ones (`below`), and ascending lists, which are equal where their members are (`asc-ext`). The
+-- definitions come first: a reader must believe them. Assumes nothing.
 use Prim.Native.Nat.{ℕ, suc, _<_, _≤_, max, zero-le}
 use mathlib.Core.Path.{_≡_, refl, sym, _∙_}
 use mathlib.Core.Bool.{Bool, true, false, not, cond, _||_, or-true, true≢false, false≢true}

@@ -1,5 +1,5 @@
--- An edge: one word with the slot of a key in table 0, 2,048 times its slot in table 1, and 4,194,304 times its tier. The definitions come first; the laws
--- say that an edge is read back. Assumes nothing.
+-- An edge: one word with the slot of a key in table 0, 2,048 times its slot in table 1, and 4,194,304 times its tier.
+-- The definitions come first; the laws say that an edge is read back. Assumes nothing.
 use Prim.Native.Nat.{ℕ, _+_, _*_, _/_, _%_, _≤_, _<_}
 use mathlib.Core.Path.{_≡_}
 use native.Mathlib.Omega.{arith}
@@ -59,7 +59,8 @@ low-tier l = omega arith
 
 -- and an edge is one between the tables where its slots are theirs.
 module _ {r : ℕ} (most : r ≤ 1024) where
-  pub packed-edge : {first second : ℕ} → first < r → r ≤ second → second < 2 * r → (tier : ℕ) → Edge r (packed first second tier)
+  pub packed-edge : {first second : ℕ} → first < r → r ≤ second → second < 2 * r → (tier : ℕ)
+      → Edge r (packed first second tier)
   packed-edge {first} {second} f g h tier =
       let a : first < second-base = omega arith in
       let b : second < second-base = omega arith in

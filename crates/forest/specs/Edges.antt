@@ -1,5 +1,6 @@
--- The two slots of each rank, read from its edge (`edges`); its tier does not count here. Rank 0, which is no key, has an edge too, and past the list there is
--- one as good as any: so every number has two slots, and no law needs to ask whether it is a rank. Assumes nothing.
+-- The two slots of each rank, read from its edge (`edges`); its tier does not count here. Rank 0, which is no key, has
+-- an edge too, and past the list there is one as good as any: so every number has two slots, and no law needs to ask
+-- whether it is a rank. Assumes nothing.
 use Prim.Native.Nat.{ℕ, zero, suc, _*_, _<_, _≤_}
 use mathlib.Core.Path.{_≡_, refl, sym}
 use mathlib.Core.Bool.{cond}

@@ -1,4 +1,5 @@
--- A column of records that stand one after the other: some words from `from` on, each `step` after the one before. What comparing with a column, and writing one, come to. Assumes nothing.
+-- A column of records that stand one after the other: some words from `from` on, each `step` after the one before.
+-- What comparing with a column, and writing one, come to. Assumes nothing.
 use Prim.Native.Nat.{ℕ, zero, suc, _+_, _*_, _-_, _<_}
 use mathlib.Core.Path.{_≡_, refl, _∙_, ap}
 use mathlib.Core.List.{List, [], _∷_}

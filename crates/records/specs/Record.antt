@@ -1,5 +1,5 @@
--- The record of one slot, and of one stash place: that words have it at a place, and the words with it written there. And what is told of a rank: its tier, which
--- stands in its edge, and that it has its words. Assumes nothing.
+-- The record of one slot, and of one stash place: that words have it at a place, and the words with it written there.
+-- And what is told of a rank: its tier, which stands in its edge, and that it has its words. Assumes nothing.
 use Prim.Native.Nat.{ℕ, _+_, _-_, _*_, _≤_, _<_}
 use mathlib.Core.Bool.{Bool, _&&_}
 use mathlib.Core.List.{List}
@@ -9,7 +9,8 @@ use Rattle.edges.specs.Edge.{tier-of-edge}
 
 -- the slot that begins at `at` has this key, next and tier
 abbrev pub slot-alike : (ws : List ℕ) (at key next tier : ℕ) → Bool
-slot-alike ws at key next tier = eqb (getD ws at 0) key && (eqb (getD ws (at + 1) 0) next && eqb (getD ws (at + 2) 0) tier)
+slot-alike ws at key next tier =
+    eqb (getD ws at 0) key && (eqb (getD ws (at + 1) 0) next && eqb (getD ws (at + 2) 0) tier)
 
 abbrev pub slot-put : (ws : List ℕ) (at key next tier : ℕ) → List ℕ
 slot-put ws at key next tier = set (set (set ws at key) (at + 1) next) (at + 2) tier
@@ -21,7 +22,8 @@ place-alike ws at key tier = eqb (getD ws at 0) key && eqb (getD ws (at + 1) 0) 
 abbrev pub place-put : (ws : List ℕ) (at key tier : ℕ) → List ℕ
 place-put ws at key tier = set (set ws at key) (at + 1) tier
 
--- The tier of a rank, from its edge. Before the first edge stands the last held word, a rank, which is small: so 0, which is no key, has tier 0.
+-- The tier of a rank, from its edge. Before the first edge stands the last held word, a rank, which is small: so 0,
+-- which is no key, has tier 0.
 abbrev pub tier-by : ℕ → List ℕ → ℕ → ℕ
 tier-by r graph rank = tier-of-edge (getD graph (2 * r + rank - 1) 0)
 

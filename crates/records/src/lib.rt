@@ -1,6 +1,6 @@
-// The record of one slot, or of one stash place: compared with what it must be for a rank, and written. The rank is told
-// by its key, its edge and its next. Rank 0, which is no key, is read like any other: no slot is asked whether it is
-// empty.
+// The record of one slot, or of one stash place: compared with what it must be for a rank, and written. The rank is
+// told by its key, its edge and its next. Rank 0, which is no key, is read like any other: no slot is asked whether it
+// is empty.
 ghost use mathlib.Core.Path.{_≡_};
 ghost use Prim.Native.Nat.{_+_, _*_, _≤_, _<_};
 ghost use lib.ListN.{length, getD};

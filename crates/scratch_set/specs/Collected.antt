@@ -27,7 +27,8 @@ Listed tabulation ws scratch = Lined (params-of tabulation ws) (tier-found tabul
 
 -- their edges are being made
 abbrev pub EdgesFound : List ℕ → List ℕ → (before after : List ℕ) → (start i : ℕ) → Type 0
-EdgesFound tabulation ws before after start i = EdgesTo (family-of tabulation ws) (tier-found tabulation ws) (keys-in ws) before after start i
+EdgesFound tabulation ws before after start i =
+    EdgesTo (family-of tabulation ws) (tier-found tabulation ws) (keys-in ws) before after start i
 
 -- The laws. Keys that are collected: they and their edges have room,
 module _ {tabulation ws scratch : List ℕ} {r s station n : ℕ} (C : Collected tabulation ws scratch r s station n) where
@@ -49,12 +50,15 @@ module _ {tabulation ws scratch : List ℕ} {r s station n : ℕ} (C : Collected
     collected-start = edges-start (omega (arith, C .count, collected-room))
 
     module _ {after : List ℕ} {i : ℕ} (T : EdgesFound tabulation ws scratch after start i) where
-      pub collected-turn : {x : ℕ} → i < n → x ≡ edge-of (family-of tabulation ws) (tier-found tabulation ws) (getD after (i + 1) 0)
+      pub collected-turn : {x : ℕ} → i < n
+          → x ≡ edge-of (family-of tabulation ws) (tier-found tabulation ws) (getD after (i + 1) 0)
           → EdgesFound tabulation ws scratch (set after (start + i) x) start (i + 1)
       collected-turn l q =
-          let k = edges-key T (rw (C .count) at (C .front)) (omega (arith, C .count, collected-room)) (omega (arith, C .count)) in
-          edges-turn T (omega (arith, C .count)) (q ∙ ap (edge-of (family-of tabulation ws) (tier-found tabulation ws)) k)
+          let l′ : i < length (keys-in ws) = omega (arith, C .count) in
+          let k = edges-key T (rw (C .count) at (C .front)) (omega (arith, C .count, collected-room)) l′ in
+          edges-turn T l′ (q ∙ ap (edge-of (family-of tabulation ws) (tier-found tabulation ws)) k)
 
       -- until they are listed.
       pub collected-listed : i ≡ n → Listed tabulation ws after
-      collected-listed k = edges-lined (rw (C .count) at (C .front)) (rw (e, C .slots, C .places) at T) (k ∙ C .count) collected-few
+      collected-listed k =
+          edges-lined (rw (C .count) at (C .front)) (rw (e, C .slots, C .places) at T) (k ∙ C .count) collected-few

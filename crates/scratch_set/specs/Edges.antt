@@ -1,4 +1,6 @@
--- The edge of a key: its two slots and its tier in one word (`edges`). And a set in scratch: its keys, each at its rank, and their edges. The definitions come first; the laws say that such a set can be built, and that its ranks have the slots of its keys. Assumes nothing.
+-- The edge of a key: its two slots and its tier in one word (`edges`). And a set in scratch: its keys, each at its
+-- rank, and their edges, made one by one, whatever tells the tiers. The definitions come first; the laws say that such
+-- a set can be built, and that its ranks have the slots of its keys. Assumes nothing.
 use Prim.Native.Nat.{ℕ, zero, suc, _+_, _*_, _≤_, _<_, zero-le}
 use mathlib.Core.Path.{_≡_, sym, _∙_, ap}
 use mathlib.Core.Bool.{cond}
@@ -46,7 +48,8 @@ pub record Lined (P : Params) (t : ℕ → ℕ) (S scratch : List ℕ) : Type 0 
   pub keys : take (length S + 1) scratch ≡ 0 ∷ S
   pub edges : take (length S) (drop (edges-at (P .slots) (P .places)) scratch) ≡ map (edge-of (family P) t) S
 
--- The edges of the keys S are being made, from `to` on: the first i of them stand there, and the words before them are as they were.
+-- The edges of the keys S are being made, from `to` on: the first i of them stand there, and the words before them are
+-- as they were.
 pub record EdgesTo (F : Family) (t : ℕ → ℕ) (S before after : List ℕ) (to i : ℕ) : Type 0 where
   pub some : i ≤ length S
   pub room : to + length S ≤ length before
@@ -82,7 +85,8 @@ module _ (F : Family) (some : 0 < F .slots) (most : F .slots ≤ 1024) (t : ℕ 
 
   edge-good : Edge (F .slots) (edge-of F t key)
   unfolding edge-of
-  edge-good = packed-edge most (slot-0-lt F some key) (slot-1-le F some key) (omega (arith, slot-1-lt F some key)) (t key)
+  edge-good =
+      packed-edge most (slot-0-lt F some key) (slot-1-le F some key) (omega (arith, slot-1-lt F some key)) (t key)
 
 -- The edge as code makes it: the slots are hashed with r, and the tier is found by them.
 module _ (tabulation : List ℕ) (r station key : ℕ) (some : 0 < r) (most : r ≤ 1024) {first second : ℕ} (f : first ≡ slot-0 (tables tabulation r station) key)
@@ -91,7 +95,11 @@ module _ (tabulation : List ℕ) (r station key : ℕ) (some : 0 < r) (most : r 
   slots-in = let F = tables tabulation r station in (omega (arith, slot-0-lt F some key), omega (arith, slot-1-lt F some key))
 
   pub packable : {tier : ℕ} → tier ≤ max-tier → Packable first second tier
-  packable l = record { first-bound = omega (arith, slots-in); second-bound = omega (arith, slots-in); tier-bound = omega arith }
+  packable l = record {
+    first-bound = omega (arith, slots-in);
+    second-bound = omega (arith, slots-in);
+    tier-bound = omega arith;
+  }
 
 pub edge-made : (tabulation ws : List ℕ) (key : ℕ) {r station first second tier small x : ℕ} → r ≡ slots-of ws → station ≡ station-of ws
     → first ≡ slot-0 (tables tabulation r station) key → second ≡ slot-1 (tables tabulation r station) key
@@ -118,7 +126,8 @@ module _ {P : Params} {t : ℕ → ℕ} {S scratch : List ℕ} (D : Lined P t S 
   E = edges-of (P .slots) (P .places) (length S) scratch
 
   pub lined-edges : E ≡ no-edge (P .slots) ∷ map (edge-of (family P) t) S
-  lined-edges = edges-cut (P .slots) (P .places) (length S) scratch room ∙ ap (λ (X : List ℕ). no-edge (P .slots) ∷ X) (D .edges)
+  lined-edges =
+      edges-cut (P .slots) (P .places) (length S) scratch room ∙ ap (λ (X : List ℕ). no-edge (P .slots) ∷ X) (D .edges)
 
   pub lined-length : length E ≡ suc (length S)
   lined-length = ap length lined-edges ∙ ap suc (length-map S (edge-of (family P) t))
@@ -181,12 +190,14 @@ module _ {F : Family} {t : ℕ → ℕ} {S before : List ℕ} {to : ℕ} where
     count : length column ≡ length S
     count = length-map S (edge-of F t)
 
-    pub edges-turn : {x : ℕ} → i < length S → x ≡ edge-of F t (getD S i 0) → EdgesTo F t S before (set after (to + i) x) to (i + 1)
+    pub edges-turn : {x : ℕ} → i < length S → x ≡ edge-of F t (getD S i 0)
+        → EdgesTo F t S before (set after (to + i) x) to (i + 1)
     edges-turn l e = record {
       some = omega arith;
       room = T .room;
       written =
-          pasted-more before to column i (T .written) (omega (arith, count)) (omega (arith, T .room)) (e ∙ sym (at-map (edge-of F t) S i l));
+          pasted-more before to column i (T .written) (omega (arith, count)) (omega (arith, T .room))
+          (e ∙ sym (at-map (edge-of F t) S i l));
     }
 
     few : i ≤ length column
@@ -206,12 +217,14 @@ module _ {F : Family} {t : ℕ → ℕ} {S before : List ℕ} {to : ℕ} where
       pub edges-key : i < length S → getD after (i + 1) 0 ≡ getD S i 0
       edges-key l =
           let k : i + 1 < length S + 1 = omega arith in
-          sym (getD-take (length S + 1) after (i + 1) 0 k) ∙ ap (λ (X : List ℕ). getD X (i + 1) 0) edges-front ∙ (rw (add-one i))
+          sym (getD-take (length S + 1) after (i + 1) 0 k)
+          ∙ ap (λ (X : List ℕ). getD X (i + 1) 0) edges-front ∙ (rw (add-one i))
 
     edges-all : i ≡ length S → take (length S) (drop to after) ≡ column
     edges-all e = rw e at (pasted-all before to column i (T .written) few fits (e ∙ sym count))
 
 -- and a set stands where keys stood
 pub edges-lined : {P : Params} {t : ℕ → ℕ} {S before after : List ℕ} {i : ℕ} → take (length S + 1) before ≡ 0 ∷ S
-    → EdgesTo (family P) t S before after (edges-at (P .slots) (P .places)) i → i ≡ length S → length S ≤ 2 * P .slots + P .places → Lined P t S after
+    → EdgesTo (family P) t S before after (edges-at (P .slots) (P .places)) i → i ≡ length S
+    → length S ≤ 2 * P .slots + P .places → Lined P t S after
 edges-lined front T e few = record { keys = edges-front T front (omega arith); edges = edges-all T e }

@@ -1,4 +1,5 @@
--- `scratch_set::edge_column::write_edges` meets its contract: after i turns the edges of i keys stand at their place, and the words before it are as they were.
+-- `scratch_set::edge_column::write_edges` meets its contract: after i turns the edges of i keys stand at their place, and
+-- the words before it are as they were.
 use Prim.Native.Nat.{_-_, _≤_}
 use mathlib.Core.Path.{_≡_}
 use native.Mathlib.Omega.{arith}
@@ -36,7 +37,8 @@ mul-key : tie.Need-mul-key Inv-loop μ-loop
 mul-key c = omega (arith, collected-room (start (c .before) .pre))
 
 slice-read-key : tie.Need-slice-read-key Inv-loop μ-loop
-slice-read-key c = omega (arith, collected-room (start (c .before .before) .pre), edges-length (c .before .before .loop .inv .1))
+slice-read-key c =
+    omega (arith, collected-room (start (c .before .before) .pre), edges-length (c .before .before .loop .inv .1))
 
 edge-found-requires : tie.Need-edge-found-requires Inv-loop μ-loop
 edge-found-requires c κs = let p = start (c .before .before) .pre in (p .ready .full-length, (shape _ (p .ready .shape), (p .slots, p .stationed)))
@@ -49,7 +51,8 @@ mul-scratch c = let l = c .before .before .before in omega (arith, collected-roo
 
 slice-write-scratch : tie.Need-slice-write-scratch Inv-loop μ-loop
 slice-write-scratch c =
-    let l = c .before .before .before in omega (arith, collected-room (start l .pre), began l .edges-start .ensures, edges-length (l .loop .inv .1))
+    let l = c .before .before .before in
+    omega (arith, collected-room (start l .pre), began l .edges-start .ensures, edges-length (l .loop .inv .1))
 
 add-i : tie.Need-add-i Inv-loop μ-loop
 add-i c = search needs
@@ -60,7 +63,8 @@ loop-less c = search needs
 loop-again : tie.Need-loop-again Inv-loop μ-loop
 loop-again c =
     let l = c .before .before .before in
-    (search needs, collected-turn (start l .pre) (began l .edges-start .ensures) (l .loop .inv .1) (omega arith) (c .edge-found .ensures))
+    let e = began l .edges-start .ensures in
+    (search needs, collected-turn (start l .pre) e (l .loop .inv .1) (omega arith) (c .edge-found .ensures))
 
 same-length : tie.Need-same-length Inv-loop μ-loop
 same-length c = let e = edges-length (c .before .loop .inv .1) in search needs
