@@ -6,8 +6,8 @@ use mathlib.Core.Bool.{cond}
 use mathlib.Core.List.{List, [], _∷_, _++_, append-nil}
 use native.Mathlib.Omega.{arith}
 use lib.Dec.{eqb}
-use lib.ListN.{length, take, drop, getD, length-append, length-drop, drop-of-length-le}
-use lib.Seq.{take-all, take-append-seam, drop-cons, append-snoc}
+use lib.ListN.{length, take, drop, getD, length-append, drop-of-length-le}
+use lib.Seq.{take-append-seam, drop-cons, append-snoc}
 use mathlib.Core.Logic.{inl, inr}
 use native.Mathlib.Numerals.{add-one}
 use borrow.Author.Tests.{eq-eqb, ne-eqb}
@@ -57,10 +57,6 @@ Lacks sep t = place-of sep t ≡ length t
 drop-behind : (b : ℕ) (p t : List ℕ) → drop (suc (length p)) (p ++ (b ∷ t)) ≡ t
 drop-behind b [] t = refl
 drop-behind b (c ∷ p) t = drop-behind b p t
-
--- the part from a to the end, as it is lent
-pub to-end : (a : ℕ) (t : List ℕ) → take (length t - a) (drop a t) ≡ drop a t
-to-end a t = take-all (length t - a) (drop a t) (omega (arith, length-drop a t))
 
 -- ---- the first separator ends the first piece
 module _ (sep : ℕ) where

@@ -2,7 +2,8 @@
 use mathlib.Core.Path.{_≡_, sym, _∙_}
 use native.Mathlib.Omega.{arith}
 use lib.Seq.{length-take-le}
-use Rattle.grammar.specs.Parted.{comma, place-of, place-le, to-end}
+use Rattle.basics.specs.Parts.{to-end}
+use Rattle.grammar.specs.Parted.{comma, place-of, place-le}
 use Rattle.grammar.specs.Number.{number-of}
 use Prim.Native.Nat.{_+_, _-_, _<_}
 use native.Mathlib.Numerals.{add-one}

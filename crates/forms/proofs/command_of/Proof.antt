@@ -4,7 +4,7 @@ use mathlib.Core.Path.{_≡_, sym, _∙_}
 use native.Mathlib.Omega.{arith}
 use lib.ListN.{length, take, drop}
 use Rattle.grammar.specs.Number.{number-of}
-use Rattle.grammar.specs.Parted.{to-end}
+use Rattle.basics.specs.Parts.{to-end}
 use Rattle.grammar.specs.Command.{pair-of, command-short, command-none, command-add, command-key}
 use borrow.Author.Needs.{needs}
 use Rattle.forms.proofs.command_of.Statement.{statement}
