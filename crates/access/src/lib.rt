@@ -1,11 +1,13 @@
-// The layout in code: the heading, the slots, lengths, the shape test and fresh words. Nobody else counts words but
-// `lookup`, `collect` and `image`, by what stands here. Each function promises what a definition of layout/specs says.
+// The layout in code: the heading, the slots, lengths, the shape test and fresh words. Nobody
+// counts words but by what stands here and the constants of `layout`. Each function promises what a definition of
+// layout/specs says.
 ghost use mathlib.Core.Path.{_≡_};
 ghost use mathlib.Core.List.{_++_};
 ghost use Prim.Native.Nat.{_+_, _*_, _≤_, _<_};
 ghost use lib.ListN.{length, getD, take, drop};
 ghost use Rattle.hashing.specs.Hash.{max-slots};
-ghost use Rattle.layout.specs.Layout.{header-of, header-words, header-length, slot-width, slots-of};
+ghost use Rattle.layout.specs.Layout.{header-of, header-words, header-length, with-keys, with-stashed};
+ghost use Rattle.layout.specs.Layout.{slot-width, slots-of};
 ghost use Rattle.layout.specs.Layout.{sizes-in-range, params-in-range, shaped, words-length};
 ghost use Rattle.layout.specs.Layout.{scratch-length, key-at, stash-at, tier-at, slot-entry};
 ghost use Rattle.layout.specs.Shape.{Sized, Shaped};
@@ -58,6 +60,32 @@ pub fn write_header(words: &mut [u32], header: Header)
     words[2] = header.keys;
     words[3] = header.stashed;
     words[4] = header.station;
+}
+
+// A heading with another number of keys.
+pub fn with_keys(header: Header, keys: u32) -> Header
+    ensures { λ h. ⌜ h ≡ with-keys header keys ⌝ }
+{
+    Header {
+        slots: header.slots,
+        places: header.places,
+        keys: keys,
+        stashed: header.stashed,
+        station: header.station,
+    }
+}
+
+// A heading with another number of stashed keys.
+pub fn with_stashed(header: Header, stashed: u32) -> Header
+    ensures { λ h. ⌜ h ≡ with-stashed header stashed ⌝ }
+{
+    Header {
+        slots: header.slots,
+        places: header.places,
+        keys: header.keys,
+        stashed: stashed,
+        station: header.station,
+    }
 }
 
 // Slot v of a stretch of slots.

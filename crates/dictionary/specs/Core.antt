@@ -1,4 +1,5 @@
--- The steps of insert and remove as definitions: what a set that was loaded leads to. The contracts of the inner functions cite them, and the laws at the
+-- The steps of insert and remove as definitions: what a set that was loaded leads to. The contracts of the inner
+-- functions cite them, and the laws at the
 -- end put them together with load and commit to the outcomes. Assumes nothing.
 use Prim.Native.Nat.{ℕ, _+_, _*_, _-_, _≤_, _<_}
 use mathlib.Core.Path.{_≡_, refl, sym, _∙_, ap}
@@ -12,11 +13,13 @@ use lib.Seq.{getD-take}
 use Rattle.basics.specs.Sets.{member, member-in, in-member, without, out-in, Asc}
 use Rattle.ordered.specs.Place.{bound-le, bound-found, length-with, length-without}
 use Rattle.ordered.specs.Keys.{lower-bound, with-key}
-use Rattle.refusals.specs.Refusal.{done, blank-key, key-present, key-absent, stash-full, wrong-tier, other-tier, other-issue, first-refusal}
+use Rattle.refusals.specs.Refusal.{done, blank-key, key-present, key-absent, stash-full, wrong-tier, other-tier}
+use Rattle.refusals.specs.Refusal.{other-issue, first-refusal}
 use Rattle.hashing.specs.Hash.{Hashing, blank, tables}
 use Rattle.layout.specs.declared.Header.{Header}
 use Rattle.layout.specs.Entries.{max-tier, keys-of, tier-of, tiered}
-use Rattle.layout.specs.Layout.{Params, ValidKeys, another-issue, header-of, params-of, params-with, fits, image, keys-in, set-in}
+use Rattle.layout.specs.Layout.{Params, ValidKeys, another-issue, header-of, with-keys, params-of, params-with, fits}
+use Rattle.layout.specs.Layout.{image, keys-in, set-in}
 use Rattle.layout.specs.Canonical.{canonical-true}
 use Rattle.layout.specs.Shape.{same-header}
 use Rattle.layout.specs.Standing.{keys-in-valid}
@@ -29,11 +32,13 @@ use Rattle.outcome.specs.Outcome.{keys-changed, tier-changed, changed, set-refu
 use Rattle.outcome.specs.Laws.{later-refusals, change-refused}
 use Rattle.outcome.specs.Held.{one-too-many, changed-keys, keys-changed-valid}
 use Rattle.scratch_set.specs.Edges.{edge-with, Lined, lined-buildable}
-use Rattle.scratch_set.specs.Members.{keys-at, KeyPlaced, tier-placed, put-at, taken-out, lined-agree, lined-tier, lined-put, lined-taken}
+use Rattle.scratch_set.specs.Members.{keys-at, KeyPlaced, tier-placed, put-at, taken-out, lined-agree, lined-tier}
+use Rattle.scratch_set.specs.Members.{lined-put, lined-taken}
 use Rattle.gateway.specs.declared.Loaded.{Loaded}
 use Rattle.gateway.specs.declared.Loaded.the-variants.{Set, Refused}
 use Rattle.gateway.specs.Loading.{LoadedSet, LoadTold, loaded-refused, refused-first, loaded-passes}
-use Rattle.gateway.specs.LoadedSet.{loaded-shape, set-keys, set-tier, loaded-issues, loaded-count, loaded-few, loaded-room, loaded-range, loaded-keys, loaded-searchable}
+use Rattle.gateway.specs.LoadedSet.{loaded-shape, set-keys, set-tier, loaded-issues, loaded-count, loaded-few}
+use Rattle.gateway.specs.LoadedSet.{loaded-room, loaded-range, loaded-keys, loaded-searchable}
 use Rattle.gateway.specs.Committing.{new-answer, new-words, Committable, Committed}
 
 -- The set of the words was loaded, h is their heading and n their number of keys, and the key is not blank.
@@ -43,19 +48,18 @@ pub record Settable (tabulation ws scratch : List ℕ) (h : Header) (n key : ℕ
   pub count : n ≡ h .keys
   pub not-blank : blank key ≡ false
 
--- a heading with another number of keys
-abbrev pub with-count : Header → ℕ → Header
-with-count h n = record { slots = h .slots; places = h .places; keys = n; stashed = h .stashed; station = h .station }
-
--- An answer and words are what these refusals lead to: the first that applies, and the words stay; or the image of the changed set.
+-- An answer and words are what these refusals lead to: the first that applies, and the words stay; or the image of the
+-- changed set.
 abbrev pub Resolved : List (ℕ × Bool) → Change → List ℕ → List ℕ → ℕ → (ℕ → List ℕ → Type 0)
 Resolved rs kind tabulation ws key n us =
     (n ≡ first-refusal rs)
-    × (us ≡ cond (eqb (first-refusal rs) done) (image (params-of tabulation ws) (changed kind key (set-in tabulation ws))) ws)
+    × (us ≡ cond (eqb (first-refusal rs) done)
+    (image (params-of tabulation ws) (changed kind key (set-in tabulation ws))) ws)
 
 -- what the set leads to, and with 5 before it what a set that was loaded leads to
 abbrev pub Decided : Change → List ℕ → List ℕ → ℕ → (ℕ → List ℕ → Type 0)
-Decided kind tabulation ws key = Resolved (set-refusals kind (params-of tabulation ws) key (set-in tabulation ws)) kind tabulation ws key
+Decided kind tabulation ws key =
+    Resolved (set-refusals kind (params-of tabulation ws) key (set-in tabulation ws)) kind tabulation ws key
 
 abbrev pub AfterLoad : Change → List ℕ → List ℕ → ℕ → (ℕ → List ℕ → Type 0)
 AfterLoad kind tabulation ws key = Resolved (later-refusals kind tabulation ws key) kind tabulation ws key
@@ -105,36 +109,44 @@ module _ {tabulation ws scratch : List ℕ} {h : Header} {n key : ℕ} (Z : Sett
   pub searchable : (n < length scratch) × Asc (keys-at n scratch)
   searchable = loaded-searchable (Z .loaded) (Z .heading) (Z .count)
 
-  pub in-range : Hashing tabulation (h .slots) (h .station) × ((h .places ≤ 64) × ((n ≤ 2 * h .slots + h .places) × (used (h .slots) (h .places) ≤ length scratch)))
+  pub in-range : Hashing tabulation (h .slots) (h .station) ×
+      ((h .places ≤ 64) × ((n ≤ 2 * h .slots + h .places) × (used (h .slots) (h .places) ≤ length scratch)))
   in-range =
       let g = loaded-range (Z .loaded) (Z .heading) (Z .count) in
       (g .0, (g .1, (loaded-few (Z .loaded) (Z .heading) (Z .count), loaded-room (Z .loaded) (Z .heading) (Z .count))))
 
   -- a set that stands in `mid` can be committed
-  committable : {t : ℕ → ℕ} {S mid : List ℕ} {m : ℕ} → length mid ≡ length scratch → Lined P t S mid → m ≡ length S → m ≤ 2 * h .slots + h .places
-      → Committable (with-count h m) ws mid
+  committable : {t : ℕ → ℕ} {S mid : List ℕ} {m : ℕ} → length mid ≡ length scratch → Lined P t S mid → m ≡ length S
+      → m ≤ 2 * h .slots + h .places
+      → Committable (with-keys h m) ws mid
   committable same-room D q few =
       let g = same-header (Z .heading) in
       let formed = loaded-shape (Z .loaded) in
       record {
         sizes = rw (g .slots, g .places) (formed .sizes);
         size = rw (g .slots, g .places) (formed .size);
-        buildable = rw (g .slots, g .places, q) (lined-buildable D (omega (arith, room)) (formed .sizes) (omega (arith, g .slots, g .places)));
+        buildable =
+            rw (g .slots, g .places, q)
+            (lined-buildable D (omega (arith, room)) (formed .sizes) (omega (arith, g .slots, g .places)));
       }
 
   pub insert-large : {tier : ℕ} → max-tier < tier → Decided (Insert tier) tabulation ws key wrong-tier ws
   insert-large {tier} l = let t = lt-ltb max-tier tier l in (rw t, rw t)
 
   -- what a change does, where a set that stands in `mid` is committed: a key is put in or taken out, with its tier
-  changed-committed : (kind : Change) {mid : List ℕ} {m a : ℕ} {us : List ℕ} → Committed (with-count h m) ws mid a us → m ≡ length (keys-changed kind key K)
+  changed-committed : (kind : Change) {mid : List ℕ} {m a : ℕ} {us : List ℕ} → Committed (with-keys h m) ws mid a us
+      → m ≡ length (keys-changed kind key K)
       → Lined P (tier-changed kind key (tier-of (set-in tabulation ws))) (keys-changed kind key K) mid
-      → Decided kind tabulation ws key (new-answer P (keys-changed kind key K)) (new-words P (changed kind key (set-in tabulation ws)) ws)
+      → Decided kind tabulation ws key (new-answer P (keys-changed kind key K))
+      (new-words P (changed kind key (set-in tabulation ws)) ws)
       → Decided kind tabulation ws key a us
   changed-committed kind R q D decided =
       let u = tier-changed kind key (tier-of (set-in tabulation ws)) in
-      let w = R .by tabulation u (keys-changed kind key K) (keys-changed-valid kind key (Z .not-blank) valid) q (rw own D) in (
+      let w = R .by tabulation u (keys-changed kind key K) (keys-changed-valid kind key (Z .not-blank) valid) q
+      (rw own D) in (
         (rw own at (w .0)) ∙ decided .0,
-        (rw own at (w .1)) ∙ ap (λ (S : List ℕ). new-words P (tiered u (keys-changed kind key S)) ws) (sym keys-are) ∙ decided .1,
+        (rw own at (w .1)) ∙ ap (λ (S : List ℕ). new-words P (tiered u (keys-changed kind key S)) ws) (sym keys-are)
+            ∙ decided .1,
       )
 
   -- Where the key belongs.
@@ -182,7 +194,8 @@ module _ {tabulation ws scratch : List ℕ} {h : Header} {n key : ℕ} (Z : Sett
         tier-is =
             let g = same-header (Z .heading) in
             sym (read ∙ (rw (at-rank, g .slots, g .places)
-            (lined-tier (Z .loaded .lined) room (valid .asc) key (loaded-shape (Z .loaded) .sizes) here ∙ set-tier (Z .loaded) here)))
+            (lined-tier (Z .loaded .lined) room (valid .asc) key (loaded-shape (Z .loaded) .sizes) here
+            ∙ set-tier (Z .loaded) here)))
 
         module _ {tier : ℕ} (small : tier ≤ max-tier) where
           pub insert-other : (t ≡ tier → ⊥) → Decided (Insert tier) tabulation ws key other-tier ws
@@ -198,20 +211,24 @@ module _ {tabulation ws scratch : List ℕ} {h : Header} {n key : ℕ} (Z : Sett
               (rw (x, keys-are, alone, listed, tier-is, y), rw (x, keys-are, alone, listed, tier-is, y))
 
       -- and is taken out
-      module _ {mid : List ℕ} (out : mid ≡ taken-out (h .slots) (h .places) n at scratch) (same-room : length mid ≡ length scratch) where
+      module _ {mid : List ℕ} (out : mid ≡ taken-out (h .slots) (h .places) n at scratch)
+          (same-room : length mid ≡ length scratch) where
         one-less : h .keys - 1 ≡ length (without key K)
         one-less = omega (arith, length-without key K (valid .asc) here, key-count, Z .count)
 
         taken : Lined P (tier-changed Remove key (tier-of (set-in tabulation ws))) (without key K) mid
         taken =
             let g = same-header (Z .heading) in
-            let D = lined-taken (Z .loaded .lined) room (valid .asc) key here (omega (arith, in-range .1 .1 .0, g .slots, g .places, key-count)) in
-            rw (out, at-rank, g .slots, g .places, key-count) (lined-agree D _ (λ c i. set-tier (Z .loaded) (out-in key K i)))
+            let D = lined-taken (Z .loaded .lined) room (valid .asc) key here
+            (omega (arith, in-range .1 .1 .0, g .slots, g .places, key-count)) in
+            rw (out, at-rank, g .slots, g .places, key-count)
+            (lined-agree D _ (λ c i. set-tier (Z .loaded) (out-in key K i)))
 
-        pub remove-committable : Committable (with-count h (h .keys - 1)) ws mid
+        pub remove-committable : Committable (with-keys h (h .keys - 1)) ws mid
         remove-committable = committable same-room taken one-less (omega (arith, in-range, Z .count))
 
-        pub remove-committed : {a : ℕ} {us : List ℕ} → Committed (with-count h (h .keys - 1)) ws mid a us → Decided Remove tabulation ws key a us
+        pub remove-committed : {a : ℕ} {us : List ℕ} → Committed (with-keys h (h .keys - 1)) ws mid a us
+            → Decided Remove tabulation ws key a us
         remove-committed R =
             let g = rw keys-are at (canonical-true tabulation ws (Z .loaded .image) .fit) in
             let f = without-fits P valid key g in
@@ -231,7 +248,8 @@ module _ {tabulation ws scratch : List ℕ} {h : Header} {n key : ℕ} (Z : Sett
       remove-absent = (rw (keys-are, absent), rw (keys-are, absent))
 
       -- nor is another issue
-      module _ {o : Bool} (other : o ≡ another-issue key (keys-at n scratch)) (none : o ≡ false) {tier : ℕ} (small : tier ≤ max-tier) where
+      module _ {o : Bool} (other : o ≡ another-issue key (keys-at n scratch)) (none : o ≡ false) {tier : ℕ}
+          (small : tier ≤ max-tier) where
         new : another-issue key K ≡ false
         new = rw keys-stand at (sym other ∙ none)
 
@@ -241,12 +259,14 @@ module _ {tabulation ws scratch : List ℕ} {h : Header} {n key : ℕ} (Z : Sett
         pub insert-crowded : 2 * h .slots + h .places ≤ n → Decided (Insert tier) tabulation ws key stash-full ws
         insert-crowded l =
             let g = same-header (Z .heading) in
-            let f = one-too-many P key (loaded-shape (Z .loaded) .sizes .has-slots) valid (Z .not-blank) absent (omega (arith, key-count, g .slots, g .places)) in
+            let f = one-too-many P key (loaded-shape (Z .loaded) .sizes .has-slots) valid (Z .not-blank) absent
+            (omega (arith, key-count, g .slots, g .places)) in
             (rw (small-test, keys-are, new, absent, f), rw (small-test, keys-are, new, absent, f))
 
         -- and is put in
         module _ (few : n < 2 * h .slots + h .places) {mid : List ℕ}
-            (in-it : mid ≡ put-at (h .slots) (h .places) n at key (edge-with (tables tabulation (h .slots) (h .station)) key tier) scratch)
+            (in-it : mid ≡ put-at (h .slots) (h .places) n at key
+            (edge-with (tables tabulation (h .slots) (h .station)) key tier) scratch)
             (same-room : length mid ≡ length scratch) where
           one-more : h .keys + 1 ≡ length (with-key key K)
           one-more = omega (arith, length-with key K (valid .asc) gone, key-count, Z .count)
@@ -255,19 +275,23 @@ module _ {tabulation ws scratch : List ℕ} {h : Header} {n key : ℕ} (Z : Sett
           put =
               let g = same-header (Z .heading) in
               rw (in-it, at-rank, g .slots, g .places, g .station, key-count)
-              (lined-put (Z .loaded .lined) room (valid .asc) key (tier-changed (Insert tier) key (tier-of (set-in tabulation ws)))
-              (λ c i. rw (ne-eqb c key (λ q. gone (rw q at i))) (set-tier (Z .loaded) i)) gone (omega (arith, key-count, g .slots, g .places))
+              (lined-put (Z .loaded .lined) room (valid .asc) key
+              (tier-changed (Insert tier) key (tier-of (set-in tabulation ws)))
+              (λ c i. rw (ne-eqb c key (λ q. gone (rw q at i))) (set-tier (Z .loaded) i)) gone
+              (omega (arith, key-count, g .slots, g .places))
               (rw (eq-eqb key key refl)))
 
-          pub insert-committable : Committable (with-count h (h .keys + 1)) ws mid
+          pub insert-committable : Committable (with-keys h (h .keys + 1)) ws mid
           insert-committable = committable same-room put one-more (omega (arith, Z .count))
 
-          pub insert-committed : {a : ℕ} {us : List ℕ} → Committed (with-count h (h .keys + 1)) ws mid a us → Decided (Insert tier) tabulation ws key a us
+          pub insert-committed : {a : ℕ} {us : List ℕ} → Committed (with-keys h (h .keys + 1)) ws mid a us
+              → Decided (Insert tier) tabulation ws key a us
           insert-committed R =
               let L = changed (Insert tier) key (set-in tabulation ws) in
               let g : fits P (keys-of L) ≡ fits P (with-key key K) =
               ap (fits P) (changed-keys (Insert tier) key (set-in tabulation ws) ∙ ap (with-key key) keys-are) in
-              let e : first-refusal (set-refusals (Insert tier) P key (set-in tabulation ws)) ≡ cond (not (fits P (with-key key K))) stash-full done =
+              let e : first-refusal (set-refusals (Insert tier) P key (set-in tabulation ws)) ≡ cond
+              (not (fits P (with-key key K))) stash-full done =
               rw (small-test, keys-are, new, absent) in
               changed-committed (Insert tier) R one-more put (
                 answer-turned (fits P (with-key key K)) ∙ sym e,
@@ -278,7 +302,8 @@ module _ {tabulation ws scratch : List ℕ} {h : Header} {n key : ℕ} (Z : Sett
 -- From the steps to the outcomes.
 
 -- 5, or what the set decides
-pub after-blank : (tabulation ws : List ℕ) (kind : Change) (key : ℕ) {b : Bool} → b ≡ blank key → b ≡ true → AfterLoad kind tabulation ws key blank-key ws
+pub after-blank : (tabulation ws : List ℕ) (kind : Change) (key : ℕ) {b : Bool} → b ≡ blank key → b ≡ true
+    → AfterLoad kind tabulation ws key blank-key ws
 after-blank tabulation ws kind key e q = let t = sym e ∙ q in (rw t, rw t)
 
 pub after-set : (tabulation ws : List ℕ) (kind : Change) (key : ℕ) → blank key ≡ false → {a : ℕ} {us : List ℕ}
@@ -289,7 +314,8 @@ after-set tabulation ws kind key t e = rw t e
 module _ (tabulation ws scratch : List ℕ) (kind : Change) (key : ℕ) where
   -- an answer and words are those of the outcome
   abbrev pub Concluded : ℕ → List ℕ → Type 0
-  Concluded n us = (n ≡ change-outcome kind tabulation ws scratch key .answer) × (us ≡ change-outcome kind tabulation ws scratch key .words)
+  Concluded n us = (n ≡ change-outcome kind tabulation ws scratch key .answer)
+      × (us ≡ change-outcome kind tabulation ws scratch key .words)
 
   module _ {left : List ℕ} {l : Loaded} (T : LoadTold tabulation ws scratch left l) where
     -- 1 to 4: a refusal leaves the words
@@ -303,7 +329,8 @@ module _ (tabulation ws scratch : List ℕ) (kind : Change) (key : ℕ) where
         (a, sym (change-refused tabulation ws scratch kind key (λ q. loaded-refused tabulation ws scratch T e .1 (a ∙ q))))
 
     -- what a set that was loaded leads to
-    pub left-set : {h : Header} → l ≡ Set h → {a : ℕ} {us : List ℕ} → AfterLoad kind tabulation ws key a us → Concluded a us
+    pub left-set : {h : Header} → l ≡ Set h → {a : ℕ} {us : List ℕ} → AfterLoad kind tabulation ws key a us
+        → Concluded a us
     unfolding change-outcome change-refusal
     left-set q e =
         let r = sym (loaded-passes tabulation ws scratch T q (later-refusals kind tabulation ws key)) in

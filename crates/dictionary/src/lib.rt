@@ -3,9 +3,10 @@
 ghost use mathlib.Core.Path.{_≡_};
 ghost use Rattle.layout.specs.Layout.{header-of};
 ghost use Rattle.gateway.specs.Loading.{LoadedSet};
-ghost use Rattle.dictionary.specs.Core.{Settable, with-count, Decided, AfterLoad, Concluded};
+ghost use Rattle.dictionary.specs.Core.{Settable, Decided, AfterLoad, Concluded};
 ghost use Rattle.outcome.specs.Outcome.{change-outcome, check-outcome};
 ghost use Rattle.outcome.specs.declared.Change.the-variants.{Insert, Remove};
+use access::with_keys;
 use gateway::Loaded;
 use gateway::clear;
 use gateway::commit;
@@ -30,19 +31,6 @@ use scratch_set::put_key;
 use scratch_set::take_key;
 use scratch_set::tier_at;
 use words::wide;
-
-// The heading of a list that has another number of keys.
-fn with_count(heading: Header, keys: u32) -> Header
-    ensures { λ h. ⌜ h ≡ with-count heading keys ⌝ }
-{
-    Header {
-        slots: heading.slots,
-        places: heading.places,
-        keys: keys,
-        stashed: heading.stashed,
-        station: heading.station,
-    }
-}
 
 // The set of the words stands in scratch, n keys and their edges, and the key is not blank: the set with the key.
 fn insert_key(
@@ -86,7 +74,7 @@ fn insert_key(
         key,
         tier,
     );
-    let next = with_count(heading, heading.keys + 1);
+    let next = with_keys(heading, heading.keys + 1);
     commit(&mut *words, &mut *scratch, next)
 }
 
@@ -110,7 +98,7 @@ fn remove_key(
         return KEY_ABSENT;
     };
     take_key(&mut *scratch, r, s, n, at);
-    let next = with_count(heading, heading.keys - 1);
+    let next = with_keys(heading, heading.keys - 1);
     commit(&mut *words, &mut *scratch, next)
 }
 

@@ -1,4 +1,5 @@
--- What the build leaves in scratch for `image`: the parts that an image is compared with and written from. Every rank that stands there has its words; and where
+-- What the build leaves in scratch for `image`: the parts that an image is compared with and written from. Every rank
+-- that stands there has its words; and where
 -- they are the ranks of a set, the columns that `image` reads by rank are those of the set's image. Assumes nothing.
 use Prim.Native.Nat.{ℕ, zero, suc, _+_, _*_, _-_, _≤_, _<_}
 use mathlib.Core.Path.{_≡_, refl, sym, _∙_, ap}
@@ -16,7 +17,8 @@ use Rattle.cuckoo.specs.Settling.{seated-sub, seated-asc}
 use Rattle.cuckoo.specs.Seating.{occupant-from}
 use Rattle.cuckoo.specs.Next.{next-in}
 use Rattle.cuckoo.specs.Filled.{stash-sub}
-use Rattle.cuckoo.specs.Renaming.{ranks, from-in, from-asc, ranked, Renames, ranked-renames, ranked-stash, ranked-slot-key, ranked-slot-next}
+use Rattle.cuckoo.specs.Renaming.{ranks, from-in, from-asc, ranked, Renames, ranked-renames, ranked-stash}
+use Rattle.cuckoo.specs.Renaming.{ranked-slot-key, ranked-slot-next}
 use Rattle.hashing.specs.Slots.{slot-0, slot-1}
 use Rattle.edges.specs.Edge.{tier-of-edge, low-tier}
 use Rattle.forest.specs.Edges.{end-0, end-1}
@@ -43,15 +45,18 @@ module _ (r : ℕ) (scratch : List ℕ) (G : Parts) where
   -- the columns that the image of a set has
   abbrev pub SetColumns : Params → List Entry → Type 0
   SetColumns P L =
-      ImageColumns P L (key-column scratch ranks-held) (next-column scratch (G .next) ranks-held) (tier-column r (G .graph) ranks-held)
+      ImageColumns P L (key-column scratch ranks-held) (next-column scratch (G .next) ranks-held)
+      (tier-column r (G .graph) ranks-held)
       (key-column scratch (G .stash)) (tier-column r (G .graph) (G .stash))
 
 -- whether words are the image of the n ranks that stands in scratch, and the words with it
 abbrev pub alike-in : (r s n : ℕ) (ws : List ℕ) (stashed : ℕ) (scratch : List ℕ) → Bool
-alike-in r s n ws stashed scratch = let G = parts r s n scratch in ranks-alike ws n stashed scratch (G .graph) (G .next) (G .stash)
+alike-in r s n ws stashed scratch = let G = parts r s n scratch in ranks-alike ws n stashed scratch (G .graph)
+    (G .next) (G .stash)
 
 abbrev pub written-in : (ws : List ℕ) (h : Header) (scratch : List ℕ) → List ℕ
-written-in ws h scratch = let G = parts (h .slots) (h .places) (h .keys) scratch in ranks-written ws h scratch (G .graph) (G .next) (G .stash)
+written-in ws h scratch = let G = parts (h .slots) (h .places) (h .keys) scratch in
+    ranks-written ws h scratch (G .graph) (G .next) (G .stash)
 
 -- The image of n ranks stands in scratch, in parts of their lengths: every rank that is read has its words.
 pub record RanksReadable (r s n : ℕ) (scratch : List ℕ) : Type 0 where
@@ -77,11 +82,13 @@ module _ (a b : ℕ → ℕ) (n v : ℕ) where
     | inl q ↦ rw q (omega arith)
     | inr m ↦ rw (ne-eqb (slot-key a b (ranks n) v) 0 m) (elim (occupant-from a b (seated a b (ranks n)) v) [
       | inl z ↦ absurd (m z)
-      | inr h ↦ rank-le (seated-sub a b (ranks n) (from-asc 1 n) _ (next-in a b (seated-asc a b (ranks n) (from-asc 1 n)) (h .0) .0))
+      | inr h ↦ rank-le
+          (seated-sub a b (ranks n) (from-asc 1 n) _ (next-in a b (seated-asc a b (ranks n) (from-asc 1 n)) (h .0) .0))
     ])
   ]
 
-module _ {r s n : ℕ} {scratch : List ℕ} (sizes : Sized r s) (few : n ≤ 2 * r + s) (room : used r s ≤ length scratch) (W : Standing r s n scratch) where
+module _ {r s n : ℕ} {scratch : List ℕ} (sizes : Sized r s) (few : n ≤ 2 * r + s) (room : used r s ≤ length scratch)
+    (W : Standing r s n scratch) where
   abbrev G : Parts
   G = parts r s n scratch
 
@@ -95,7 +102,8 @@ module _ {r s n : ℕ} {scratch : List ℕ} (sizes : Sized r s) (few : n ≤ 2 *
   held-long = simp length-take (omega (arith, long .graph-size))
 
   held-is : (v : ℕ) → v < 2 * r → getD (ranks-held r scratch G) v 0 ≡ slot-rank r n E v
-  held-is v l = let o : 0 + v ≡ v = omega arith in ap (λ (xs : List ℕ). getD xs v 0) (W .held) ∙ (rw o at (listed-at (slot-rank r n E) (2 * r) 0 v l))
+  held-is v l = let o : 0 + v ≡ v = omega arith in ap (λ (xs : List ℕ). getD xs v 0) (W .held)
+      ∙ (rw o at (listed-at (slot-rank r n E) (2 * r) 0 v l))
 
   held-word : (v : ℕ) → v < 2 * r → getD (G .graph) v 0 ≡ slot-rank r n E v
   held-word v l = sym (getD-take (2 * r) (G .graph) v 0 l) ∙ held-is v l
@@ -125,19 +133,22 @@ module _ {r s n : ℕ} {scratch : List ℕ} (sizes : Sized r s) (few : n ≤ 2 *
     };
   }
 
-pub readable-stash : {r s n : ℕ} {scratch : List ℕ} → RanksReadable r s n scratch → length (parts r s n scratch .stash) ≡ s
+pub readable-stash : {r s n : ℕ} {scratch : List ℕ} → RanksReadable r s n scratch
+    → length (parts r s n scratch .stash) ≡ s
 readable-stash {r} {s} {n} {scratch} R = parts-sized r s n scratch (R .few) (R .room) .stash-size
 
 -- The ranks are those of a set that stands there.
 module _ {P : Params} {t : ℕ → ℕ} {S scratch : List ℕ} (valid : ValidKeys S) (sizes : Sized (P .slots) (P .places))
-    (few : length S ≤ 2 * P .slots + P .places) (room : used (P .slots) (P .places) ≤ length scratch) (D : Lined P t S scratch) where
+    (few : length S ≤ 2 * P .slots + P .places) (room : used (P .slots) (P .places) ≤ length scratch)
+    (D : Lined P t S scratch) where
   abbrev A : Parts
   A = parts (P .slots) (P .places) (length S) scratch
 
   abbrev ends : List ℕ
   ends = edges-of (P .slots) (P .places) (length S) scratch
 
-  renames : Renames (ranked S) (slot-0 (family P)) (slot-1 (family P)) (end-0 (P .slots) ends) (end-1 (P .slots) ends) (ranks (length S))
+  renames : Renames (ranked S) (slot-0 (family P)) (slot-1 (family P)) (end-0 (P .slots) ends) (end-1 (P .slots) ends)
+      (ranks (length S))
   renames = ranked-renames (valid .asc) (zero-outside valid) (lined-first D room sizes) (lined-second D room sizes)
 
   pub stash-keys : stash-of P S ≡ map (ranked S) (stash-ranks (P .slots) (length S) ends)
@@ -170,7 +181,8 @@ module _ {P : Params} {t : ℕ → ℕ} {S scratch : List ℕ} (valid : ValidKey
     tier-is : (k : ℕ) → k ≤ n → tier-by r (A .graph) k ≡ tier-of (tiered t S) (ranked S k)
     tier-is zero l =
         let e : 2 * r + 0 - 1 ≡ 2 * r - 1 = omega arith in
-        let m : getD (A .graph) (2 * r - 1) 0 ≤ n = standing-readable sizes few room W .ranked .held (2 * r - 1) (omega (arith, sizes)) in
+        let m : getD (A .graph) (2 * r - 1) 0 ≤ n = standing-readable sizes few room W .ranked .held (2 * r - 1)
+        (omega (arith, sizes)) in
         rw (e, none-at-zero) (low-tier (omega (arith, sizes)))
     tier-is (suc i) l =
         let e : 2 * r + suc i - 1 ≡ 2 * r + i = omega arith in
@@ -185,7 +197,14 @@ module _ {P : Params} {t : ℕ → ℕ} {S scratch : List ℕ} (valid : ValidKey
     stash-is : place-keys P S ≡ map (ranked S) (A .stash)
     stash-is =
         let k = P .places - length (stash-ranks r n ends) in
-        rw (← stash-count, stash-keys, W .stashed, map-append (ranked S) (stash-ranks r n ends) (replicate k 0), map-zeros (ranked S) refl k)
+        rw (
+          ← stash-count,
+          stash-keys,
+          W .stashed,
+          map-append (ranked S) (stash-ranks r n ends)
+              (replicate k 0),
+          map-zeros (ranked S) refl k,
+        )
 
     abbrev R : RanksReadable r (P .places) n scratch
     R = standing-readable sizes few room W
@@ -198,7 +217,8 @@ module _ {P : Params} {t : ℕ → ℕ} {S scratch : List ℕ} (valid : ValidKey
         → getD (map g (ranks-held r scratch A)) v 0 ≡ h (slot-key (slot-0 (family P)) (slot-1 (family P)) S v)
     by-rank g h e v l =
         let m : v < 2 * r = omega arith in
-        at-map g (ranks-held r scratch A) v (omega (arith, held-long sizes few room W)) ∙ ap g (held-is sizes few room W v m)
+        at-map g (ranks-held r scratch A) v (omega (arith, held-long sizes few room W))
+        ∙ ap g (held-is sizes few room W v m)
         ∙ e (rank v) (slot-rank-le (end-0 r ends) (end-1 r ends) n v) ∙ ap h (sym (slot-is v))
 
     by-place : (g h : ℕ → ℕ) → ((k : ℕ) → k ≤ n → g k ≡ h (ranked S k)) → (i : ℕ) → i < P .places
@@ -208,12 +228,15 @@ module _ {P : Params} {t : ℕ → ℕ} {S scratch : List ℕ} (valid : ValidKey
         at-map g (A .stash) i m ∙ e (getD (A .stash) i 0) (R .ranked .stashed i m)
         ∙ ap h (sym (ap (λ (xs : List ℕ). getD xs i 0) stash-is ∙ at-map (ranked S) (A .stash) i m))
 
-    next-is : (v : ℕ) → v < r + r → getD (next-column scratch (A .next) (ranks-held r scratch A)) v 0 ≡ slot-next (slot-0 (family P)) (slot-1 (family P)) S v
+    next-is : (v : ℕ) → v < r + r → getD (next-column scratch (A .next) (ranks-held r scratch A)) v 0 ≡ slot-next
+        (slot-0 (family P)) (slot-1 (family P)) S v
     next-is v l =
         let m : v < 2 * r = omega arith in
         let g : ℕ → ℕ = λ k. getD scratch (getD (A .next) k 0) 0 in
-        at-map g (ranks-held r scratch A) v (omega (arith, held-long sizes few room W)) ∙ ap g (held-is sizes few room W v m)
-        ∙ ap (λ (k : ℕ). getD scratch k 0) (W .next v m) ∙ key-is (next-rank r n ends v) (next-rank-le (end-0 r ends) (end-1 r ends) n v)
+        at-map g (ranks-held r scratch A) v (omega (arith, held-long sizes few room W))
+        ∙ ap g (held-is sizes few room W v m)
+        ∙ ap (λ (k : ℕ). getD scratch k 0) (W .next v m) ∙ key-is (next-rank r n ends v)
+        (next-rank-le (end-0 r ends) (end-1 r ends) n v)
         ∙ sym (ranked-slot-next S renames v)
 
     pub set-columns : SetColumns r scratch A P (tiered t S)

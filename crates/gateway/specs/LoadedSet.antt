@@ -1,4 +1,5 @@
--- What a set that was loaded has: its keys are those of the words, ascending, one issue of each first part, as many as the heading tells, and they stand in scratch
+-- What a set that was loaded has: its keys are those of the words, ascending, one issue of each first part, as many as
+-- the heading tells, and they stand in scratch
 -- with their edges. Every call on a whole dictionary goes on from here. Assumes nothing.
 use Prim.Native.Nat.{ℕ, _+_, _*_, _≤_, _<_}
 use mathlib.Core.Path.{_≡_, refl, sym, _∙_, ap}
@@ -10,7 +11,8 @@ use Rattle.basics.specs.Sets.{member, Asc}
 use Rattle.hashing.specs.Hash.{Hashing}
 use Rattle.layout.specs.declared.Header.{Header}
 use Rattle.layout.specs.Entries.{keys-of, tier-of, keys-tiered, tier-tiered}
-use Rattle.layout.specs.Layout.{Params, ValidKeys, OneIssue, header-of, params-of, slots-of, places-of, key-count, image, image-by, keys-in, tier-in, set-in}
+use Rattle.layout.specs.Layout.{Params, ValidKeys, OneIssue, header-of, params-of, slots-of, places-of, key-count}
+use Rattle.layout.specs.Layout.{image, image-by, keys-in, tier-in, set-in}
 use Rattle.layout.specs.Canonical.{canonical-true}
 use Rattle.layout.specs.Shape.{Shaped, shape}
 use Rattle.layout.specs.Standing.{keys-in-valid}
@@ -46,7 +48,8 @@ module _ {tabulation ws scratch : List ℕ} (Z : LoadedSet tabulation ws scratch
     pub loaded-count : n ≡ length (keys-in ws)
     loaded-count =
         let i = canonical-true tabulation ws (Z .image) .is in
-        (rw heading at count) ∙ ap key-count i ∙ image-count (params-of tabulation ws) (set-in tabulation ws) ∙ ap length set-keys
+        (rw heading at count) ∙ ap key-count i ∙ image-count (params-of tabulation ws) (set-in tabulation ws)
+        ∙ ap length set-keys
 
     -- their slots and places have room for them, and so has scratch
     pub loaded-few : n ≤ 2 * h .slots + h .places
@@ -74,5 +77,6 @@ module _ {tabulation ws scratch : List ℕ} (Z : LoadedSet tabulation ws scratch
     loaded-searchable = (omega (arith, loaded-few, loaded-room), rw loaded-keys (keys-in-valid ws .asc))
 
     -- a key that stands there is one of the set
-    pub loaded-listed : (key : ℕ) {t : Bool} → t ≡ member key (keys-at n scratch) → t ≡ member key (keys-of (set-in tabulation ws))
+    pub loaded-listed : (key : ℕ) {t : Bool} → t ≡ member key (keys-at n scratch)
+        → t ≡ member key (keys-of (set-in tabulation ws))
     loaded-listed key e = e ∙ ap (member key) (loaded-keys ∙ sym set-keys)

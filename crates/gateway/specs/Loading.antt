@@ -1,4 +1,5 @@
--- Words loaded as a set: what load answers, as definitions, and that the code answers it, by way of the keys and edges in scratch, the build and the comparison.
+-- Words loaded as a set: what load answers, as definitions, and that the code answers it, by way of the keys and edges
+-- in scratch, the build and the comparison.
 -- Assumes nothing.
 use Prim.Native.Nat.{ℕ, _+_, _*_, _≤_, _<_}
 use mathlib.Core.Path.{_≡_, refl, sym, _∙_, ap}
@@ -12,7 +13,8 @@ use Rattle.basics.specs.Tests.{bool-ext}
 use Rattle.basics.specs.Lists.{same, same-true, true-same}
 use Rattle.refusals.specs.Refusal.{done, not-canonical, first-refusal, front-applies, front-passes, front-none}
 use Rattle.layout.specs.declared.Header.{Header}
-use Rattle.layout.specs.Layout.{Params, ValidKeys, one-issue, header-of, params-of, slots-of, places-of, station-of, shaped, fits, image, keys-in, tier-in}
+use Rattle.layout.specs.Layout.{Params, ValidKeys, one-issue, header-of, params-of, slots-of, places-of, station-of}
+use Rattle.layout.specs.Layout.{shaped, fits, image, keys-in, tier-in}
 use Rattle.layout.specs.Entries.{keys-of, tiered, keys-tiered, tiered-agree, tiered-in, in-tiered}
 use Rattle.layout.specs.Canonical.{canonical, canonical-tier, canonical-true, image-of-canonical}
 use Rattle.layout.specs.Ready.{early-refusals, first-refusals, Ready, none-ready, head-ready}
@@ -57,15 +59,18 @@ pub record LoadedSet (tabulation ws scratch : List ℕ) : Type 0 where
   pub lined : Lined (params-of tabulation ws) (tier-in tabulation ws) (keys-in ws) scratch
 
 -- The laws. Where none of 1 to 3 applies, the words can be read.
-early-none : (tabulation ws scratch : List ℕ) → early-refusal tabulation ws (length scratch) ≡ done → Ready tabulation ws scratch
+early-none : (tabulation ws scratch : List ℕ) → early-refusal tabulation ws (length scratch) ≡ done
+    → Ready tabulation ws scratch
 unfolding early-refusal
 early-none tabulation ws scratch e =
     none-ready tabulation ws scratch (front-none (early-refusals tabulation ws (length scratch)) [] e refl)
 
-pub early-ready : (tabulation ws scratch : List ℕ) {n : ℕ} → n ≡ early-refusal tabulation ws (length scratch) → n ≡ 0 → Ready tabulation ws scratch
+pub early-ready : (tabulation ws scratch : List ℕ) {n : ℕ} → n ≡ early-refusal tabulation ws (length scratch) → n ≡ 0
+    → Ready tabulation ws scratch
 early-ready tabulation ws scratch e z = early-none tabulation ws scratch (sym e ∙ z)
 
--- Reading words as a set. Words whose keys are one issue of each first part and fit are canonical exactly if they are the image of their set, with 0 for every tier above 7: if they are, then that
+-- Reading words as a set. Words whose keys are one issue of each first part and fit are canonical exactly if they are
+-- the image of their set, with 0 for every tier above 7: if they are, then that
 -- set is theirs; and if they are canonical, then no tier is above 7.
 module _ (tabulation ws : List ℕ) where
   abbrev P : Params
@@ -75,13 +80,15 @@ module _ (tabulation ws : List ℕ) where
   t = tier-found tabulation ws
 
   pub canonical-small : canonical tabulation ws ≡ true → {c : ℕ} → In c (keys-in ws) → t c ≡ tier-in tabulation ws c
-  canonical-small e i = small-same _ (canonical-tier tabulation ws e _ (in-tiered (tier-in tabulation ws) (keys-in ws) i))
+  canonical-small e i =
+      small-same _ (canonical-tier tabulation ws e _ (in-tiered (tier-in tabulation ws) (keys-in ws) i))
 
   canonical-same : shaped ws ≡ true → one-issue (keys-in ws) ≡ true → fits P (keys-in ws) ≡ true
       → canonical tabulation ws ≡ same ws (image P (tiered t (keys-in ws)))
   canonical-same formed one fit =
       bool-ext (canonical tabulation ws) (same ws (image P (tiered t (keys-in ws))))
-      (λ e. true-same ws (image P (tiered t (keys-in ws))) (rw (tiered-agree {t = t} (keys-in ws) (λ c. canonical-small e)) (canonical-true tabulation ws e .is)))
+      (λ e. true-same ws (image P (tiered t (keys-in ws)))
+      (rw (tiered-agree {t = t} (keys-in ws) (λ c. canonical-small e)) (canonical-true tabulation ws e .is)))
       (λ e. image-of-canonical tabulation ws formed refl (record {
         valid = record {
           keys = rw (keys-tiered t (keys-in ws)) (keys-in-valid ws);
@@ -93,7 +100,8 @@ module _ (tabulation ws : List ℕ) where
       }) .2)
 
 -- Keys that are collected and listed can be read.
-module _ {tabulation ws scratch mid : List ℕ} {r s station n : ℕ} (C : Collected tabulation ws scratch r s station n) (same-room : length mid ≡ length scratch)
+module _ {tabulation ws scratch mid : List ℕ} {r s station n : ℕ} (C : Collected tabulation ws scratch r s station n)
+    (same-room : length mid ≡ length scratch)
     (D : Listed tabulation ws mid) where
   room-mid : used (slots-of ws) (places-of ws) ≤ length mid
   room-mid = omega (arith, C .ready .room, formed C .sizes)
@@ -118,9 +126,11 @@ module _ {tabulation ws scratch mid : List ℕ} {r s station n : ℕ} (C : Colle
 
   -- and they can be built
   pub collected-buildable : Buildable r s n mid
-  collected-buildable = rw (C .slots, C .places, C .count) (lined-buildable D room-mid (formed C .sizes) (collected-few C))
+  collected-buildable =
+      rw (C .slots, C .places, C .count) (lined-buildable D room-mid (formed C .sizes) (collected-few C))
 
-  module _ (one : one-issue (keys-in ws) ≡ true) {after : List ℕ} {count : StashCount} (same : length after ≡ length mid) (B : Built r s n mid after count) where
+  module _ (one : one-issue (keys-in ws) ≡ true) {after : List ℕ} {count : StashCount}
+      (same : length after ≡ length mid) (B : Built r s n mid after count) where
     built-set : Built (slots-of ws) (places-of ws) (length (keys-in ws)) mid after count
     built-set = rw (← C .slots, ← C .places, ← C .count) B
 
@@ -129,13 +139,15 @@ module _ {tabulation ws scratch mid : List ℕ} {r s station n : ℕ} (C : Colle
 
     pub read-full : count ≡ Overflow → Compared after false
     unfolding canonical
-    read-full e = let f = set-full (keys-in-valid ws) (formed C .sizes) (collected-few C) room-mid D same built-set e in (rw (one, f), kept)
+    read-full e = let f = set-full (keys-in-valid ws) (formed C .sizes)
+        (collected-few C) room-mid D same built-set e in (rw (one, f), kept)
 
     module _ {k : ℕ} (e : count ≡ Ranks k) {b : Bool} (compared : b ≡ alike-in r s n ws k after) where
       read-compared : canonical tabulation ws ≡ b
       read-compared =
           let valid = keys-in-valid ws in
-          canonical-same tabulation ws (C .ready .shape) one (set-made valid (formed C .sizes) (collected-few C) room-mid D same built-set e .fit)
+          canonical-same tabulation ws (C .ready .shape) one
+          (set-made valid (formed C .sizes) (collected-few C) room-mid D same built-set e .fit)
           ∙ sym (set-alike tabulation ws (formed C) valid (collected-few C) room-mid D same built-set e)
           ∙ sym (rw (C .slots, C .places, C .count) at compared)
 
@@ -147,15 +159,18 @@ module _ (tabulation ws before : List ℕ) where
   abbrev pub LoadTold : List ℕ → Loaded → Type 0
   LoadTold left l =
       (number l ≡ load-refusal tabulation ws before)
-      × ((headings l ≡ load-headings tabulation ws before) × (load-refusal tabulation ws before ≡ done → LoadedSet tabulation ws left))
+      × ((headings l ≡ load-headings tabulation ws before)
+      × (load-refusal tabulation ws before ≡ done → LoadedSet tabulation ws left))
 
   -- 1, 2 or 3,
-  refused-told : {n : ℕ} (left : List ℕ) → n ≡ load-refusal tabulation ws before → (n ≡ 0 → ⊥) → LoadTold left (Refused n)
+  refused-told : {n : ℕ} (left : List ℕ) → n ≡ load-refusal tabulation ws before → (n ≡ 0 → ⊥)
+      → LoadTold left (Refused n)
   refused-told {n} left e nz =
       let t : eqb (load-refusal tabulation ws before) done ≡ false = ne-eqb _ done (λ q. nz (e ∙ q)) in
       (e, (rw t, λ q. absurd (nz (e ∙ q))))
 
-  pub told-early : {n : ℕ} (left : List ℕ) → n ≡ early-refusal tabulation ws (length before) → (n ≡ 0 → ⊥) → LoadTold left (Refused n)
+  pub told-early : {n : ℕ} (left : List ℕ) → n ≡ early-refusal tabulation ws (length before) → (n ≡ 0 → ⊥)
+      → LoadTold left (Refused n)
   unfolding early-refusal
   told-early left e nz =
       refused-told left
@@ -170,7 +185,8 @@ module _ (tabulation ws before : List ℕ) where
     told-tampered left q = refused-told left (sym (refusal-is ∙ (rw (sym compared ∙ q)))) (λ z. omega arith)
 
     -- or the set.
-    pub told-set : {left : List ℕ} {h : Header} → b ≡ true → h ≡ header-of ws → length left ≡ length before → Listed tabulation ws left → LoadTold left (Set h)
+    pub told-set : {left : List ℕ} {h : Header} → b ≡ true → h ≡ header-of ws → length left ≡ length before
+        → Listed tabulation ws left → LoadTold left (Set h)
     told-set q e same-room D =
         let c : canonical tabulation ws ≡ true = sym compared ∙ q in
         let n : load-refusal tabulation ws before ≡ done = refusal-is ∙ (rw c) in
@@ -179,7 +195,8 @@ module _ (tabulation ws before : List ℕ) where
           (
             rw (t, e),
             λ z. record {
-              ready = record { full-length = ready .full-length; shape = ready .shape; room = omega (arith, ready .room) };
+              ready = record
+                  { full-length = ready .full-length; shape = ready .shape; room = omega (arith, ready .room) };
               image = c;
               lined = lined-agree D (tier-in tabulation ws) (λ k. canonical-small tabulation ws c);
             },
@@ -201,7 +218,8 @@ module _ (tabulation ws before : List ℕ) where
         go q = let z : _≡_ {A = ℕ} 0 1 = ap length q in omega arith
 
     -- which is that of a call that tries other refusals behind 1 to 4;
-    pub refused-first : {n : ℕ} → l ≡ Refused n → (rest : List (ℕ × Bool)) → n ≡ first-refusal (first-refusals tabulation ws before ++ rest)
+    pub refused-first : {n : ℕ} → l ≡ Refused n → (rest : List (ℕ × Bool))
+        → n ≡ first-refusal (first-refusals tabulation ws before ++ rest)
     refused-first e rest =
         let r = loaded-refused e in
         r .0 ∙ sym (front-applies (first-refusals tabulation ws before) rest (λ q. r .1 (r .0 ∙ q)))
@@ -224,4 +242,5 @@ module _ (tabulation ws before : List ℕ) where
         → first-refusal (first-refusals tabulation ws before ++ rest) ≡ first-refusal rest
     loaded-passes e rest =
         let passed : load-refusal tabulation ws before ≡ done = sym (rw e at (T .0)) in
-        front-passes (first-refusals tabulation ws before) rest (front-none (first-refusals tabulation ws before) [] passed refl)
+        front-passes (first-refusals tabulation ws before) rest
+        (front-none (first-refusals tabulation ws before) [] passed refl)

@@ -115,13 +115,7 @@ pub fn commit(words: &mut [u32], scratch: &mut [u32], heading: Header) -> u32
     let StashCount::Ranks(stashed) = count else {
         return STASH_FULL;
     };
-    let laid = Header {
-        slots: r,
-        places: s,
-        keys: heading.keys,
-        stashed: stashed,
-        station: heading.station,
-    };
+    let laid = access::with_stashed(heading, stashed);
     write_built(&mut *words, &*scratch, laid);
     0
 }

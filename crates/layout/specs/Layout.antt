@@ -61,6 +61,15 @@ header-words h = h .slots ∷ h .places ∷ h .keys ∷ h .stashed ∷ h .statio
 abbrev pub header-length : ℕ
 header-length = 5
 
+-- a heading with another number of keys, and with another number of stashed ones
+abbrev pub with-keys : Header → ℕ → Header
+with-keys h n =
+    record { slots = h .slots; places = h .places; keys = n; stashed = h .stashed; station = h .station }
+
+abbrev pub with-stashed : Header → ℕ → Header
+with-stashed h n =
+    record { slots = h .slots; places = h .places; keys = h .keys; stashed = n; station = h .station }
+
 abbrev pub slots-of : List ℕ → ℕ
 slots-of ws = header-of ws .slots
 

@@ -60,7 +60,9 @@ returns-2 c =
     let k = i .before .before .before .before in
     let w = k .before .before in
     let a = start w .args in
-    rw (k .kind .given .1) (after-set (a .tabulation .now) (a .words .now) (Insert (k .kind .given .0 .0)) (a .key) (set w .not-blank) (i .insert-key .ensures))
+    rw (k .kind .given .1)
+    (after-set (a .tabulation .now) (a .words .now) (Insert (k .kind .given .0 .0)) (a .key) (set w .not-blank)
+    (i .insert-key .ensures))
 
 same-length-3 : tie.Need-same-length-3
 same-length-3 c = search needs
@@ -74,7 +76,8 @@ returns-3 c =
     let k = i .before .before .before in
     let w = k .before .before in
     let a = start w .args in
-    rw (k .enum-told .given .1) (after-set (a .tabulation .now) (a .words .now) Remove (a .key) (set w .not-blank) (i .remove-key .ensures))
+    rw (k .enum-told .given .1)
+    (after-set (a .tabulation .now) (a .words .now) Remove (a .key) (set w .not-blank) (i .remove-key .ensures))
 
 pub change-set-spec : {M : Type 1} → statement M
 change-set-spec =

@@ -1,4 +1,5 @@
--- `dictionary::insert_key` meets its contract: the tier is too large, another issue or the key is there, there is no room for a further key, or the set with it is
+-- `dictionary::insert_key` meets its contract: the tier is too large, another issue or the key is there, there is no
+-- room for a further key, or the set with it is
 -- committed.
 use Prim.Native.Nat.{_+_, _*_, _≤_, _<_}
 use native.Mathlib.Omega.{arith}
@@ -7,7 +8,8 @@ use Rattle.hashing.specs.Hash.{Hashing}
 use Rattle.layout.specs.Entries.{max-tier}
 use Rattle.build.specs.Scratch.{used}
 use Rattle.dictionary.specs.Core.{searchable, in-range, at-le, at-lt, placed}
-use Rattle.dictionary.specs.Core.{insert-large, insert-issue, insert-other, insert-present, insert-crowded, insert-committable, insert-committed}
+use Rattle.dictionary.specs.Core.{insert-large, insert-issue, insert-other, insert-present, insert-crowded}
+use Rattle.dictionary.specs.Core.{insert-committable, insert-committed}
 use borrow.Author.Needs.{needs}
 use Rattle.dictionary.proofs.insert_key.Statement.{statement}
 use Rattle.dictionary.proofs.insert_key.Tie as tie
@@ -34,7 +36,8 @@ start p = origin (tiered p)
 
 ranges : (p : tie.After-place-of) → let a = start p .args in let h = a .heading in
     Hashing (a .tabulation .now) (h .slots) (h .station)
-    × ((h .places ≤ 64) × ((a .n ≤ 2 * h .slots + h .places) × (used (h .slots) (h .places) ≤ length (a .scratch .now))))
+    × ((h .places ≤ 64)
+    × ((a .n ≤ 2 * h .slots + h .places) × (used (h .slots) (h .places) ≤ length (a .scratch .now))))
 ranges p = in-range (start p .pre)
 
 other-issue-requires : tie.Need-other-issue-requires
@@ -79,7 +82,8 @@ returns-3 c =
     let t = c .before in
     let y = t .before .before in
     let p = place (y .before) in
-    insert-other (start p .pre) (p .place-of .ensures) (y .before .is-at .ensures) (y .if3 .taken) (t .tier-at .ensures) (small (tiered p)) (λ q. c .if4 .taken q)
+    insert-other (start p .pre) (p .place-of .ensures) (y .before .is-at .ensures) (y .if3 .taken)
+    (t .tier-at .ensures) (small (tiered p)) (λ q. c .if4 .taken q)
 
 same-length-3 : tie.Need-same-length-3
 same-length-3 c = search needs
@@ -89,7 +93,8 @@ returns-4 c =
     let t = c .before in
     let y = t .before .before in
     let p = place (y .before) in
-    insert-present (start p .pre) (p .place-of .ensures) (y .before .is-at .ensures) (y .if3 .taken) (t .tier-at .ensures) (small (tiered p)) (c .if4 .left)
+    insert-present (start p .pre) (p .place-of .ensures) (y .before .is-at .ensures) (y .if3 .taken)
+    (t .tier-at .ensures) (small (tiered p)) (c .if4 .left)
 
 mul-wide : tie.Need-mul-wide
 mul-wide c = omega (arith, ranges (place (c .before)))
@@ -109,14 +114,16 @@ returns-5 c =
     let p = place (e .before) in
     let w = c .before .wide .ensures in
     let l = c .if5 .taken in
-    insert-crowded (start p .pre) (p .place-of .ensures) (e .before .is-at .ensures) (e .if3 .left) (single (e .before) .before .other-issue .ensures)
+    insert-crowded (start p .pre) (p .place-of .ensures) (e .before .is-at .ensures) (e .if3 .left)
+    (single (e .before) .before .other-issue .ensures)
     (single (e .before) .if2 .left) (small (tiered p)) (omega arith)
 
 -- there is room for one more
 abbrev tested : tie.Else5 → tie.Else3
 tested o = o .before .before
 
-few : (o : tie.Else5) → let a = start (place (tested o .before)) .args in a .n < 2 * a .heading .slots + a .heading .places
+few : (o : tie.Else5) → let a = start (place (tested o .before)) .args in
+    a .n < 2 * a .heading .slots + a .heading .places
 few o =
     let w = o .before .wide .ensures in
     let l = o .if5 .left in
@@ -126,24 +133,26 @@ put-key-requires : tie.Need-put-key-requires
 put-key-requires c κs =
     let o = c .before in
     let p = place (tested o .before) in
-    let b = ranges p in
-    (((b .0, omega (arith, small (tiered p))), b .1 .0), (at-le (start p .pre) (p .place-of .ensures), (few o, b .1 .1 .1)))
+    let b = ranges p in (
+      ((b .0, omega (arith, small (tiered p))), b .1 .0),
+      (at-le (start p .pre) (p .place-of .ensures), (few o, b .1 .1 .1)),
+    )
 
 -- the key is put in
 abbrev roomy : tie.After-put-key → tie.Else5
 roomy k = k .before .before
 
-add-with-count : tie.Need-add-with-count
-add-with-count c =
+add-with-keys : tie.Need-add-with-keys
+add-with-keys c =
     let o = roomy (c .before .before .before) in
     let p = place (tested o .before) in
     omega (arith, few o, ranges p, start p .pre .count)
 
-with-count-requires : tie.Need-with-count-requires
-with-count-requires c κs = search needs
+with-keys-requires : tie.Need-with-keys-requires
+with-keys-requires c κs = search needs
 
 -- and the heading tells one key more
-abbrev put : tie.After-with-count → tie.After-put-key
+abbrev put : tie.After-with-keys → tie.After-put-key
 put w = w .before .before .before .before
 
 commit-requires : tie.Need-commit-requires
@@ -153,8 +162,9 @@ commit-requires c κs =
     let o = roomy k in
     let e = tested o in
     let p = place (e .before) in
-    rw (w .with-count .ensures)
-    (insert-committable (start p .pre) (p .place-of .ensures) (e .before .is-at .ensures) (e .if3 .left) (single (e .before) .before .other-issue .ensures)
+    rw (w .with-keys .ensures)
+    (insert-committable (start p .pre) (p .place-of .ensures) (e .before .is-at .ensures) (e .if3 .left)
+    (single (e .before) .before .other-issue .ensures)
     (single (e .before) .if2 .left) (small (tiered p)) (few o) (k .put-key .ensures) (k .put-key .kept .1 .0))
 
 same-length-5 : tie.Need-same-length-5
@@ -171,11 +181,14 @@ returns-6 c =
     let o = roomy k in
     let e = tested o in
     let p = place (e .before) in
-    insert-committed (start p .pre) (p .place-of .ensures) (e .before .is-at .ensures) (e .if3 .left) (single (e .before) .before .other-issue .ensures)
-    (single (e .before) .if2 .left) (small (tiered p)) (few o) (k .put-key .ensures) (k .put-key .kept .1 .0) (rw (w .with-count .ensures) at (d .commit .ensures))
+    insert-committed (start p .pre) (p .place-of .ensures) (e .before .is-at .ensures) (e .if3 .left)
+    (single (e .before) .before .other-issue .ensures)
+    (single (e .before) .if2 .left) (small (tiered p)) (few o) (k .put-key .ensures) (k .put-key .kept .1 .0)
+    (rw (w .with-keys .ensures) at (d .commit .ensures))
 
 pub insert-key-spec : {M : Type 1} → statement M
 insert-key-spec =
-    tie.close (tie.spec returns place-of-requires other-issue-requires same-length returns-2 is-at-requires tier-at-requires same-length-2 returns-3
-    same-length-3 returns-4 mul-wide add-wide wide-requires same-length-4 returns-5 put-key-requires add-with-count with-count-requires commit-requires
+    tie.close
+    (tie.spec returns place-of-requires other-issue-requires same-length returns-2 is-at-requires tier-at-requires same-length-2 returns-3
+    same-length-3 returns-4 mul-wide add-wide wide-requires same-length-4 returns-5 put-key-requires add-with-keys with-keys-requires commit-requires
     same-length-5 same-length-6 returns-6)

@@ -7,7 +7,8 @@ use denote.Enum.Declared.{tagOf}
 use Rattle.basics.specs.Sets.{member}
 use Rattle.layout.proofs.Found.{the-type}
 use Rattle.scratch_set.specs.Members.{keys-at, looked-listed, looked-absent}
-use Rattle.dictionary.specs.Core.{searchable, in-range, at-lt, remove-absent, remove-committable, remove-committed}
+use Rattle.dictionary.specs.Core.{searchable, in-range, at-lt, remove-absent, remove-committable}
+use Rattle.dictionary.specs.Core.{remove-committed}
 use borrow.Author.Needs.{needs}
 use Rattle.dictionary.proofs.remove_key.Statement.{statement}
 use Rattle.dictionary.proofs.remove_key.Tie as tie
@@ -36,12 +37,14 @@ placed l = l .before .before
 abbrev looked : tie.After-enum-told → tie.After-look
 looked e = e .before .before
 
-here : (e : tie.After-enum-told) → let a = start (placed (looked e)) .args in member (a .key) (keys-at (a .n) (a .scratch .now)) ≡ true
+here : (e : tie.After-enum-told) → let a = start (placed (looked e)) .args in
+    member (a .key) (keys-at (a .n) (a .scratch .now)) ≡ true
 here e =
     let l = looked e in
     let p = placed l in
     let a = start p .args in
-    looked-listed (a .heading .slots) (a .heading .places) (a .n) (p .place-of .result) (a .key) (a .scratch .now) (l .look .result) (l .look .ensures .1)
+    looked-listed (a .heading .slots) (a .heading .places) (a .n) (p .place-of .result) (a .key) (a .scratch .now)
+    (l .look .result) (l .look .ensures .1)
     (e .enum-told .given .1)
 
 same-length : tie.Need-same-length
@@ -53,8 +56,10 @@ returns c =
     let p = placed l in
     let a = start p .args in
     remove-absent (start p .pre) (p .place-of .ensures) refl
-    (looked-absent (a .heading .slots) (a .heading .places) (a .n) (p .place-of .result) (a .key) (a .scratch .now) (l .look .result) (l .look .ensures .1)
-    (λ t q. elim (c .match .keys2) [ inl e ↦ omega (arith, ap (tagOf the-type) q) | inr e ↦ omega (arith, ap (tagOf the-type) q) ]))
+    (looked-absent (a .heading .slots) (a .heading .places) (a .n) (p .place-of .result) (a .key) (a .scratch .now)
+    (l .look .result) (l .look .ensures .1)
+    (λ t q. elim
+    (c .match .keys2) [ inl e ↦ omega (arith, ap (tagOf the-type) q) | inr e ↦ omega (arith, ap (tagOf the-type) q) ]))
 
 take-key-requires : tie.Need-take-key-requires
 take-key-requires c κs =
@@ -67,17 +72,17 @@ take-key-requires c κs =
 abbrev listed : tie.After-take-key → tie.After-enum-told
 listed k = k .before .before
 
-sub-with-count : tie.Need-sub-with-count
-sub-with-count c =
+sub-with-keys : tie.Need-sub-with-keys
+sub-with-keys c =
     let e = listed (c .before .before .before) in
     let p = placed (looked e) in
     omega (arith, at-lt (start p .pre) (p .place-of .ensures) refl (here e), start p .pre .count)
 
-with-count-requires : tie.Need-with-count-requires
-with-count-requires c κs = search needs
+with-keys-requires : tie.Need-with-keys-requires
+with-keys-requires c κs = search needs
 
 -- and the heading tells one key less
-abbrev taken : tie.After-with-count → tie.After-take-key
+abbrev taken : tie.After-with-keys → tie.After-take-key
 taken w = w .before .before .before .before
 
 commit-requires : tie.Need-commit-requires
@@ -86,7 +91,9 @@ commit-requires c κs =
     let k = taken w in
     let e = listed k in
     let p = placed (looked e) in
-    rw (w .with-count .ensures) (remove-committable (start p .pre) (p .place-of .ensures) refl (here e) (k .take-key .ensures) (k .take-key .kept .0))
+    rw (w .with-keys .ensures)
+    (remove-committable (start p .pre) (p .place-of .ensures) refl (here e) (k .take-key .ensures)
+    (k .take-key .kept .0))
 
 same-length-2 : tie.Need-same-length-2
 same-length-2 c = search needs
@@ -102,9 +109,10 @@ returns-2 c =
     let e = listed k in
     let p = placed (looked e) in
     remove-committed (start p .pre) (p .place-of .ensures) refl (here e) (k .take-key .ensures) (k .take-key .kept .0)
-    (rw (w .with-count .ensures) at (d .commit .ensures))
+    (rw (w .with-keys .ensures) at (d .commit .ensures))
 
 pub remove-key-spec : {M : Type 1} → statement M
 remove-key-spec =
-    tie.close (tie.spec place-of-requires look-requires enum-told same-length returns take-key-requires sub-with-count with-count-requires commit-requires
+    tie.close
+    (tie.spec place-of-requires look-requires enum-told same-length returns take-key-requires sub-with-keys with-keys-requires commit-requires
     same-length-2 same-length-3 returns-2)

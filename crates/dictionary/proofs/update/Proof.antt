@@ -28,7 +28,8 @@ returns : tie.Need-returns
 returns c =
     let e = changed c .change-words .ensures in
     outcome-of (e .0) (e .1)
-    ((rw (changed c .change-words .kept .1 .1 .1 .0) at (c .before .before .clear .ensures)) ∙ sym (change-scratch _ _ _ (start c .args .kind) (start c .args .key)))
+    ((rw (changed c .change-words .kept .1 .1 .1 .0) at (c .before .before .clear .ensures))
+    ∙ sym (change-scratch _ _ _ (start c .args .kind) (start c .args .key)))
 
 pub update-spec : {M : Type 1} → statement M
 update-spec =

@@ -33,7 +33,8 @@ returns : tie.Need-returns
 returns c =
     let b = c .before .before .before .before in
     let w = counted b in
-    committed-full _ _ (start w .pre) (w .wide .ensures) (b .build .kept .0) (b .build .ensures) (c .enum-told .given .1)
+    committed-full _ _ (start w .pre) (w .wide .ensures) (b .build .kept .0) (b .build .ensures)
+    (c .enum-told .given .1)
 
 -- it has room
 abbrev build-at : tie.After-count → tie.After-build
@@ -44,7 +45,8 @@ write-built-requires c κs =
     let q = c .before .before .before in
     let b = build-at q in
     let w = counted b in
-    committed-readable _ _ (start w .pre) (w .wide .ensures) (b .build .kept .0) (b .build .ensures) (q .count .given .1)
+    committed-readable _ _ (start w .pre) (w .wide .ensures) (b .build .kept .0) (b .build .ensures)
+    (q .count .given .1)
 
 same-length-2 : tie.Need-same-length-2
 same-length-2 c = search needs
@@ -58,7 +60,8 @@ returns-2 c =
     let q = d .before .before .before .before in
     let b = build-at q in
     let w = counted b in
-    committed-made _ _ (start w .pre) (w .wide .ensures) (b .build .kept .0) (b .build .ensures) (q .count .given .1) (d .write-built .ensures)
+    committed-made _ _ (start w .pre) (w .wide .ensures) (b .build .kept .0) (b .build .ensures) (q .count .given .1)
+    (d .write-built .ensures)
 
 pub commit-spec : {M : Type 1} → statement M
 commit-spec =

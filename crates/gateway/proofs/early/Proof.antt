@@ -19,7 +19,8 @@ is-shaped-requires c κs = search needs
 
 returns-2 : tie.Need-returns-2
 unfolding early-refusal
-returns-2 c = rw (eq-eqb _ _ (c .before .before .if1 .left), sym (c .before .is-shaped .ensures) ∙ not-true _ (c .if2 .taken))
+returns-2 c =
+    rw (eq-eqb _ _ (c .before .before .if1 .left), sym (c .before .is-shaped .ensures) ∙ not-true _ (c .if2 .taken))
 
 -- the words have the shape of a dictionary
 formed : (e : tie.Else2) → shaped (e .before .before .before .before .before .args .words .now) ≡ true
@@ -29,7 +30,8 @@ read-header-requires : tie.Need-read-header-requires
 read-header-requires c κs = omega (arith, shape _ (formed c))
 
 scratch-for-requires : tie.Need-scratch-for-requires
-scratch-for-requires c κs = let h = same-header (c .read-header .ensures) in rw (h .slots, h .places) (shape _ (formed (c .before)) .sizes)
+scratch-for-requires c κs = let h = same-header (c .read-header .ensures) in
+    rw (h .slots, h .places) (shape _ (formed (c .before)) .sizes)
 
 returns-3 : tie.Need-returns-3
 unfolding early-refusal

@@ -1,4 +1,5 @@
--- `gateway::is_image` meets its contract: the keys that stand in the words get their edges, are one issue of each first part, are built, and the words compared
+-- `gateway::is_image` meets its contract: the keys that stand in the words get their edges, are one issue of each first
+-- part, are built, and the words compared
 -- with their image.
 use mathlib.Core.Path.{_≡_}
 use mathlib.Core.Bool.{true}
@@ -8,7 +9,8 @@ use Rattle.layout.specs.Layout.{one-issue, keys-in}
 use Rattle.layout.specs.Shape.{shape, same-header}
 use Rattle.scratch_set.specs.Collected.{Collected, collected-room}
 use Rattle.gateway.specs.Building.{built-readable}
-use Rattle.gateway.specs.Loading.{collected-searchable, collected-issues, collected-buildable, read-twice, read-full, read-told}
+use Rattle.gateway.specs.Loading.{collected-searchable, collected-issues, collected-buildable, read-twice}
+use Rattle.gateway.specs.Loading.{read-full, read-told}
 use borrow.Author.Needs.{needs}
 use Rattle.gateway.proofs.is_image.Statement.{statement}
 use Rattle.gateway.proofs.is_image.Tie as tie
@@ -24,12 +26,18 @@ abbrev start : tie.After-collect-keys → tie.Start
 start k = k .before .before .before .before .before
 
 collected : (k : tie.After-collect-keys) → let a = start k .args in let h = a .header in
-    Collected (a .tabulation .now) (a .words .now) (k .collect-keys .last .1 .0) (h .slots) (h .places) (h .station) (k .collect-keys .result)
+    Collected (a .tabulation .now) (a .words .now) (k .collect-keys .last .1 .0) (h .slots) (h .places) (h .station)
+    (k .collect-keys .result)
 collected k =
     let p = start k .pre .0 in
     let h = same-header (start k .pre .1) in
     record {
-      ready = record { full-length = p .full-length; shape = p .shape; room = omega (arith, p .room, k .collect-keys .kept .1 .0) };
+      ready = record {
+        full-length = p .full-length;
+        shape = p .shape;
+        room = omega
+            (arith, p .room, k .collect-keys .kept .1 .0);
+      };
       slots = h .slots;
       places = h .places;
       stationed = h .station;
@@ -60,7 +68,8 @@ returns : tie.Need-returns
 returns c =
     let o = c .before in
     let e = tested o in
-    read-twice (collected (keys-at e)) (e .write-edges .kept .1 .1 .0) (e .write-edges .ensures) (o .one-issue .ensures) (not-true _ (c .if1 .taken))
+    read-twice (collected (keys-at e)) (e .write-edges .kept .1 .1 .0) (e .write-edges .ensures)
+    (o .one-issue .ensures) (not-true _ (c .if1 .taken))
 
 -- they are one issue of each first part
 abbrev edges-of : tie.Else1 → tie.After-write-edges
@@ -69,7 +78,8 @@ edges-of o = tested (o .before)
 single : (o : tie.Else1) → one-issue (keys-in (start (keys-at (edges-of o)) .args .words .now)) ≡ true
 single o =
     let e = edges-of o in
-    collected-issues (collected (keys-at e)) (e .write-edges .kept .1 .1 .0) (e .write-edges .ensures) (o .before .one-issue .ensures) (not-false _ (o .if1 .left))
+    collected-issues (collected (keys-at e)) (e .write-edges .kept .1 .1 .0) (e .write-edges .ensures)
+    (o .before .one-issue .ensures) (not-false _ (o .if1 .left))
 
 build-requires : tie.Need-build-requires
 build-requires c κs =
@@ -96,7 +106,8 @@ returns-2 : tie.Need-returns-2
 returns-2 c =
     let b = c .before .before .before .before in
     let e = edges-at b in
-    read-full (collected (keys-at e)) (e .write-edges .kept .1 .1 .0) (e .write-edges .ensures) (single (passed b)) (b .build .kept .0) (b .build .ensures) (c .enum-told .given .1)
+    read-full (collected (keys-at e)) (e .write-edges .kept .1 .1 .0) (e .write-edges .ensures) (single (passed b))
+    (b .build .kept .0) (b .build .ensures) (c .enum-told .given .1)
 
 -- their stash has room
 abbrev build-at : tie.After-count → tie.After-build
@@ -110,7 +121,9 @@ matches-built-requires c κs =
     let k = keys-at e in
     let C = collected k in (
       (shape _ (start k .pre .0 .shape), (C .slots, C .places)),
-      built-readable (collected-room C .0) (collected-buildable C (e .write-edges .kept .1 .1 .0) (e .write-edges .ensures)) (b .build .kept .0) (b .build .ensures)
+      built-readable (collected-room C .0)
+          (collected-buildable C (e .write-edges .kept .1 .1 .0) (e .write-edges .ensures)) (b .build .kept .0)
+          (b .build .ensures)
           (q .count .given .1),
     )
 
@@ -126,10 +139,12 @@ returns-3 c =
     let q = counted c in
     let b = build-at q in
     let e = edges-at b in
-    read-told (collected (keys-at e)) (e .write-edges .kept .1 .1 .0) (e .write-edges .ensures) (single (passed b)) (b .build .kept .0) (b .build .ensures) (q .count .given .1)
+    read-told (collected (keys-at e)) (e .write-edges .kept .1 .1 .0) (e .write-edges .ensures) (single (passed b))
+    (b .build .kept .0) (b .build .ensures) (q .count .given .1)
     (c .matches-built .ensures)
 
 pub is-image-spec : {M : Type 1} → statement M
 is-image-spec =
-    tie.close (tie.spec collect-keys-requires write-edges-requires one-issue-requires same-length returns build-requires enum-known-count
+    tie.close
+    (tie.spec collect-keys-requires write-edges-requires one-issue-requires same-length returns build-requires enum-known-count
     enum-told same-length-2 returns-2 matches-built-requires same-length-3 returns-3)

@@ -19,7 +19,8 @@ returns c =
 abbrev start : tie.Else1 → tie.Start
 start e = e .before .before .before .before .before
 
-ready : (e : tie.Else1) → Ready (start e .args .tabulation .now) (start e .args .words .now) (start e .args .scratch .now)
+ready : (e : tie.Else1) → Ready (start e .args .tabulation .now) (start e .args .words .now)
+    (start e .args .scratch .now)
 ready e = early-ready _ _ _ (e .before .early .ensures) (e .if1 .left)
 
 read-header-requires : tie.Need-read-header-requires
@@ -39,7 +40,8 @@ returns-2 : tie.Need-returns-2
 returns-2 c =
     let i = c .before .before .before in
     let h = headed i in
-    told-set _ _ _ (ready (h .before)) (i .is-image .ensures .0) (c .if2 .taken) (h .read-header .ensures) (i .is-image .kept .1 .1 .0) (i .is-image .ensures .1)
+    told-set _ _ _ (ready (h .before)) (i .is-image .ensures .0) (c .if2 .taken) (h .read-header .ensures)
+    (i .is-image .kept .1 .1 .0) (i .is-image .ensures .1)
 
 same-length-2 : tie.Need-same-length-2
 same-length-2 c = search needs

@@ -46,10 +46,12 @@ returns-2 c =
     let i = c .before in
     let w = counted i in
     told-absent _ _ _ _ (some-key w)
-    (sym (loaded-listed (start w .pre .0) (start w .pre .1) (w .wide .ensures) _ (i .is-at .ensures)) ∙ not-true _ (c .if2 .taken))
+    (sym (loaded-listed (start w .pre .0) (start w .pre .1) (w .wide .ensures) _ (i .is-at .ensures))
+    ∙ not-true _ (c .if2 .taken))
 
 trace-requires : tie.Need-trace-requires
-trace-requires c κs = let w = counted (c .before .before .before) in loaded-traceable (start w .pre .0) (start w .pre .1) (some-key w)
+trace-requires c κs = let w = counted (c .before .before .before) in loaded-traceable (start w .pre .0)
+    (start w .pre .1) (some-key w)
 
 same-length-2 : tie.Need-same-length-2
 same-length-2 c = search needs
@@ -64,7 +66,8 @@ returns-3 c =
     let i = e .before in
     let w = counted i in
     told-listed _ _ _ _ (some-key w)
-    (sym (loaded-listed (start w .pre .0) (start w .pre .1) (w .wide .ensures) _ (i .is-at .ensures)) ∙ not-false _ (e .if2 .left)) (r .trace .ensures)
+    (sym (loaded-listed (start w .pre .0) (start w .pre .1) (w .wide .ensures) _ (i .is-at .ensures))
+    ∙ not-false _ (e .if2 .left)) (r .trace .ensures)
 
 pub trace-listed-spec : {M : Type 1} → statement M
 trace-listed-spec =
