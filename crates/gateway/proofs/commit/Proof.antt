@@ -40,13 +40,21 @@ returns c =
 abbrev build-at : tie.After-count → tie.After-build
 build-at q = q .before .before .before .before
 
+with-stashed-requires : tie.Need-with-stashed-requires
+with-stashed-requires c κs = search needs
+
+-- and the heading tells how many are stashed
+abbrev counts : tie.After-with-stashed → tie.After-count
+counts t = t .before .before
+
 write-built-requires : tie.Need-write-built-requires
 write-built-requires c κs =
-    let q = c .before .before .before in
+    let t = c .before .before in
+    let q = counts t in
     let b = build-at q in
     let w = counted b in
-    committed-readable _ _ (start w .pre) (w .wide .ensures) (b .build .kept .0) (b .build .ensures)
-    (q .count .given .1)
+    rw (t .with-stashed .ensures)
+    (committed-readable _ _ (start w .pre) (w .wide .ensures) (b .build .kept .0) (b .build .ensures) (q .count .given .1))
 
 same-length-2 : tie.Need-same-length-2
 same-length-2 c = search needs
@@ -57,11 +65,12 @@ same-length-3 c = search needs
 returns-2 : tie.Need-returns-2
 returns-2 c =
     let d = c .before .before in
-    let q = d .before .before .before .before in
+    let t = d .before .before .before in
+    let q = counts t in
     let b = build-at q in
     let w = counted b in
     committed-made _ _ (start w .pre) (w .wide .ensures) (b .build .kept .0) (b .build .ensures) (q .count .given .1)
-    (d .write-built .ensures)
+    (rw (t .with-stashed .ensures) at (d .write-built .ensures))
 
 pub commit-spec : {M : Type 1} → statement M
 commit-spec =
@@ -73,6 +82,7 @@ commit-spec =
     enum-told
     same-length
     returns
+    with-stashed-requires
     write-built-requires
     same-length-2
     same-length-3
