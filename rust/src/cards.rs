@@ -24,6 +24,7 @@ use crate::{hashes, stash, TABULATION_LENGTH};
 /// }
 /// # Ok::<(), Refusal>(())
 /// ```
+#[must_use]
 pub fn cards<'a>(tabulation: &'a [u16], words: &'a [u32]) -> impl Iterator<Item = (u32, u32)> + 'a {
     let Parts { r, station, table_0, table_1, stash } =
         parts(tabulation, words).unwrap_or_default();

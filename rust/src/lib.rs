@@ -23,15 +23,25 @@
 
 #![no_std]
 #![deny(missing_docs)]
+#![deny(clippy::missing_errors_doc, clippy::must_use_candidate)]
+
+// The kit's code is x86-64 by the System V convention, with lengths of 64 bits. Linked anywhere else, it would be called
+// with its arguments in other places than those it reads.
+#[cfg(not(all(
+    target_arch = "x86_64",
+    target_pointer_width = "64",
+    not(any(windows, target_os = "uefi"))
+)))]
+compile_error!("the library is x86-64 code (System V): there is none for this processor or system");
 
 mod hashing;
 pub mod raw;
 mod refusal;
 
 #[cfg(feature = "list")]
-mod cards;
+mod calls;
 #[cfg(feature = "list")]
-mod list;
+mod cards;
 #[cfg(feature = "list")]
 mod records;
 #[cfg(feature = "list")]
@@ -41,9 +51,9 @@ pub use hashing::{first_part, hashes, MAX_SLOTS, MAX_STATION, TABULATION_LENGTH,
 pub use refusal::Refusal;
 
 #[cfg(feature = "list")]
-pub use cards::cards;
+pub use calls::{check, close_sale, house, init, insert, lookup, open_sale, remove, stash, trail};
 #[cfg(feature = "list")]
-pub use list::{check, close_sale, house, init, insert, lookup, open_sale, remove, stash, trail};
+pub use cards::cards;
 #[cfg(feature = "list")]
 pub use records::{Counters, Sale};
 #[cfg(feature = "list")]

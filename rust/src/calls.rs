@@ -1,5 +1,5 @@
-//! The calls on a list, safe: slices in, a `Result` out. `pinorange.h` says what each promises; here stands in which
-//! form it comes to Rust.
+//! The calls on a list in the form that C has, safe: slices in, a `Result` out. `pinorange.h` says what each promises;
+//! here stands in which form it comes to Rust. [`List`](crate::List) calls these and no others.
 //!
 //! Why they are safe: the library's calls are proved to read and write nothing outside the memory that they are lent,
 //! for every content and length, and to return. They ask for pointers that are not null, aligned, valid for their
@@ -11,7 +11,10 @@ use crate::{raw, Counters, Sale};
 
 /// Lays an empty dictionary of r slots in each table and s stash places, at a station.
 ///
-/// Refused: `WrongShape`, also if there are not [`words_length`](crate::words_length)`(r, s)` words.
+/// # Errors
+///
+/// `WrongShape`: r, s or the station is outside its range, or there are not
+/// [`words_length`](crate::words_length)`(r, s)` words, and the words stay as they were.
 #[inline]
 pub fn init(
     words: &mut [u32],
@@ -26,8 +29,13 @@ pub fn init(
 
 /// Puts a key with its tier into the set.
 ///
-/// Refused, in this order: `WrongTabulation`, `WrongShape`, `ShortScratch`, `NotCanonical`, `BlankKey`, `WrongTier`,
-/// `OtherIssue`, `OtherTier`, `KeyPresent`, `StashFull`.
+/// Words and scratch are alike in type. Exchanged, they are answered `WrongShape`, and the list is zeros then, as each
+/// scratch is after a call. A [`List`](crate::List) takes a [`Scratch`](crate::Scratch), and nothing can be exchanged.
+///
+/// # Errors
+///
+/// In this order, and the words stay as they were: `WrongTabulation`, `WrongShape`, `ShortScratch`, `NotCanonical`,
+/// `BlankKey`, `WrongTier`, `OtherIssue`, `OtherTier`, `KeyPresent`, `StashFull`.
 ///
 /// ```
 /// use pinorange::{scratch_length, words_length, Counters, Refusal, TABULATION_LENGTH};
@@ -66,9 +74,12 @@ pub fn insert(
     })
 }
 
-/// Takes a key out of the set, this issue and whatever its tier.
+/// Takes a key out of the set, this issue and whatever its tier. Of words and scratch see [`insert`].
 ///
-/// Refused, in this order: `WrongTabulation`, `WrongShape`, `ShortScratch`, `NotCanonical`, `BlankKey`, `KeyAbsent`.
+/// # Errors
+///
+/// In this order, and the words stay as they were: `WrongTabulation`, `WrongShape`, `ShortScratch`, `NotCanonical`,
+/// `BlankKey`, `KeyAbsent`.
 #[inline]
 #[rustfmt::skip]
 pub fn remove(
@@ -86,7 +97,9 @@ pub fn remove(
 /// Whether the words are the canonical image of a set. `Ok` does not say that nobody changed them: a change that makes
 /// them the image of another set is not found, and the header says what to do about it.
 ///
-/// Refused, in this order: `WrongTabulation`, `WrongShape`, `ShortScratch`, `NotCanonical`.
+/// # Errors
+///
+/// In this order: `WrongTabulation`, `WrongShape`, `ShortScratch`, `NotCanonical`.
 #[inline]
 #[rustfmt::skip]
 pub fn check(tabulation: &[u16], words: &[u32], scratch: &mut [u32]) -> Result<(), Refusal> {
@@ -98,10 +111,12 @@ pub fn check(tabulation: &[u16], words: &[u32], scratch: &mut [u32]) -> Result<(
     })
 }
 
-/// The tier of a key, this issue of it, or `None` if it is not listed.
-///
-/// Refused, in this order: `WrongTabulation`, `WrongShape`, `BlankKey`. On words that are no canonical image the tier
+/// The tier of a key, this issue of it, or `None` if it is not listed. On words that are no canonical image the tier
 /// may be any number.
+///
+/// # Errors
+///
+/// In this order: `WrongTabulation`, `WrongShape`, `BlankKey`.
 #[inline]
 #[rustfmt::skip]
 pub fn lookup(tabulation: &[u16], words: &[u32], key: u32) -> Result<Option<u32>, Refusal> {
@@ -118,7 +133,9 @@ pub fn lookup(tabulation: &[u16], words: &[u32], key: u32) -> Result<Option<u32>
 /// The filled stretch of the stash, a part of the words: key and tier of each stashed key, ascending by key in a
 /// canonical image.
 ///
-/// Refused: `WrongShape`, then `NotCanonical` if word 3 counts more stashed keys than there are places.
+/// # Errors
+///
+/// `WrongShape`, then `NotCanonical` if word 3 counts more stashed keys than there are places.
 #[inline]
 pub fn stash(words: &[u32]) -> Result<&[u32], Refusal> {
     let [mut offset, mut length] = [0; 2];
@@ -129,10 +146,13 @@ pub fn stash(words: &[u32]) -> Result<&[u32], Refusal> {
 }
 
 /// The trail of a key, from the key to its root: why it sits where it sits. It is written to `keys`, with zeros
-/// behind it, and what comes back is the part of `keys` that it takes; nothing of a stashed key.
+/// behind it, and what comes back is the part of `keys` that it takes; nothing of a stashed key. 2r words are always
+/// enough.
 ///
-/// Refused, in this order: `WrongTabulation`, `WrongShape`, `ShortScratch`, `NotCanonical`, `BlankKey`, `KeyAbsent`,
-/// `ShortTrail`; then `keys` stays as it was. 2r words are always enough.
+/// # Errors
+///
+/// In this order, and `keys` stays as it was: `WrongTabulation`, `WrongShape`, `ShortScratch`, `NotCanonical`,
+/// `BlankKey`, `KeyAbsent`, `ShortTrail`.
 #[inline]
 #[rustfmt::skip]
 pub fn trail<'a>(
@@ -154,8 +174,11 @@ pub fn trail<'a>(
 /// becomes of the list later does not change the record.
 ///
 /// `steps[t]` is what tier t adds to the base price; a price list has [`STEPS`](crate::STEPS) of them.
-/// Refused, in this order: `WrongTabulation`, `WrongShape`, `BlankKey`, `KeyAbsent`, `NotCanonical` (the tier found is
-/// above 7), `WrongPrice`.
+///
+/// # Errors
+///
+/// In this order: `WrongTabulation`, `WrongShape`, `BlankKey`, `KeyAbsent`, `NotCanonical` (the tier found is above 7),
+/// `WrongPrice`.
 #[inline]
 #[rustfmt::skip]
 pub fn open_sale(
@@ -174,6 +197,7 @@ pub fn open_sale(
 
 /// Closes a sale, at hang-up: the price of the record, though the card may be gone from the list. Never refused.
 #[inline]
+#[must_use]
 pub fn close_sale(sale: &Sale) -> u32 {
     // Safe: the record is lent for this call, and it is proved to read nothing else.
     unsafe { raw::pinorange_close_sale(sale) }
@@ -181,7 +205,9 @@ pub fn close_sale(sale: &Sale) -> u32 {
 
 /// Writes the house tabulation.
 ///
-/// Refused: `WrongTabulation`; then the tabulation stays as it was.
+/// # Errors
+///
+/// `WrongTabulation`, and the tabulation stays as it was.
 #[inline]
 pub fn house(tabulation: &mut [u16]) -> Result<(), Refusal> {
     // Safe: the tabulation is lent for this call alone, and it is proved to touch nothing else.
