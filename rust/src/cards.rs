@@ -1,5 +1,5 @@
-//! Lists the cards of a dictionary. This is plain Rust over the words and two of the calls, tested but not proved. Slots
-//! and places are taken off slices by patterns: `chunks_exact` has a panic, for chunks of length 0.
+//! Lists the cards of a dictionary. This is plain Rust over the words and two of the calls, tested but not proved.
+//! Slots and places are taken off slices by patterns: `chunks_exact` has a panic, for chunks of length 0.
 
 use core::iter::from_fn;
 

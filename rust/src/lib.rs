@@ -56,8 +56,8 @@
 #![deny(missing_docs)]
 #![deny(clippy::missing_errors_doc, clippy::must_use_candidate)]
 
-// The kit's code is x86-64 by the System V convention, with lengths of 64 bits. Linked anywhere else, it would be called
-// with its arguments in other places than those it reads.
+// The kit's code is x86-64 by the System V convention, with lengths of 64 bits. On x86-64 with another convention it
+// would be called with its arguments in other places than those it reads.
 #[cfg(not(all(
     target_arch = "x86_64",
     target_pointer_width = "64",

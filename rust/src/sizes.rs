@@ -29,7 +29,8 @@ pub const fn words_length(r: u32, s: u32) -> usize {
     HEADER_LENGTH.saturating_add(times(6, r)).saturating_add(times(2, s))
 }
 
-/// Where the three words of a slot begin in the words: key, next number and tier. The table is 0 or 1, the slot below r.
+/// Where the three words of a slot begin in the words: key, next number and tier. The table is 0 or 1, the slot below
+/// r.
 #[must_use]
 pub const fn slot_start(r: u32, table: u32, slot: u32) -> usize {
     let before = times(r as usize, table).saturating_add(slot as usize);
