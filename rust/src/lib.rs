@@ -54,6 +54,7 @@
 
 #![no_std]
 #![deny(missing_docs)]
+#![deny(unsafe_code)]
 #![deny(clippy::missing_errors_doc, clippy::must_use_candidate)]
 
 // The kit's code is x86-64 by the System V convention, with lengths of 64 bits. On x86-64 with another convention it
@@ -65,12 +66,16 @@
 )))]
 compile_error!("the library is x86-64 code (System V): there is none for this processor or system");
 
+// The two modules that call the library.
+#[allow(unsafe_code)]
+#[cfg(feature = "list")]
+mod calls;
+#[allow(unsafe_code)]
 mod hashing;
+
 pub mod raw;
 mod refusal;
 
-#[cfg(feature = "list")]
-mod calls;
 #[cfg(feature = "list")]
 mod cards;
 #[cfg(feature = "list")]

@@ -27,14 +27,15 @@ const AFTER: &str = "
 }
 ";
 
-/// Lines that are right, for each call that takes words or scratch.
-const RIGHT: [&str; 6] = [
+/// Lines that are right: each call that takes words or scratch, and a list that two threads read.
+const RIGHT: [&str; 7] = [
     "list.insert(&mut scratch, 410_017, 3)?;",
     "list.remove(&mut scratch, 410_017)?;",
     "list.check(&mut scratch)?;",
     "list.trail(&mut scratch, 410_017, keys)?;",
     "List::init(&tabulation, other_words, 16, 2, 17, &mut other_counters)?;",
     "List::open(&tabulation, other_words, &mut other, &mut other_counters)?;",
+    "fn may_be_shared<T: Send + Sync>(_: &T) {} may_be_shared(&list);",
 ];
 
 /// Lines that are wrong, with the compiler's number of what is.
