@@ -1,7 +1,8 @@
 //! A short head: it lays its list at station 17, takes three cards, is refused a fourth, sells a fill-up, and lists
 //! what it has. Run it with `cargo run --example head`.
 
-use pinorange::{scratch_length, words_length, Counters, Refusal, STEPS, TABULATION_LENGTH};
+use pinorange::{scratch_length, words_length, Counters, List, Refusal, Scratch};
+use pinorange::{STEPS, TABULATION_LENGTH};
 
 /// Slots in each table, stash places, and the number of the station.
 const R: u32 = 64;
@@ -15,13 +16,13 @@ fn main() -> Result<(), Refusal> {
     // All memory is the head's own; firmware would have it in statics.
     let mut tabulation = [0; TABULATION_LENGTH];
     let mut words = [0; words_length(R, S)];
-    let mut scratch = [0; scratch_length(R, S)];
+    let mut scratch = Scratch::<[u32; scratch_length(R, S)]>::new();
     let mut counters = Counters::default();
     pinorange::house(&mut tabulation)?;
-    pinorange::init(&mut words, R, S, STATION, &mut counters)?;
+    let mut list = List::init(&tabulation, &mut words, R, S, STATION, &mut counters)?;
 
     for (card, tier) in [(410_010, 1), (410_025, 0), (733_001, 3), (410_013, 1)] {
-        match pinorange::insert(&tabulation, &mut words, &mut scratch, &mut counters, card, tier) {
+        match list.insert(&mut scratch, card, tier) {
             Ok(()) => println!("{card}: listed at tier {tier}"),
             Err(Refusal::OtherIssue) => println!("{card}: withdraw the lost one first"),
             Err(Refusal::StashFull) => println!("{card}: no room"),
@@ -29,20 +30,22 @@ fn main() -> Result<(), Refusal> {
         }
     }
 
-    match pinorange::lookup(&tabulation, &words, 410_010)? {
+    match list.lookup(410_010)? {
         Some(tier) => println!("410010: tier {tier}"),
         None => println!("410010: not listed"),
     }
 
     // Nozzle lift. The card is withdrawn while the customer fills up, and the price stays.
-    let sale = pinorange::open_sale(&tabulation, &words, 410_010, 1_749, &PRICES)?;
-    pinorange::remove(&tabulation, &mut words, &mut scratch, &mut counters, 410_010)?;
+    let sale = list.open_sale(410_010, 1_749, &PRICES)?;
+    list.remove(&mut scratch, 410_010)?;
     println!("{}: {} tenths of a cent a litre", sale.key, pinorange::close_sale(&sale));
 
-    for (card, tier) in pinorange::cards(&tabulation, &words) {
+    println!("{} cards:", list.len());
+    for (card, tier) in list.cards() {
         println!("{card} at tier {tier}");
     }
-    println!("{} calls done, {} refused", counters.done, counters.refused);
+    let Counters { done, refused } = list.counters();
+    println!("{done} calls done, {refused} refused");
     Ok(())
 }
 

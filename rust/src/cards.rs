@@ -1,4 +1,7 @@
 //! Lists the cards of a dictionary. This is plain Rust over the words and two of the calls, tested but not proved.
+//! Slots and places are taken off slices by patterns: `chunks_exact` has a panic, for chunks of length 0.
+
+use core::iter::from_fn;
 
 use crate::{hashes, stash, TABULATION_LENGTH};
 
@@ -30,8 +33,8 @@ pub fn cards<'a>(tabulation: &'a [u16], words: &'a [u32]) -> impl Iterator<Item 
     // The smallest key of a component without a cycle sits in both its slots.
     let sits_in_table_0 = move |key| {
         let [number, _] = hashes(tabulation, r, station, key).ok()?;
-        let slot = table_0.chunks_exact(3).nth(number as usize)?;
-        Some(*slot.first()? == key)
+        let start = (number as usize).checked_mul(3)?;
+        Some(*table_0.get(start)? == key)
     };
     let only_in_table_1 =
         filled(table_1).filter(move |&(key, _)| sits_in_table_0(key) != Some(true));
@@ -63,17 +66,20 @@ fn parts<'a>(tabulation: &[u16], words: &'a [u32]) -> Option<Parts<'a>> {
 }
 
 /// Key and tier of each filled slot of a table: a slot is key, next number and tier.
-fn filled(table: &[u32]) -> impl Iterator<Item = (u32, u32)> + '_ {
-    table.chunks_exact(3).filter_map(|slot| match *slot {
-        [key, _, tier] if key != 0 => Some((key, tier)),
-        _ => None,
-    })
+fn filled(mut table: &[u32]) -> impl Iterator<Item = (u32, u32)> + '_ {
+    let slots = from_fn(move || {
+        let [key, _, tier, behind @ ..] = table else { return None };
+        table = behind;
+        Some((*key, *tier))
+    });
+    slots.filter(|(key, _)| *key != 0)
 }
 
 /// Key and tier of each place of a stretch of the stash.
-fn places(stash: &[u32]) -> impl Iterator<Item = (u32, u32)> + '_ {
-    stash.chunks_exact(2).filter_map(|place| match *place {
-        [key, tier] => Some((key, tier)),
-        _ => None,
+pub(crate) fn places(mut stash: &[u32]) -> impl Iterator<Item = (u32, u32)> + '_ {
+    from_fn(move || {
+        let [key, tier, behind @ ..] = stash else { return None };
+        stash = behind;
+        Some((*key, *tier))
     })
 }

@@ -16,13 +16,16 @@ pub const MAX_SLOTS: u32 = 1_024;
 pub const MAX_STATION: u32 = 255;
 
 /// The first part of a key: all but its last decimal digit, which is its issue.
+#[must_use]
 pub const fn first_part(key: u32) -> u32 {
     key / 10
 }
 
 /// The two slots in which a key may sit, that of table 0 first, with tables of r slots at a station.
 ///
-/// Refused: `WrongTabulation`, `WrongShape` (r or the station is outside its range), `BlankKey`, tried in that order.
+/// # Errors
+///
+/// In this order: `WrongTabulation`, `WrongShape` (r or the station is outside its range), `BlankKey`.
 ///
 /// ```
 /// use pinorange::{hashes, Refusal, TABULATION_LENGTH};

@@ -1,215 +1,279 @@
-//! The calls on a list, safe: slices in, a `Result` out. `pinorange.h` says what each promises; here stands in which
-//! form it comes to Rust.
-//!
-//! Why they are safe: the library's calls are proved to read and write nothing outside the memory that they are lent,
-//! for every content and length, and to return. They ask for pointers that are not null, aligned, valid for their
-//! lengths and apart from each other, and so are slices and references: two of them, one of which may be written
-//! through, never overlap.
+//! A list as one value: tabulation, words and counters, lent together, so that they stay together. Its methods are the
+//! functions of calls.rs on them, and nothing besides.
 
-use crate::refusal::{done, Refusal};
-use crate::{raw, Counters, Sale};
+use core::fmt;
 
-/// Lays an empty dictionary of r slots in each table and s stash places, at a station.
+use crate::calls;
+use crate::cards::{cards, places};
+use crate::{Counters, Refusal, Sale, Scratch, STEPS, TABULATION_LENGTH};
+
+/// A card list over memory that it is lent: a tabulation, words and counters.
 ///
-/// Refused: `WrongShape`, also if there are not [`words_length`](crate::words_length)`(r, s)` words.
-#[inline]
-pub fn init(
-    words: &mut [u32],
-    r: u32,
-    s: u32,
-    station: u32,
-    counters: &mut Counters,
-) -> Result<(), Refusal> {
-    // Safe: words and counters are lent for this call alone, and it is proved to touch nothing else.
-    done(unsafe { raw::pinorange_init(words.as_mut_ptr(), words.len(), r, s, station, counters) })
-}
-
-/// Puts a key with its tier into the set.
+/// [`init`](List::init) lays an empty one, [`open`](List::open) takes words that are a list already, and checks that
+/// they are. From then on nothing else in safe Rust can write the words or the tabulation, so that the words stay the
+/// canonical image of a set under this tabulation. `WrongShape` and `NotCanonical`, where a method may give them, say
+/// that it happened all the same: by a fault of the memory, or by another program. What to do then stands in
+/// `pinorange.h`: lay the list afresh, and insert all cards again from a record of your own.
 ///
-/// Refused, in this order: `WrongTabulation`, `WrongShape`, `ShortScratch`, `NotCanonical`, `BlankKey`, `WrongTier`,
-/// `OtherIssue`, `OtherTier`, `KeyPresent`, `StashFull`.
+/// Two lists of the same cards at the same tiers, with one tabulation, of one size and station, have the same
+/// [`words`](List::words), whatever came before. Methods that take `&self` may run side by side.
 ///
 /// ```
-/// use pinorange::{scratch_length, words_length, Counters, Refusal, TABULATION_LENGTH};
+/// use pinorange::{scratch_length, words_length, Counters, List, Refusal, Scratch, TABULATION_LENGTH};
 ///
 /// const R: u32 = 16;
 /// const S: u32 = 2;
 /// let mut tabulation = [0; TABULATION_LENGTH];
 /// let mut words = [0; words_length(R, S)];
-/// let mut scratch = [0; scratch_length(R, S)];
+/// let mut scratch = Scratch::<[u32; scratch_length(R, S)]>::new();
 /// let mut counters = Counters::default();
 /// pinorange::house(&mut tabulation)?;
-/// pinorange::init(&mut words, R, S, 17, &mut counters)?;
-/// pinorange::insert(&tabulation, &mut words, &mut scratch, &mut counters, 410_010, 3)?;
-/// assert_eq!(pinorange::lookup(&tabulation, &words, 410_010), Ok(Some(3)));
+/// let mut list = List::init(&tabulation, &mut words, R, S, 17, &mut counters)?;
+/// list.insert(&mut scratch, 410_010, 3)?;
 ///
 /// // The card is made again: the old issue goes before the new one comes.
-/// let answer = pinorange::insert(&tabulation, &mut words, &mut scratch, &mut counters, 410_013, 3);
-/// assert_eq!(answer, Err(Refusal::OtherIssue));
-/// pinorange::remove(&tabulation, &mut words, &mut scratch, &mut counters, 410_010)?;
-/// pinorange::insert(&tabulation, &mut words, &mut scratch, &mut counters, 410_013, 3)?;
-/// assert_eq!(pinorange::lookup(&tabulation, &words, 410_010), Ok(None));
-/// assert_eq!(counters, Counters { done: 4, refused: 1 });
+/// assert_eq!(list.insert(&mut scratch, 410_013, 3), Err(Refusal::OtherIssue));
+/// list.remove(&mut scratch, 410_010)?;
+/// list.insert(&mut scratch, 410_013, 3)?;
+/// assert_eq!(list.lookup(410_010), Ok(None));
+/// assert_eq!(list.lookup(410_013), Ok(Some(3)));
+/// assert_eq!(list.counters(), Counters { done: 4, refused: 1 });
 /// # Ok::<(), Refusal>(())
 /// ```
-#[inline]
-#[rustfmt::skip]
-pub fn insert(
-    tabulation: &[u16], words: &mut [u32], scratch: &mut [u32], counters: &mut Counters, key: u32, tier: u32,
-) -> Result<(), Refusal> {
-    // Safe: all four are lent for this call alone and lie apart, and it is proved to touch nothing else.
-    done(unsafe {
-        raw::pinorange_insert(
-            tabulation.as_ptr(), tabulation.len(), words.as_mut_ptr(), words.len(),
-            scratch.as_mut_ptr(), scratch.len(), counters, key, tier,
-        )
-    })
+pub struct List<'a> {
+    tabulation: &'a [u16; TABULATION_LENGTH],
+    words: &'a mut [u32],
+    counters: &'a mut Counters,
 }
 
-/// Takes a key out of the set, this issue and whatever its tier.
-///
-/// Refused, in this order: `WrongTabulation`, `WrongShape`, `ShortScratch`, `NotCanonical`, `BlankKey`, `KeyAbsent`.
-#[inline]
-#[rustfmt::skip]
-pub fn remove(
-    tabulation: &[u16], words: &mut [u32], scratch: &mut [u32], counters: &mut Counters, key: u32,
-) -> Result<(), Refusal> {
-    // Safe: all four are lent for this call alone and lie apart, and it is proved to touch nothing else.
-    done(unsafe {
-        raw::pinorange_remove(
-            tabulation.as_ptr(), tabulation.len(), words.as_mut_ptr(), words.len(),
-            scratch.as_mut_ptr(), scratch.len(), counters, key,
-        )
-    })
+impl<'a> List<'a> {
+    /// Lays an empty list of r slots in each table and s stash places, at a station, whatever the words were.
+    ///
+    /// # Errors
+    ///
+    /// `WrongShape`: r, s or the station is outside its range, or there are not
+    /// [`words_length`](crate::words_length)`(r, s)` words. The words stay as they were, and the counters count it.
+    #[inline]
+    pub fn init(
+        tabulation: &'a [u16; TABULATION_LENGTH],
+        words: &'a mut [u32],
+        r: u32,
+        s: u32,
+        station: u32,
+        counters: &'a mut Counters,
+    ) -> Result<List<'a>, Refusal> {
+        calls::init(words, r, s, station, counters)?;
+        Ok(List { tabulation, words, counters })
+    }
+
+    /// Takes words that are a list already, after a check of the whole. The counters stay as they are. Of what a check
+    /// cannot find, see [`check`](List::check).
+    ///
+    /// ```
+    /// # use pinorange::{scratch_length, words_length, Counters, List, Refusal, Scratch, TABULATION_LENGTH};
+    /// # let (mut tabulation, mut counters) = ([0; TABULATION_LENGTH], Counters::default());
+    /// # let mut words = [0; words_length(16, 2)];
+    /// # let mut scratch = Scratch::<[u32; scratch_length(16, 2)]>::new();
+    /// # pinorange::house(&mut tabulation)?;
+    /// let mut list = List::init(&tabulation, &mut words, 16, 2, 17, &mut counters)?;
+    /// list.insert(&mut scratch, 410_017, 3)?;
+    ///
+    /// // Later, from the words alone.
+    /// let list = List::open(&tabulation, &mut words, &mut scratch, &mut counters)?;
+    /// assert_eq!((list.len(), list.station()), (1, 17));
+    ///
+    /// // The count of keys is word 2, and here one too high.
+    /// words[2] += 1;
+    /// let answer = List::open(&tabulation, &mut words, &mut scratch, &mut counters);
+    /// assert_eq!(answer.err(), Some(Refusal::NotCanonical));
+    /// # Ok::<(), Refusal>(())
+    /// ```
+    ///
+    /// # Errors
+    ///
+    /// In this order: `WrongShape`, `ShortScratch`, `NotCanonical`. The words stay as they were.
+    #[inline]
+    pub fn open(
+        tabulation: &'a [u16; TABULATION_LENGTH],
+        words: &'a mut [u32],
+        scratch: &mut Scratch,
+        counters: &'a mut Counters,
+    ) -> Result<List<'a>, Refusal> {
+        calls::check(tabulation, words, scratch.words())?;
+        Ok(List { tabulation, words, counters })
+    }
+
+    /// Puts a key with its tier into the set.
+    ///
+    /// # Errors
+    ///
+    /// In this order, and the words stay as they were: `ShortScratch`, `BlankKey`, `WrongTier`, `OtherIssue`,
+    /// `OtherTier`, `KeyPresent`, `StashFull`; before `ShortScratch` `WrongShape`, and behind it `NotCanonical`, if
+    /// something else has written the memory.
+    #[inline]
+    pub fn insert(&mut self, scratch: &mut Scratch, key: u32, tier: u32) -> Result<(), Refusal> {
+        calls::insert(self.tabulation, self.words, scratch.words(), self.counters, key, tier)
+    }
+
+    /// Takes a key out of the set, this issue and whatever its tier.
+    ///
+    /// # Errors
+    ///
+    /// In this order, and the words stay as they were: `ShortScratch`, `BlankKey`, `KeyAbsent`; `WrongShape` and
+    /// `NotCanonical` as for [`insert`](List::insert).
+    #[inline]
+    pub fn remove(&mut self, scratch: &mut Scratch, key: u32) -> Result<(), Refusal> {
+        calls::remove(self.tabulation, self.words, scratch.words(), self.counters, key)
+    }
+
+    /// Whether the words are still the canonical image of a set. `Ok` does not say that nothing changed them: a change
+    /// that makes them the image of another set is not found, and the header says what to do about it.
+    ///
+    /// # Errors
+    ///
+    /// In this order: `WrongShape`, `ShortScratch`, `NotCanonical`.
+    #[inline]
+    pub fn check(&self, scratch: &mut Scratch) -> Result<(), Refusal> {
+        calls::check(self.tabulation, self.words, scratch.words())
+    }
+
+    /// The tier of a key, this issue of it, or `None` if it is not listed.
+    ///
+    /// # Errors
+    ///
+    /// `BlankKey`; before it `WrongShape`, if something else has written the memory.
+    #[inline]
+    pub fn lookup(&self, key: u32) -> Result<Option<u32>, Refusal> {
+        calls::lookup(self.tabulation, self.words, key)
+    }
+
+    /// Opens a sale, at nozzle lift: the record with the card's tier and its price. The list stays as it is, and what
+    /// becomes of it later does not change the record. [`close_sale`](crate::close_sale) gives its price, at hang-up.
+    ///
+    /// `steps[t]` is what tier t adds to the base price.
+    ///
+    /// ```
+    /// # use pinorange::{scratch_length, words_length, Counters, List, Refusal, Scratch, TABULATION_LENGTH};
+    /// # let (mut tabulation, mut counters) = ([0; TABULATION_LENGTH], Counters::default());
+    /// # let mut words = [0; words_length(16, 2)];
+    /// # let mut scratch = Scratch::<[u32; scratch_length(16, 2)]>::new();
+    /// # pinorange::house(&mut tabulation)?;
+    /// # let mut list = List::init(&tabulation, &mut words, 16, 2, 17, &mut counters)?;
+    /// # list.insert(&mut scratch, 410_017, 3)?;
+    /// let sale = list.open_sale(410_017, 1_749, &[0, -10, -20, -50, 0, 0, 20, -250])?;
+    /// list.remove(&mut scratch, 410_017)?;
+    /// assert_eq!(pinorange::close_sale(&sale), 1_699);
+    /// # Ok::<(), Refusal>(())
+    /// ```
+    ///
+    /// # Errors
+    ///
+    /// In this order: `BlankKey`, `KeyAbsent`, `WrongPrice`; before `BlankKey` `WrongShape`, and behind `KeyAbsent`
+    /// `NotCanonical` (the tier found is above 7), if something else has written the memory.
+    #[inline]
+    pub fn open_sale(&self, key: u32, base: u32, steps: &[i32; STEPS]) -> Result<Sale, Refusal> {
+        calls::open_sale(self.tabulation, self.words, key, base, steps)
+    }
+
+    /// The trail of a key, from the key to its root: why it sits where it sits. It is written to `keys`, with zeros
+    /// behind it, and what comes back is the part of `keys` that it takes; nothing of a stashed key. Twice as many
+    /// words as a table has [`slots`](List::slots) are always enough.
+    ///
+    /// # Errors
+    ///
+    /// In this order, and `keys` stays as it was: `ShortScratch`, `BlankKey`, `KeyAbsent`, `ShortTrail`; `WrongShape`
+    /// and `NotCanonical` as for [`insert`](List::insert).
+    #[inline]
+    pub fn trail<'k>(
+        &self,
+        scratch: &mut Scratch,
+        key: u32,
+        keys: &'k mut [u32],
+    ) -> Result<&'k [u32], Refusal> {
+        calls::trail(self.tabulation, self.words, scratch.words(), key, keys)
+    }
+
+    /// Each card once, with its tier: those that sit in table 0, slot by slot, then those that sit in table 1 alone,
+    /// then the stash. It is plain Rust over the words, tested but not proved; if something else has written the
+    /// memory, see the function [`cards`].
+    pub fn cards(&self) -> impl Iterator<Item = (u32, u32)> + '_ {
+        cards(self.tabulation, self.words)
+    }
+
+    /// Each stashed card, ascending, with its tier.
+    ///
+    /// # Errors
+    ///
+    /// In this order, if something else has written the memory: `WrongShape`, `NotCanonical` (word 3 counts more
+    /// stashed keys than there are places).
+    pub fn stash(&self) -> Result<impl Iterator<Item = (u32, u32)> + '_, Refusal> {
+        calls::stash(self.words).map(places)
+    }
+
+    /// How many keys there are, stashed ones included.
+    #[inline]
+    #[must_use]
+    pub fn len(&self) -> usize {
+        self.heading(2) as usize
+    }
+
+    /// Whether there is no key.
+    #[inline]
+    #[must_use]
+    pub fn is_empty(&self) -> bool {
+        self.len() == 0
+    }
+
+    /// How many slots each table has: r.
+    #[inline]
+    #[must_use]
+    pub fn slots(&self) -> u32 {
+        self.heading(0)
+    }
+
+    /// How many places the stash has: s.
+    #[inline]
+    #[must_use]
+    pub fn places(&self) -> u32 {
+        self.heading(1)
+    }
+
+    /// The station that the list was laid with.
+    #[inline]
+    #[must_use]
+    pub fn station(&self) -> u32 {
+        self.heading(4)
+    }
+
+    /// How many calls that change a list were done and refused, since whoever lent the counters cleared them.
+    #[inline]
+    #[must_use]
+    pub fn counters(&self) -> Counters {
+        *self.counters
+    }
+
+    /// The words, to compare with those of another head, or to send them. The header has their layout.
+    #[inline]
+    #[must_use]
+    pub fn words(&self) -> &[u32] {
+        self.words
+    }
+
+    /// A word of the heading. There are five in every list.
+    fn heading(&self, word: usize) -> u32 {
+        self.words.get(word).copied().unwrap_or_default()
+    }
 }
 
-/// Whether the words are the canonical image of a set. `Ok` does not say that nobody changed them: a change that makes
-/// them the image of another set is not found, and the header says what to do about it.
-///
-/// Refused, in this order: `WrongTabulation`, `WrongShape`, `ShortScratch`, `NotCanonical`.
-#[inline]
-#[rustfmt::skip]
-pub fn check(tabulation: &[u16], words: &[u32], scratch: &mut [u32]) -> Result<(), Refusal> {
-    // Safe: all three are lent for this call and lie apart, and it is proved to write the scratch alone.
-    done(unsafe {
-        raw::pinorange_check(
-            tabulation.as_ptr(), tabulation.len(), words.as_ptr(), words.len(), scratch.as_mut_ptr(), scratch.len(),
-        )
-    })
-}
-
-/// The tier of a key, this issue of it, or `None` if it is not listed.
-///
-/// Refused, in this order: `WrongTabulation`, `WrongShape`, `BlankKey`. On words that are no canonical image the tier
-/// may be any number.
-#[inline]
-#[rustfmt::skip]
-pub fn lookup(tabulation: &[u16], words: &[u32], key: u32) -> Result<Option<u32>, Refusal> {
-    let [mut listed, mut tier] = [0; 2];
-    // Safe: both are lent for this call, and it is proved to write nothing but the two numbers, this function's own.
-    done(unsafe {
-        raw::pinorange_lookup(
-            tabulation.as_ptr(), tabulation.len(), words.as_ptr(), words.len(), key, &mut listed, &mut tier,
-        )
-    })?;
-    Ok((listed == 1).then_some(tier))
-}
-
-/// The filled stretch of the stash, a part of the words: key and tier of each stashed key, ascending by key in a
-/// canonical image.
-///
-/// Refused: `WrongShape`, then `NotCanonical` if word 3 counts more stashed keys than there are places.
-#[inline]
-pub fn stash(words: &[u32]) -> Result<&[u32], Refusal> {
-    let [mut offset, mut length] = [0; 2];
-    // Safe: the words are lent for this call, and it is proved to write nothing but the two numbers, which are this
-    // function's own.
-    done(unsafe { raw::pinorange_stash(words.as_ptr(), words.len(), &mut offset, &mut length) })?;
-    part(words, offset, length)
-}
-
-/// The trail of a key, from the key to its root: why it sits where it sits. It is written to `keys`, with zeros
-/// behind it, and what comes back is the part of `keys` that it takes; nothing of a stashed key.
-///
-/// Refused, in this order: `WrongTabulation`, `WrongShape`, `ShortScratch`, `NotCanonical`, `BlankKey`, `KeyAbsent`,
-/// `ShortTrail`; then `keys` stays as it was. 2r words are always enough.
-#[inline]
-#[rustfmt::skip]
-pub fn trail<'a>(
-    tabulation: &[u16], words: &[u32], scratch: &mut [u32], key: u32, keys: &'a mut [u32],
-) -> Result<&'a [u32], Refusal> {
-    let mut count = 0;
-    // Safe: all four are lent for this call and lie apart, and it is proved to write nothing but the scratch, the keys
-    // and the number, which is this function's own.
-    done(unsafe {
-        raw::pinorange_trail(
-            tabulation.as_ptr(), tabulation.len(), words.as_ptr(), words.len(),
-            scratch.as_mut_ptr(), scratch.len(), key, keys.as_mut_ptr(), keys.len(), &mut count,
-        )
-    })?;
-    part(keys, 0, count)
-}
-
-/// Opens a sale, at nozzle lift: the record with the card's tier and its price. The list stays as it is, and what
-/// becomes of the list later does not change the record.
-///
-/// `steps[t]` is what tier t adds to the base price; a price list has [`STEPS`](crate::STEPS) of them.
-/// Refused, in this order: `WrongTabulation`, `WrongShape`, `BlankKey`, `KeyAbsent`, `NotCanonical` (the tier found is
-/// above 7), `WrongPrice`.
-#[inline]
-#[rustfmt::skip]
-pub fn open_sale(
-    tabulation: &[u16], words: &[u32], key: u32, base: u32, steps: &[i32],
-) -> Result<Sale, Refusal> {
-    let mut sale = Sale { key: 0, tier: 0, price: 0 };
-    // Safe: all three are lent for this call, and it is proved to write nothing but the record, this function's own.
-    done(unsafe {
-        raw::pinorange_open_sale(
-            tabulation.as_ptr(), tabulation.len(), words.as_ptr(), words.len(), key,
-            base, steps.as_ptr(), steps.len(), &mut sale,
-        )
-    })?;
-    Ok(sale)
-}
-
-/// Closes a sale, at hang-up: the price of the record, though the card may be gone from the list. Never refused.
-#[inline]
-pub fn close_sale(sale: &Sale) -> u32 {
-    // Safe: the record is lent for this call, and it is proved to read nothing else.
-    unsafe { raw::pinorange_close_sale(sale) }
-}
-
-/// Writes the house tabulation.
-///
-/// Refused: `WrongTabulation`; then the tabulation stays as it was.
-#[inline]
-pub fn house(tabulation: &mut [u16]) -> Result<(), Refusal> {
-    // Safe: the tabulation is lent for this call alone, and it is proved to touch nothing else.
-    done(unsafe { raw::pinorange_house(tabulation.as_mut_ptr(), tabulation.len()) })
-}
-
-/// The part of lent memory that a call named. The library is proved to name none that is not there; one of another
-/// version that does is answered for with `Unknown(0)`, and nothing panics.
-fn part(lent: &[u32], offset: u32, length: u32) -> Result<&[u32], Refusal> {
-    let behind = lent.get(offset as usize..);
-    behind.and_then(|behind| behind.get(..length as usize)).ok_or(Refusal::Unknown(0))
-}
-
-#[cfg(test)]
-mod tests {
-    use super::part;
-    use crate::Refusal;
-
-    /// What a faulty library may name: up to the end of the memory it is a part, and beyond it a refusal.
-    #[test]
-    fn a_part_that_is_not_there() {
-        let lent = [1, 2, 3];
-        assert_eq!(part(&lent, 1, 2), Ok(&lent[1..]));
-        assert_eq!(part(&lent, 3, 0), Ok(&lent[3..]));
-        for (offset, length) in
-            [(0, 4), (1, 3), (3, 1), (4, 0), (1, u32::MAX), (u32::MAX, u32::MAX)]
-        {
-            assert_eq!(part(&lent, offset, length), Err(Refusal::Unknown(0)), "{offset}, {length}");
-        }
+/// Sizes and counts alone: a card number has no place in a log.
+impl fmt::Debug for List<'_> {
+    fn fmt(&self, f: &mut fmt::Formatter) -> fmt::Result {
+        f.debug_struct("List")
+            .field("slots", &self.slots())
+            .field("places", &self.places())
+            .field("station", &self.station())
+            .field("len", &self.len())
+            .field("counters", self.counters)
+            .finish_non_exhaustive()
     }
 }

@@ -42,6 +42,7 @@ pub enum Refusal {
 
 impl Refusal {
     /// The refusal with this number; none of 0, which is no refusal.
+    #[must_use]
     pub const fn of(number: u32) -> Option<Refusal> {
         Some(match number {
             0 => return None,
@@ -63,6 +64,7 @@ impl Refusal {
     }
 
     /// The number that the library answers.
+    #[must_use]
     pub const fn number(self) -> u32 {
         match self {
             Refusal::WrongTabulation => 1,

@@ -24,22 +24,27 @@ pub const HEADER_LENGTH: usize = 5;
 /// static WORDS: [u32; pinorange::words_length(1_024, 64)] = [0; pinorange::words_length(1_024, 64)];
 /// assert_eq!(WORDS.len(), 6_277);
 /// ```
+#[must_use]
 pub const fn words_length(r: u32, s: u32) -> usize {
     HEADER_LENGTH.saturating_add(times(6, r)).saturating_add(times(2, s))
 }
 
-/// Where the three words of a slot begin in the words: key, next number and tier. The table is 0 or 1, the slot below r.
+/// Where the three words of a slot begin in the words: key, next number and tier. The table is 0 or 1, the slot below
+/// r.
+#[must_use]
 pub const fn slot_start(r: u32, table: u32, slot: u32) -> usize {
     let before = times(r as usize, table).saturating_add(slot as usize);
     HEADER_LENGTH.saturating_add(before.saturating_mul(3))
 }
 
 /// Where the two words of a stash place begin in the words: key and tier. The place is below s.
+#[must_use]
 pub const fn place_start(r: u32, place: u32) -> usize {
     words_length(r, place)
 }
 
 /// How many words of scratch insert, remove, check and trail borrow, at least: 12r + 8s.
+#[must_use]
 pub const fn scratch_length(r: u32, s: u32) -> usize {
     times(12, r).saturating_add(times(8, s))
 }

@@ -1,0 +1,226 @@
+//! A `List` of the crate beside the exported calls on a copy of its memory, in one random run: every answer, every
+//! word, the counters, and all that a list tells. The answers are counted, and each that a call can give must come up.
+
+use std::collections::{BTreeMap, BTreeSet};
+
+use library::{entries, words_length};
+use pinorange::{Counters, List, Refusal, Sale, Scratch, STEPS, TABULATION_LENGTH};
+use reference::rng::Rng;
+use reference::samples::{random_station, random_tabulation};
+
+/// The largest sizes of the run, and a scratch for them. The short one is so for every list.
+const MAX_R: usize = 12;
+const MAX_S: usize = 3;
+const LONG: usize = 12 * MAX_R + 8 * MAX_S;
+const SHORT: usize = 11;
+
+/// What an out-parameter holds before a call.
+const OLD: u32 = 0xDEAD_BEEF;
+
+/// The answers that each call of a list can give, in safe Rust.
+const ANSWERS: [(&str, &[u32]); 8] = [
+    ("init", &[0, 2]),
+    ("open", &[0, 2, 3, 4]),
+    ("insert", &[0, 3, 5, 9, 13, 10, 6, 8]),
+    ("remove", &[0, 3, 5, 7]),
+    ("check", &[0, 3]),
+    ("lookup", &[0, 5]),
+    ("open_sale", &[0, 5, 7, 12]),
+    ("trail", &[0, 3, 5, 7, 11]),
+];
+
+/// How often each call gave each answer.
+#[derive(Default)]
+struct Seen(BTreeMap<(&'static str, u32), u64>);
+
+impl Seen {
+    /// Compares what a call of a list gave with the number and the value of the exported call, and counts it.
+    fn compare<T: PartialEq + std::fmt::Debug>(
+        &mut self,
+        call: &'static str,
+        told: Result<T, Refusal>,
+        answer: u32,
+        value: T,
+    ) {
+        let expected = Refusal::of(answer).map_or(Ok(value), Err);
+        assert_eq!(told, expected, "{call}");
+        *self.0.entry((call, answer)).or_default() += 1;
+    }
+
+    /// Fails where a call never gave an answer that it can give, or gave another one.
+    fn report(&self) {
+        println!("{:?}", self.0);
+        let possible = ANSWERS.iter().flat_map(|(call, all)| all.iter().map(|one| (*call, *one)));
+        let given: BTreeSet<(&str, u32)> = self.0.keys().copied().collect();
+        assert_eq!(given, possible.collect());
+    }
+}
+
+/// A scratch for a list, and one of the same length for the exported calls, with another content.
+fn scratch(rng: &mut Rng) -> (Box<Scratch>, Vec<u32>) {
+    if rng.one_in(12) {
+        return (Box::new(Scratch::<[u32; SHORT]>::new()), vec![rng.next_u32(); SHORT]);
+    }
+    (Box::new(Scratch::<[u32; LONG]>::new()), vec![rng.next_u32(); LONG])
+}
+
+/// A key, at times a blank one, of so few first parts that they meet again.
+fn random_key(rng: &mut Rng, slots: u32) -> u32 {
+    let first_part = rng.below(3 * slots as usize + 2) as u32;
+    10 * first_part + rng.below(2) as u32
+}
+
+/// A list, and the exported calls' memory beside it.
+struct Beside<'a> {
+    list: List<'a>,
+    tabulation: &'a [u16; TABULATION_LENGTH],
+    words: Vec<u32>,
+    counters: Counters,
+}
+
+impl Beside<'_> {
+    /// One call of a random kind on both.
+    fn step(&mut self, rng: &mut Rng, seen: &mut Seen) {
+        match rng.below(9) {
+            0..=2 => self.insert(rng, seen),
+            3 => self.remove(rng, seen),
+            4 => self.check(rng, seen),
+            5 => self.lookup(rng, seen),
+            6 => self.open_sale(rng, seen),
+            7 => self.trail(rng, seen),
+            _ => self.compare_cards(),
+        }
+        assert_eq!(self.list.words(), self.words);
+        assert_eq!(self.list.counters(), self.counters);
+    }
+
+    fn insert(&mut self, rng: &mut Rng, seen: &mut Seen) {
+        let (mut scratch, mut plain) = scratch(rng);
+        let (key, tier) = (random_key(rng, self.words[0]), rng.below(9) as u32);
+        #[rustfmt::skip]
+        let answer = library::insert(self.tabulation, &mut self.words, &mut plain, &mut self.counters, key, tier);
+        seen.compare("insert", self.list.insert(&mut scratch, key, tier), answer, ());
+    }
+
+    fn remove(&mut self, rng: &mut Rng, seen: &mut Seen) {
+        let (mut scratch, mut plain) = scratch(rng);
+        let key = random_key(rng, self.words[0]);
+        #[rustfmt::skip]
+        let answer = library::remove(self.tabulation, &mut self.words, &mut plain, &mut self.counters, key);
+        seen.compare("remove", self.list.remove(&mut scratch, key), answer, ());
+    }
+
+    fn check(&mut self, rng: &mut Rng, seen: &mut Seen) {
+        let (mut scratch, mut plain) = scratch(rng);
+        let answer = library::check(self.tabulation, &self.words, &mut plain);
+        seen.compare("check", self.list.check(&mut scratch), answer, ());
+    }
+
+    fn lookup(&mut self, rng: &mut Rng, seen: &mut Seen) {
+        let key = random_key(rng, self.words[0]);
+        let (mut listed, mut tier) = (0, OLD);
+        let answer = library::lookup(self.tabulation, &self.words, key, &mut listed, &mut tier);
+        seen.compare("lookup", self.list.lookup(key), answer, (listed == 1).then_some(tier));
+    }
+
+    fn open_sale(&mut self, rng: &mut Rng, seen: &mut Seen) {
+        let key = random_key(rng, self.words[0]);
+        let base = rng.pick(&[0, 1, 300, 1_749, 99_999, 100_000]);
+        let steps = [(); STEPS].map(|()| rng.below(1_001) as i32 - 500);
+        let mut sale = Sale { key: OLD, tier: OLD, price: OLD };
+        let answer = library::open_sale(self.tabulation, &self.words, key, base, &steps, &mut sale);
+        seen.compare("open_sale", self.list.open_sale(key, base, &steps), answer, sale);
+    }
+
+    fn trail(&mut self, rng: &mut Rng, seen: &mut Seen) {
+        let (mut scratch, mut plain) = scratch(rng);
+        let key = random_key(rng, self.words[0]);
+        let mut keys = vec![OLD; rng.below(2 * self.words[0] as usize + 1)];
+        let (mut theirs, mut count) = (keys.clone(), 0);
+        #[rustfmt::skip]
+        let answer = library::trail(self.tabulation, &self.words, &mut plain, key, &mut theirs, &mut count);
+        let told = self.list.trail(&mut scratch, key, &mut keys);
+        seen.compare("trail", told, answer, &theirs[..count as usize]);
+        assert_eq!(keys, theirs, "the words lent for a trail");
+    }
+
+    /// All that a list tells of itself, against the words.
+    fn compare_cards(&self) {
+        let (list, words) = (&self.list, &self.words);
+        assert_eq!([list.slots(), list.places(), list.station()], [words[0], words[1], words[4]]);
+        assert_eq!((list.len(), list.is_empty()), (words[2] as usize, words[2] == 0));
+        let filled = || entries(words).filter(|(key, _, _)| *key != 0);
+        let all: BTreeSet<(u32, u32)> = filled().map(|(key, tier, _)| (key, tier)).collect();
+        assert_eq!(list.cards().count(), all.len(), "a card is not there, or twice");
+        assert_eq!(list.cards().collect::<BTreeSet<_>>(), all);
+        let stashed: Vec<(u32, u32)> =
+            filled().filter(|entry| entry.2).map(|(key, tier, _)| (key, tier)).collect();
+        assert_eq!(list.stash().expect("a list").collect::<Vec<_>>(), stashed);
+    }
+}
+
+/// Lays a list and words beside it, at times with sizes that are refused; then calls on both.
+fn laid(rng: &mut Rng, tabulation: &[u16; TABULATION_LENGTH], seen: &mut Seen) -> Option<Vec<u32>> {
+    let (r, s) = (rng.below(MAX_R + 1) as u32, rng.below(MAX_S + 1) as u32);
+    let station = if rng.one_in(9) { 256 } else { random_station(rng) };
+    let length = words_length(r, s) - usize::from(rng.one_in(9));
+    let mut words = vec![OLD; length];
+    let start = rng.pick(&[0, u32::MAX - 5]);
+    let mut counters = Counters { done: start, refused: start };
+
+    let (mut theirs, mut plain_counters) = (words.clone(), counters);
+    let answer = library::init(&mut theirs, r, s, station, &mut plain_counters);
+    let laid = List::init(tabulation, &mut words, r, s, station, &mut counters);
+    seen.compare("init", laid.as_ref().map(|_| ()).map_err(|refusal| *refusal), answer, ());
+    let Ok(list) = laid else {
+        assert_eq!((words, counters), (theirs, plain_counters), "a refused init");
+        return None;
+    };
+    let mut beside = Beside { list, tabulation, words: theirs, counters: plain_counters };
+    for _ in 0..60 {
+        beside.step(rng, seen);
+    }
+    beside.compare_cards();
+    Some(words)
+}
+
+/// Opens words, at times with one of them changed, and goes on if they are a list.
+fn opened(
+    rng: &mut Rng,
+    tabulation: &[u16; TABULATION_LENGTH],
+    mut words: Vec<u32>,
+    seen: &mut Seen,
+) {
+    if rng.one_in(2) {
+        let place = rng.below(words.len());
+        words[place] ^= 1 << rng.below(32);
+    }
+    let (mut scratch, mut plain) = scratch(rng);
+    let (theirs, mut counters) = (words.clone(), Counters::default());
+    let answer = library::check(tabulation, &theirs, &mut plain);
+    let opened = List::open(tabulation, &mut words, &mut scratch, &mut counters);
+    seen.compare("open", opened.as_ref().map(|_| ()).map_err(|refusal| *refusal), answer, ());
+    let Ok(list) = opened else {
+        assert_eq!((words, counters), (theirs, Counters::default()), "a refused open");
+        return;
+    };
+    let mut beside = Beside { list, tabulation, words: theirs, counters: Counters::default() };
+    for _ in 0..20 {
+        beside.step(rng, seen);
+    }
+}
+
+#[test]
+fn a_list_beside_the_calls() {
+    let mut rng = Rng::new(35);
+    let mut seen = Seen::default();
+    for _ in 0..4_000 {
+        let values = rng.pick(&[2, 5, 40, 65_536]);
+        let tabulation = random_tabulation(&mut rng, values);
+        let tabulation = tabulation.try_into().expect("a tabulation has one length");
+        if let Some(words) = laid(&mut rng, &tabulation, &mut seen) {
+            opened(&mut rng, &tabulation, words, &mut seen);
+        }
+    }
+    seen.report();
+}
