@@ -191,6 +191,20 @@ uint32_t pinorange_close_sale(const struct pinorange_sale *sale);
 /* Writes the house tabulation into a lent one of PINORANGE_TABULATION_LENGTH entries. Refused (1): another length, and it stays. */
 uint32_t pinorange_house(uint16_t *tabulation, size_t tabulation_length);
 
+/* The reference to the version at each call (pinorange_hashes.h). */
+#ifdef PINORANGE_BOUND
+#define pinorange_init(...) (pinorange_bind(), pinorange_init(__VA_ARGS__))
+#define pinorange_insert(...) (pinorange_bind(), pinorange_insert(__VA_ARGS__))
+#define pinorange_remove(...) (pinorange_bind(), pinorange_remove(__VA_ARGS__))
+#define pinorange_check(...) (pinorange_bind(), pinorange_check(__VA_ARGS__))
+#define pinorange_lookup(...) (pinorange_bind(), pinorange_lookup(__VA_ARGS__))
+#define pinorange_stash(...) (pinorange_bind(), pinorange_stash(__VA_ARGS__))
+#define pinorange_trail(...) (pinorange_bind(), pinorange_trail(__VA_ARGS__))
+#define pinorange_open_sale(...) (pinorange_bind(), pinorange_open_sale(__VA_ARGS__))
+#define pinorange_close_sale(...) (pinorange_bind(), pinorange_close_sale(__VA_ARGS__))
+#define pinorange_house(...) (pinorange_bind(), pinorange_house(__VA_ARGS__))
+#endif
+
 #ifdef __cplusplus
 }
 #endif

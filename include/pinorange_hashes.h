@@ -20,6 +20,20 @@ extern "C" {
 #define PINORANGE_VERSION_MINOR 1
 #define PINORANGE_VERSION_PATCH 0
 
+/* What was compiled with a header of another first number does not link: at each call stands a reference to a symbol with that number in its name, which the
+ * library has (pinorange_version_4, a function that answers 4). It is an empty relocation, no byte and no instruction of its own. For it each call is a macro of its own
+ * name, too; (pinorange_hashes)(..) in brackets, and a pointer to a call, are the bare function, without the reference. A file that defines functions of these
+ * names itself, to stand in for the library in a test, defines PINORANGE_UNBOUND before it includes a header: then there are no such macros. Compilers other than
+ * gcc and clang, and objects other than ELF, have no reference. */
+#if defined(__GNUC__) && defined(__ELF__) && !defined(PINORANGE_UNBOUND)
+#define PINORANGE_BOUND
+extern __inline__ __attribute__((__always_inline__, __gnu_inline__)) void pinorange_bind(void)
+{
+    /* .globl, since clang's assembler leaves a symbol out that stands in such a relocation alone */
+    __asm__ volatile(".globl pinorange_version_%c0\n\t.reloc ., BFD_RELOC_NONE, pinorange_version_%c0" : : "i"(PINORANGE_VERSION_MAJOR));
+}
+#endif
+
 /* The numbers that a call answers. */
 #define PINORANGE_DONE 0u             /* accepted */
 #define PINORANGE_WRONG_TABULATION 1u /* the tabulation is not 2,560 entries long */
@@ -47,6 +61,10 @@ extern "C" {
  * (25,173 * i * i + 13,849) modulo 65,521. The product takes more than 32 bits: work it out in uint64_t. README.md ("A till") has it in C. */
 uint32_t pinorange_hashes(const uint16_t *tabulation, size_t length, uint32_t r, uint32_t station, uint32_t key,
                           uint32_t *table0, uint32_t *table1);
+
+#ifdef PINORANGE_BOUND
+#define pinorange_hashes(...) (pinorange_bind(), pinorange_hashes(__VA_ARGS__))
+#endif
 
 #ifdef __cplusplus
 }
