@@ -1,10 +1,10 @@
 /* The card list as one struct of the memory that it is lent, and the calls of pinorange.h over it, as inline functions
  * for C99 and C++: so that no call can be handed two pieces of memory in each other's place.
  *
- * In the plain calls words and scratch are alike in type and stand side by side. Exchanged, an insert takes the
- * scratch for the words and answers 2, and the words, which it takes for scratch, are zeros afterwards: the whole list
- * is gone. Here the pieces are told once, and two macros tell them, so that nothing can be exchanged there either, and
- * every length is right:
+ * In the plain calls words and scratch are alike in type and stand side by side. Exchanged, an insert takes the scratch
+ * for the words and answers 2, and the words, which it takes for scratch, are zeros afterwards: the whole list is gone.
+ * Here the pieces are told once, and two macros tell them, so that nothing can be exchanged there either, and every
+ * length is right:
  *
  *     static struct PINORANGE_MEMORY(1024, 64) memory;
  *     static const struct pinorange_list list = PINORANGE_LIST(memory);
@@ -13,17 +13,17 @@
  *     answer = pinorange_list_init(&list, 1024, 64, station);
  *     answer = pinorange_list_insert(&list, 410017, 3);
  *
- * Each call hands on to the plain one of its name and answers what that answers; pinorange.h says what it promises,
- * and what the caller sees to. Out-parameters that are alike stand in a struct, too. What is left alike in one call
- * shows when it is exchanged: two of r, s and station (2, since the words' length fits r and s alone; unless they are
- * equal), key and tier (5, since no tier is a key). pinorange_house, pinorange_hashes and pinorange_close_sale are lent
- * no words and no scratch, and have no inline call.
+ * Each call hands on to the plain one of its name and answers what that answers; pinorange.h says what it promises, and
+ * what the caller sees to. Out-parameters that are alike stand in a struct, too. What is left alike in one call shows
+ * when it is exchanged: two of r, s and station (2, since the words' length fits r and s alone; unless they are equal),
+ * key and tier (5, since no tier is a key). pinorange_house, pinorange_hashes and pinorange_close_sale are lent no
+ * words and no scratch, and have no inline call.
  *
- * With PINORANGE_CHECKED defined, for a debug build, each call first looks at all pieces of the list and at all that
- * it is handed: none is null, each is aligned, no two overlap. Where one fails PINORANGE_FAILED(piece, what) is called
- * with two texts, as "scratch" and "is null". Define it before this header is included; else it is abort() of
- * stdlib.h. It must not return: the call would go on with that memory. Without PINORANGE_CHECKED there is no check,
- * and no C library is needed. */
+ * With PINORANGE_CHECKED defined, for a debug build, each call first looks at all pieces of the list and at all that it
+ * is handed: none is null, each is aligned, no two overlap. Where one fails PINORANGE_FAILED(piece, what) is called
+ * with two texts, as "scratch" and "is null". Define it before this header is included; else it is abort() of stdlib.h.
+ * It must not return: the call would go on with that memory. Without PINORANGE_CHECKED there is no check, and no C
+ * library is needed. */
 #ifndef PINORANGE_LIST_H
 #define PINORANGE_LIST_H
 

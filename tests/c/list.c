@@ -143,6 +143,8 @@ static void session(void)
 {
     uint32_t i;
     lay(&whole, R, S, STATION);
+    lay(&whole, R, S, STATION);
+    expect(ours.counters.done == 2 && ours.counters.refused == 0, "init leaves the counters, and moves them on");
     for (i = 0; i < KEYS; i++)
         ask_all(&whole, key_of(i));
     expect(ours.words[2] > R && ours.words[3] == S, "many keys are listed, and the stash is full");
