@@ -311,6 +311,7 @@ static void session(uint32_t r, uint32_t s, uint32_t station, uint32_t keys)
         expect("remove", answer, accepted[i] ? PINORANGE_DONE : PINORANGE_KEY_ABSENT);
         expect("stash", pinorange_stash(words, length, &offset, &count), PINORANGE_DONE);
         expect("the view has two words a key", count, 2 * words[3]);
+        expect("the view begins at place 0, if it is empty, too", offset, PINORANGE_PLACE(r, 0));
         expect("the view ends inside", offset + count <= length, 1);
     }
     /* nothing is left: r, s, the station and zeros */

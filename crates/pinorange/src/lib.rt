@@ -238,3 +238,11 @@ pub extern "C" fn pinorange_hashes(
 {
     tabulation::pinorange_hashes(tabulation, r, station, key, first, second)
 }
+
+// The first number of the version, as the crate `tabulation` exports it, under the name that the headers refer to.
+#[no_mangle]
+pub extern "C" fn pinorange_version_4() -> u32
+    ensures { λ n. ⌜ n ≡ 4 ⌝ }
+{
+    tabulation::pinorange_version_4()
+}

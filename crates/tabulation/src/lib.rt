@@ -63,3 +63,12 @@ pub extern "C" fn pinorange_hashes(
         Hashed::Refused(n) => n,
     }
 }
+
+// The first number of the version, which stands in the name, too. The headers refer to it, so that what was compiled
+// with headers of another first number does not link.
+#[no_mangle]
+pub extern "C" fn pinorange_version_4() -> u32
+    ensures { λ n. ⌜ n ≡ 4 ⌝ }
+{
+    4
+}

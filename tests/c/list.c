@@ -1,0 +1,310 @@
+/* The inline calls of pinorange_list.h beside the plain ones, for C99, C11 and C++11: two lists with memory of their
+ * own go through one session, with every refusal in it, and after each call answers, words, scratch, counters and
+ * out-parameters must be the same. With PINORANGE_CHECKED each check must fire, on the piece that is wrong and on no
+ * other. tests/headers compiles and runs it both ways. Exits with 0 when all holds. */
+#ifdef PINORANGE_CHECKED
+static void failed(const char *piece, const char *what);
+#define PINORANGE_FAILED(piece, what) failed(piece, what)
+#endif
+#include "pinorange_list.h"
+
+#include <setjmp.h>
+#include <stdio.h>
+#include <string.h>
+
+enum { R = 8, S = 2, STATION = 17, KEYS = 40 };
+
+static struct PINORANGE_MEMORY(R, S) ours, plain;
+static const struct pinorange_list whole = PINORANGE_LIST(ours);
+static const int32_t steps[PINORANGE_STEPS] = {-30, -20, -10, 0, 10, 20, 30, 40};
+static unsigned calls, failures, seen[14];
+
+static void expect(int holds, const char *what)
+{
+    if (!holds) {
+        printf("FAILED: %s\n", what);
+        failures++;
+    }
+}
+
+/* The answers of both calls, and all memory that either list has. */
+static void same(const char *what, uint32_t answer, uint32_t plain_answer)
+{
+    calls++;
+    seen[answer < 14 ? answer : 0]++;
+    expect(answer == plain_answer && answer < 14, what);
+    expect(memcmp(&ours, &plain, sizeof ours) == 0, what);
+}
+
+/* The pieces of the plain list, as long as those of `list`. */
+#define BOOK plain.tabulation, list->tabulation_length
+#define WORDS plain.words, list->words_length
+#define SHEET plain.scratch, list->scratch_length
+
+static void insert(const struct pinorange_list *list, uint32_t key, uint32_t tier)
+{
+    ours.scratch[3] = plain.scratch[3] = 99; /* so that it shows that the scratch was lent */
+    same("insert", pinorange_list_insert(list, key, tier),
+         pinorange_insert(BOOK, WORDS, SHEET, &plain.counters, key, tier));
+}
+
+static void take_out(const struct pinorange_list *list, uint32_t key)
+{
+    ours.scratch[3] = plain.scratch[3] = 99;
+    same("remove", pinorange_list_remove(list, key), pinorange_remove(BOOK, WORDS, SHEET, &plain.counters, key));
+}
+
+static void check(const struct pinorange_list *list)
+{
+    ours.scratch[3] = plain.scratch[3] = 99;
+    same("check", pinorange_list_check(list), pinorange_check(BOOK, WORDS, SHEET));
+}
+
+static void look_up(const struct pinorange_list *list, uint32_t key)
+{
+    struct pinorange_found found = {77, 78};
+    uint32_t listed = 77, tier = 78;
+    same("lookup", pinorange_list_lookup(list, key, &found), pinorange_lookup(BOOK, WORDS, key, &listed, &tier));
+    expect(found.listed == listed && found.tier == tier, "what a lookup tells");
+}
+
+static void view(const struct pinorange_list *list)
+{
+    struct pinorange_stretch stretch = {77, 78};
+    uint32_t offset = 77, length = 78;
+    same("stash", pinorange_list_stash(list, &stretch), pinorange_stash(WORDS, &offset, &length));
+    expect(stretch.offset == offset && stretch.length == length, "what a stash view tells");
+}
+
+static void trail(const struct pinorange_list *list, uint32_t key, size_t length)
+{
+    uint32_t keys[2 * R] = {7}, plain_keys[2 * R] = {7}, count = 77;
+    struct pinorange_trail_keys told = {keys, length, 77};
+    same("trail", pinorange_list_trail(list, key, &told),
+         pinorange_trail(BOOK, WORDS, SHEET, key, plain_keys, length, &count));
+    expect(told.count == count && memcmp(keys, plain_keys, sizeof keys) == 0, "what a trail tells");
+}
+
+static void sell(const struct pinorange_list *list, uint32_t key, uint32_t base)
+{
+    struct pinorange_sale sale = {1, 2, 3}, plain_sale = {1, 2, 3};
+    same("sale", pinorange_list_open_sale(list, key, base, steps, &sale),
+         pinorange_open_sale(BOOK, WORDS, key, base, steps, PINORANGE_STEPS, &plain_sale));
+    expect(memcmp(&sale, &plain_sale, sizeof sale) == 0, "the record of a sale");
+}
+
+static void lay(const struct pinorange_list *list, uint32_t r, uint32_t s, uint32_t station)
+{
+    same("init", pinorange_list_init(list, r, s, station), pinorange_init(WORDS, r, s, station, &plain.counters));
+}
+
+/* Every call about one key, so that each refusal comes that it can get on this list. */
+static void ask_all(const struct pinorange_list *list, uint32_t key)
+{
+    insert(list, key, 8);
+    insert(list, key, key % 8);
+    insert(list, key, key % 8);
+    insert(list, key, (key + 1) % 8);
+    insert(list, key + 1, 3);
+    look_up(list, key);
+    trail(list, key, 2 * R);
+    trail(list, key, 0);
+    sell(list, key, 1000);
+    sell(list, key, 0);
+    view(list);
+    check(list);
+}
+
+static uint32_t key_of(uint32_t i)
+{
+    return i * 26544357u / 10u * 10u;
+}
+
+/* Every call on a list with one piece that is too short, and on one whose words were tampered with. */
+static void wrong_lists(void)
+{
+    struct pinorange_list list = whole;
+    list.tabulation_length--;
+    ask_all(&list, key_of(1));
+    list = whole;
+    list.words_length--;
+    ask_all(&list, key_of(1));
+    lay(&list, R, S, STATION);
+    list = whole;
+    list.scratch_length--;
+    ask_all(&list, key_of(1));
+    take_out(&list, key_of(1));
+    ours.words[3] = plain.words[3] = S + 1;
+    ask_all(&whole, key_of(1));
+}
+
+/* Laid, filled up to refusals, asked, emptied, and laid in ways that are refused. */
+static void session(void)
+{
+    uint32_t i;
+    lay(&whole, R, S, STATION);
+    lay(&whole, R, S, STATION);
+    expect(ours.counters.done == 2 && ours.counters.refused == 0, "init leaves the counters, and moves them on");
+    for (i = 0; i < KEYS; i++)
+        ask_all(&whole, key_of(i));
+    expect(ours.words[2] > R && ours.words[3] == S, "many keys are listed, and the stash is full");
+    for (i = 0; i < KEYS; i += 2)
+        take_out(&whole, key_of(i));
+    lay(&whole, S, R, STATION);
+    lay(&whole, R, STATION, S);
+    lay(&whole, R, S, PINORANGE_MAX_STATION + 1);
+    wrong_lists();
+    for (i = 0; i < 14; i++)
+        expect(seen[i] > 0, "every number was answered");
+}
+
+/* The version: the library's function with the first number in its name answers it. */
+#define JOINED(name, number) name##number
+#define OF_VERSION(name, number) JOINED(name, number)
+#define VERSION_OF_LIBRARY OF_VERSION(pinorange_version_, PINORANGE_VERSION_MAJOR)
+#ifdef __cplusplus
+extern "C"
+#endif
+uint32_t VERSION_OF_LIBRARY(void);
+
+#ifdef PINORANGE_CHECKED
+static jmp_buf back;
+static const char *failed_piece, *failed_what;
+
+static void failed(const char *piece, const char *what)
+{
+    failed_piece = piece;
+    failed_what = what;
+    longjmp(back, 1);
+}
+
+/* One call with a piece that is wrong: the check must name it, and the library must not be called. */
+#define EXPECT_CHECK(call, piece, what) \
+    do { \
+        static struct PINORANGE_MEMORY(R, S) before; \
+        memcpy(&before, &ours, sizeof before); \
+        failed_piece = failed_what = "nothing"; \
+        if (!setjmp(back)) \
+            (void)(call); \
+        calls++; \
+        expect(strcmp(failed_piece, piece) == 0 && strcmp(failed_what, what) == 0, #call ": " piece " " what); \
+        expect(memcmp(&before, &ours, sizeof before) == 0, #call ": nothing is written"); \
+    } while (0)
+
+/* All calls on one wrong list. */
+#define EXPECT_CHECKS(list, piece, what) \
+    do { \
+        struct pinorange_found some_found; \
+        struct pinorange_stretch some_stretch; \
+        struct pinorange_sale some_sale; \
+        uint32_t some_keys[2 * R]; \
+        struct pinorange_trail_keys some_trail = {some_keys, 2 * R, 0}; \
+        EXPECT_CHECK(pinorange_list_init(list, R, S, STATION), piece, what); \
+        EXPECT_CHECK(pinorange_list_insert(list, 410017, 3), piece, what); \
+        EXPECT_CHECK(pinorange_list_remove(list, 410017), piece, what); \
+        EXPECT_CHECK(pinorange_list_check(list), piece, what); \
+        EXPECT_CHECK(pinorange_list_lookup(list, 410017, &some_found), piece, what); \
+        EXPECT_CHECK(pinorange_list_stash(list, &some_stretch), piece, what); \
+        EXPECT_CHECK(pinorange_list_trail(list, 410017, &some_trail), piece, what); \
+        EXPECT_CHECK(pinorange_list_open_sale(list, 410017, 1000, steps, &some_sale), piece, what); \
+    } while (0)
+
+/* Memory that is off by a byte. It is only looked at, never used. */
+#define ASKEW(type, memory) ((type *)(void *)((char *)(memory) + 1))
+
+static void wrong_pieces(void)
+{
+    struct pinorange_list list = whole;
+    EXPECT_CHECKS((const struct pinorange_list *)0, "list", "is null");
+    list.tabulation = 0;
+    EXPECT_CHECKS(&list, "tabulation", "is null");
+    list.tabulation = ASKEW(uint16_t, ours.tabulation);
+    EXPECT_CHECKS(&list, "tabulation", "is not aligned");
+    list = whole;
+    list.words = 0;
+    EXPECT_CHECKS(&list, "words", "is null");
+    list.words = ASKEW(uint32_t, ours.words);
+    EXPECT_CHECKS(&list, "words", "is not aligned");
+    list.words = ours.scratch;
+    EXPECT_CHECKS(&list, "scratch", "overlaps another piece");
+    list = whole;
+    list.scratch = 0;
+    EXPECT_CHECKS(&list, "scratch", "is null");
+    list.scratch = ASKEW(uint32_t, ours.scratch);
+    EXPECT_CHECKS(&list, "scratch", "is not aligned");
+    list = whole;
+    list.scratch_length++; /* over the counters, which stand behind it */
+    EXPECT_CHECKS(&list, "counters", "overlaps another piece");
+    list = whole;
+    list.counters = 0;
+    EXPECT_CHECKS(&list, "counters", "is null");
+    list.counters = ASKEW(struct pinorange_counters, plain.words);
+    EXPECT_CHECKS(&list, "counters", "is not aligned");
+    list.counters = (struct pinorange_counters *)(void *)&ours.words[PINORANGE_WORDS(R, S) - 1];
+    EXPECT_CHECKS(&list, "counters", "overlaps another piece");
+}
+
+/* What a call is handed besides the list. */
+static void wrong_arguments(void)
+{
+    struct pinorange_trail_keys keys = {0, 2 * R, 0};
+    struct pinorange_sale sale;
+    int32_t *in_words = (int32_t *)(void *)ours.words;
+    EXPECT_CHECK(pinorange_list_lookup(&whole, 410017, 0), "found", "is null");
+    EXPECT_CHECK(pinorange_list_lookup(&whole, 410017, ASKEW(struct pinorange_found, plain.words)), "found",
+                 "is not aligned");
+    EXPECT_CHECK(pinorange_list_lookup(&whole, 410017, (struct pinorange_found *)(void *)&ours.words[5]), "found",
+                 "overlaps another piece");
+    EXPECT_CHECK(pinorange_list_stash(&whole, 0), "stretch", "is null");
+    EXPECT_CHECK(pinorange_list_stash(&whole, (struct pinorange_stretch *)(void *)&ours.scratch[5]), "stretch",
+                 "overlaps another piece");
+    EXPECT_CHECK(pinorange_list_trail(&whole, 410017, 0), "trail", "is null");
+    EXPECT_CHECK(pinorange_list_trail(&whole, 410017, &keys), "keys", "is null");
+    keys.keys = ours.scratch;
+    EXPECT_CHECK(pinorange_list_trail(&whole, 410017, &keys), "keys", "overlaps another piece");
+    keys.keys = &keys.count;
+    EXPECT_CHECK(pinorange_list_trail(&whole, 410017, &keys), "keys", "overlaps another piece");
+    EXPECT_CHECK(pinorange_list_open_sale(&whole, 410017, 1000, 0, &sale), "steps", "is null");
+    EXPECT_CHECK(pinorange_list_open_sale(&whole, 410017, 1000, in_words, &sale), "steps", "overlaps another piece");
+    EXPECT_CHECK(pinorange_list_open_sale(&whole, 410017, 1000, steps, 0), "sale", "is null");
+    EXPECT_CHECK(pinorange_list_open_sale(&whole, 410017, 1000, steps, (struct pinorange_sale *)(void *)ours.words),
+                 "sale", "overlaps another piece");
+}
+
+/* Pieces that only touch, and pieces of no length, are lent as they should be. */
+static void touching(void)
+{
+    struct pinorange_list list = whole;
+    if (setjmp(back)) {
+        expect(0, failed_piece);
+        return;
+    }
+    list.scratch = ours.words + 1;
+    list.scratch_length = 0;
+    expect(pinorange_list_check(&list) == PINORANGE_SHORT_SCRATCH, "a piece of no length overlaps nothing");
+    list = whole;
+    list.words_length = 1;
+    list.scratch = ours.words + 1;
+    list.scratch_length = 1;
+    expect(pinorange_list_check(&list) == PINORANGE_WRONG_SHAPE, "pieces that touch do not overlap");
+}
+#endif
+
+int main(void)
+{
+    expect(VERSION_OF_LIBRARY() == PINORANGE_VERSION_MAJOR, "the version of the library");
+    expect(whole.words_length == PINORANGE_WORDS(R, S) && whole.scratch_length == PINORANGE_SCRATCH(R, S)
+           && whole.tabulation_length == PINORANGE_TABULATION_LENGTH, "the lengths of a list");
+    expect(pinorange_house(ours.tabulation, whole.tabulation_length) == PINORANGE_DONE, "house");
+    memcpy(plain.tabulation, ours.tabulation, sizeof plain.tabulation);
+    session();
+#ifdef PINORANGE_CHECKED
+    lay(&whole, R, S, STATION);
+    insert(&whole, 410017, 3);
+    wrong_pieces();
+    wrong_arguments();
+    touching();
+#endif
+    printf("list.c: %u calls, %u failures\n", calls, failures);
+    return failures != 0;
+}
