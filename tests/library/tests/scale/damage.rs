@@ -1,4 +1,5 @@
-//! Damaged memory: each word of sound words changed, and words that are random from the start.
+//! Damaged memory: each word of sound words changed to some values, and words that are random from the start. What is
+//! asked of one kind of word alone, the station, a tier or an issue, stands in the file of that topic.
 
 use std::collections::BTreeMap;
 

@@ -1,4 +1,5 @@
-//! Sales: prices at their limits, and runs of calls that sales between them do not change.
+//! Sales: prices at their limits and one beyond, and runs of calls with sales opened and closed between them, which
+//! must not change what the calls answer and leave.
 
 use library::beside::Beside;
 use library::Change::{Insert, Remove};

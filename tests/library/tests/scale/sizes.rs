@@ -1,4 +1,5 @@
-//! Boards of every size: each r under tabulations of extremes, and sets from empty to over-full on boards of all sizes.
+//! Boards of every size: each r under tabulations of extremes, whose sums are the largest there are, and sets from
+//! empty to over-full on boards of all sizes.
 
 use library::beside::{Beside, Kind};
 use library::Change::{Insert, Remove};

@@ -1,4 +1,5 @@
-//! Stations: the hashes at each, one set at two of them, and another number in the station's word.
+//! Stations: the hashes at each of them, one set at two of them, and another number in the word that has the station.
+//! Numbers above 255 are no stations.
 
 use std::collections::{BTreeMap, BTreeSet};
 

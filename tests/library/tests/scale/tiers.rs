@@ -1,4 +1,5 @@
-//! Tiers: the same keys with other tiers, and changed tier words.
+//! Tiers: the same keys with other tiers differ in the words of those tiers alone, and a tier word that is changed is
+//! found out, or makes the image of another set.
 
 use std::collections::{BTreeMap, BTreeSet};
 

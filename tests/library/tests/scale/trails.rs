@@ -1,4 +1,5 @@
-//! Trails: on sheets of all lengths, and the longest there are, through all slots.
+//! Trails: of all keys of many sets on sheets of all lengths, and the longest there are, through all slots of a board
+//! that is one cycle, or one path.
 
 use library::beside::{Beside, Kind};
 use library::Change::{Insert, Remove};

@@ -1,5 +1,5 @@
 //! What the tests draw at random: tabulations that crowd their keys, words, keys, tiers, stations, and sheets for
-//! trails.
+//! trails; tiers, stations and sheets are now and then such as a call refuses.
 
 use reference::hash::TABULATION_LEN;
 use reference::key::{first_part, issues};

@@ -1,4 +1,5 @@
-//! Base prices and steps for the openings of sales: random ones, and a list that gives every tier a price of its own.
+//! Base prices and steps for the openings of sales: random ones, now and then outside their range, and a list that
+//! gives every tier a price of its own.
 
 use library::Sale;
 use reference::rng::Rng;
