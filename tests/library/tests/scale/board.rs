@@ -111,6 +111,14 @@ impl Board {
 
     /// One call on the words, which the register answers, too.
     pub fn call(&mut self, rng: &mut Rng, beside: &mut Beside) {
+        let (call, answer, trail) = self.made(rng, beside);
+        let expected = self.expected(&call, &trail);
+        assert_eq!(answer, expected, "the register answers {call:?} otherwise");
+        assert_eq!(self.words, self.register.words(), "not the image of the register's set");
+    }
+
+    /// A call on the words: what the register is fed of it, its answer, and the keys of the trail, if it is one.
+    fn made(&mut self, rng: &mut Rng, beside: &mut Beside) -> (Call, u32, Vec<u32>) {
         let (book, scratch, key) = self.lent(rng);
         let tier = self.tier(rng, key);
         let (tabulation_len, scratch_len) = (book.len(), scratch.len());
@@ -156,7 +164,12 @@ impl Board {
                 (Call::Other { refusal: Refusal::WrongShape }, answer)
             }
         };
-        let expected = match self.register.feed(&call) {
+        (call, answer, trail)
+    }
+
+    /// What the register answers to a call. It must tell the same trail, and see the same stash in the words.
+    fn expected(&mut self, call: &Call, trail: &[u32]) -> u32 {
+        match self.register.feed(call) {
             Reply::Answer(answer) => reference::answer::number(answer),
             Reply::Lookup(answer) => answer.map_or_else(Refusal::number, |_| 0),
             Reply::Stash(part) => {
@@ -170,9 +183,7 @@ impl Board {
                 answer.map_or_else(Refusal::number, |_| 0)
             }
             Reply::Open(_) | Reply::Close(_) => unreachable!("{call:?} is no call of a sale"),
-        };
-        assert_eq!(answer, expected, "the register answers {call:?} otherwise");
-        assert_eq!(self.words, self.register.words(), "not the image of the register's set");
+        }
     }
 
     /// An opening, which the register answers, too. The last few sales stay open, and the one before them is closed.

@@ -93,6 +93,44 @@ fn one_set_at_two_stations() {
     assert!(alike > 300 && elsewhere > 1_000 && full > 30);
 }
 
+/// Check, which must answer so, and the stash view: 2 comes before a short scratch and behind a wrong tabulation, and
+/// the view, which asks for no slot, answers nothing else.
+fn station_alone(
+    beside: &mut Beside,
+    tabulation: &[u16],
+    words: &[u32],
+    scratch: &[u32],
+    answer: u32,
+) {
+    let value = words[4];
+    assert_eq!(beside.check(tabulation, words, scratch), answer, "{value}: {words:?}");
+    assert_eq!(beside.check(&tabulation[1..], words, &scratch[1..]), 1);
+    let short = beside.check(tabulation, words, &scratch[1..]);
+    assert_eq!(short, if answer == 2 { 2 } else { 3 }, "{value}");
+    assert_eq!(beside.stash(words), if answer == 2 { 2 } else { 0 }, "{value}");
+}
+
+/// A lookup and a sale of a key on words of which check answers this: both look into the slots of the station that
+/// stands there. Gives the answer of the sale.
+fn found_there(
+    beside: &mut Beside,
+    tabulation: &[u16],
+    words: &[u32],
+    key: u32,
+    checked: u32,
+) -> u32 {
+    let found = beside.lookup(tabulation, words, key);
+    let opened = beside.open(tabulation, words, key, BASE, &STEPS);
+    let tier = match checked {
+        2 => Err(2),
+        _ if is_blank(key) => Err(5),
+        _ => Ok(copies(tabulation, words, key).first().copied()),
+    };
+    assert_eq!(found, tier.map_or_else(|n| (n, None), |tier| (0, tier)), "{key}");
+    assert_eq!(opened, tier.map_or_else(|n| (n, None), |tier| sale_at(key, tier)));
+    opened.0
+}
+
 /// The station word of many small images changed, as every call sees it: above 255 each answers 2, before any other
 /// cause but the tabulation; else the words are the image at that station of the same set where its keys sit alike, and
 /// of no set (4) where they do not. A lookup looks into the slots of the new station, and so does a sale; the view asks
@@ -121,11 +159,7 @@ fn damages_of_the_station() {
                 Some(image) if image == words => 0,
                 _ => 4,
             };
-            assert_eq!(beside.check(&tabulation, &words, &scratch), answer, "{value}: {words:?}");
-            assert_eq!(beside.check(&tabulation[1..], &words, &scratch[1..]), 1);
-            let short = beside.check(&tabulation, &words, &scratch[1..]);
-            assert_eq!(short, if answer == 2 { 2 } else { 3 }, "{value}");
-            assert_eq!(beside.stash(&words), if answer == 2 { 2 } else { 0 }, "{value}");
+            station_alone(&mut beside, &tabulation, &words, &scratch, answer);
             for key in keys.iter().copied().chain([0, 9]) {
                 for way in [Insert(0), Insert(8), Remove] {
                     let mut words = words.clone();
@@ -137,17 +171,9 @@ fn damages_of_the_station() {
                 let sheet = random_words(&mut rng, 2 * r as usize);
                 let (traced, _) = beside.trail(&tabulation, &words, &scratch, key, &sheet);
                 assert_eq!(as_check(traced), answer, "trail of {key}, {value}");
-                let found = beside.lookup(&tabulation, &words, key);
-                let opened = beside.open(&tabulation, &words, key, BASE, &STEPS);
-                let tier = match answer {
-                    2 => Err(2),
-                    _ if is_blank(key) => Err(5),
-                    _ => Ok(copies(&tabulation, &words, key).first().copied()),
-                };
-                assert_eq!(found, tier.map_or_else(|n| (n, None), |tier| (0, tier)), "{key}");
-                assert_eq!(opened, tier.map_or_else(|n| (n, None), |tier| sale_at(key, tier)));
+                let opened = found_there(&mut beside, &tabulation, &words, key, answer);
                 if !is_blank(key) {
-                    *times.entry((answer, opened.0)).or_default() += 1;
+                    *times.entry((answer, opened)).or_default() += 1;
                 }
             }
         }
