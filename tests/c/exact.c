@@ -182,22 +182,33 @@ static void expect_no_sale(const char *what, const struct board *board, uint32_t
 /* The key in that slot of a key where it does not sit: itself, if it sits in both. */
 static uint32_t beyond(const struct board *board, uint32_t r, uint32_t key)
 {
-    uint32_t table0, table1, in0, in1;
+    uint32_t table0 = r, table1 = r, in0, in1;
     expect("hashes", pinorange_hashes(board->book, board->book_length, r, board->words[4], key, &table0, &table1),
            PINORANGE_DONE);
+    expect("the slots are in their tables", table0 < r && table1 < r, 1);
+    if (table0 >= r || table1 >= r)
+        return 0; /* no key: there is no such slot to read */
     in0 = board->words[5 + 3 * table0];
     in1 = board->words[5 + 3 * (r + table1)];
     expect("a key of a trail is seated", in0 == key || in1 == key, 1);
     return in0 == key ? in1 : in0;
 }
 
-/* The trail of a key that is in the set, checked step by step: each next key is in the last one's other slot, and the last is the root. That sits in both its
- * slots, which only the smallest of a component without a cycle does; or the steps lead on from it round a cycle, whose smallest key it is. Then again on a
- * sheet that is just long enough, and on one with a word less. Gives how many keys the trail has. */
+/* The trail of a key that is in the set, checked step by step: each next key is in the last one's other slot, and the
+ * last is the root. That sits in both its slots, which only the smallest of a component without a cycle does; or the
+ * steps lead on from it round a cycle, whose smallest key it is. Then again on a sheet that is just long enough, and on
+ * one with a word less. Gives how many keys the trail has; 0 where it is refused, which is a failure. */
 static uint32_t follow(const struct board *board, uint32_t r, uint32_t key)
 {
-    uint32_t *trail = lend(2 * r * sizeof *trail), count = 77;
-    expect("trail", ask(board, key, trail, 2 * r, &count), PINORANGE_DONE);
+    uint32_t *trail = lend(2 * r * sizeof *trail), count = 77, answer = ask(board, key, trail, 2 * r, &count);
+    expect("trail", answer, PINORANGE_DONE);
+    if (answer != PINORANGE_DONE) { /* the sheet was never written, and the count is none */
+        free(trail);
+        return 0;
+    }
+    expect("the trail is on its sheet", count <= 2 * r, 1);
+    if (count > 2 * r)
+        count = 2 * r;
     for (uint32_t i = 0; i < count; i++)
         expect("the next key", trail[i], i == 0 ? key : beyond(board, r, trail[i - 1]));
     if (count > 0) {

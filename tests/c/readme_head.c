@@ -1,4 +1,4 @@
-/* README.md's head in C, as it stands there (tests/snippets takes it out): each of its functions is run, and what it prints is compared with the cards that
+/* README.md's head in C, as it stands there (scripts/snippets takes it out): each of its functions is run, and what it prints is compared with the cards that
  * were added. */
 #include <stdarg.h>
 #include <stdint.h>

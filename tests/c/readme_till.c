@@ -1,4 +1,4 @@
-/* README.md's till in C, as it stands there (tests/snippets takes it out). Linked with the whole library, so that its house tabulation is compared with the
+/* README.md's till in C, as it stands there (scripts/snippets takes it out). Linked with the whole library, so that its house tabulation is compared with the
  * library's, entry by entry. */
 #define main readme_main
 #include "readme_2.c"

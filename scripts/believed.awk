@@ -1,4 +1,4 @@
-# Finds what a reader must believe, for tests/sizes. Input: the files of specs/ and src/ of all crates. It begins with
+# Finds what a reader must believe, for scripts/sizes. Input: the files of specs/ and src/ of all crates. It begins with
 # the laws and definitions named in `roots`, by a name or by 'file:name', where a field stands for its record, and with
 # the contracts of the exported functions (`#[no_mangle]`), and follows every definition, record, data type, struct and
 # enum that a text cites, as far as the kit's library. Proofs are not followed: of a law only its statement counts, of a

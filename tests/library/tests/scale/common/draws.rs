@@ -1,0 +1,87 @@
+//! What the tests draw at random: tabulations that crowd their keys, words, keys, tiers, stations, and sheets for
+//! trails; tiers, stations and sheets are now and then such as a call refuses.
+
+use reference::hash::TABULATION_LEN;
+use reference::key::{first_part, issues};
+use reference::rng::Rng;
+use reference::samples::{random_station, random_tabulation};
+
+/// A tabulation of the extremes of 16 bits alone.
+pub fn extreme_tabulation(rng: &mut Rng) -> Vec<u16> {
+    (0..TABULATION_LEN).map(|_| if rng.one_in(2) { 0 } else { u16::MAX }).collect()
+}
+
+/// A tabulation with few hashes: random ones, one value throughout, or extremes.
+pub fn narrow_tabulation(rng: &mut Rng) -> Vec<u16> {
+    match rng.below(8) {
+        0 => extreme_tabulation(rng),
+        1 => vec![rng.pick(&[0, 1, 32_768, u16::MAX]); TABULATION_LEN],
+        _ => {
+            let values = rng.pick(&[2, 3, 7, 9]);
+            random_tabulation(rng, values)
+        }
+    }
+}
+
+pub fn random_words(rng: &mut Rng, length: usize) -> Vec<u32> {
+    (0..length).map(|_| rng.next_u32()).collect()
+}
+
+/// A key of any size.
+pub fn any_key(rng: &mut Rng) -> u32 {
+    rng.next_u32().max(10)
+}
+
+/// A set of about `count` keys of any size, ascending.
+pub fn any_keys(rng: &mut Rng, count: usize) -> Vec<u32> {
+    let mut keys: Vec<u32> = (0..count).map(|_| any_key(rng)).collect();
+    keys.sort_unstable();
+    keys.dedup_by_key(|key| first_part(*key));
+    keys
+}
+
+/// Another issue of a key.
+pub fn other_issue(rng: &mut Rng, key: u32) -> u32 {
+    let others: Vec<u32> = issues(key).filter(|issue| *issue != key).collect();
+    rng.pick(&others)
+}
+
+/// A tier for an insert: mostly 0 to 7, now and then above.
+pub fn any_tier(rng: &mut Rng) -> u32 {
+    match rng.below(10) {
+        0 => rng.pick(&[8, 9, 15, 16, 256, 1 << 31, u32::MAX]),
+        _ => rng.below(8) as u32,
+    }
+}
+
+/// Another tier from 0 to 7.
+pub fn other_tier(rng: &mut Rng, tier: u32) -> u32 {
+    (tier + 1 + rng.below(7) as u32) % 8
+}
+
+/// Stations that are none: just above 255, equal to one of 0 to 255 in their low byte or half, and the largest number.
+pub const WRONG_STATIONS: [u32; 9] =
+    [256, 257, 511, 512, 65_535, 65_536, 1 << 31, u32::MAX - 255, u32::MAX];
+
+/// A station for a call: mostly 0 to 255, now and then above.
+pub fn any_station(rng: &mut Rng) -> u32 {
+    if rng.one_in(5) {
+        rng.pick(&WRONG_STATIONS)
+    } else {
+        random_station(rng)
+    }
+}
+
+/// A sheet for a trail of `count` keys, with any old content: of no word, one word too short, just long enough, longer
+/// than any trail, or of 2r words.
+pub fn trail_sheet(rng: &mut Rng, r: u32, count: usize) -> Vec<u32> {
+    let most = 2 * r as usize;
+    let length = match rng.below(6) {
+        0 => 0,
+        1 => count.saturating_sub(1),
+        2 => count,
+        3 => most + 1 + rng.below(9),
+        _ => most,
+    };
+    random_words(rng, length)
+}
