@@ -22,20 +22,28 @@ extern "C" {
 #define PINORANGE_VERSION_MINOR 1
 #define PINORANGE_VERSION_PATCH 0
 
-/* What was compiled with a header of another first number does not link: at each call stands a reference to a symbol
- * with that number in its name, which the library has (pinorange_version_4, a function that answers 4). It is an empty
- * relocation, no byte and no instruction of its own. For it each call is a macro of its own name, too;
+/* What was compiled with a header of another first number does not link: each call brings a reference to a symbol with
+ * that number in its name, which the library has (pinorange_version_4, a function that answers 4). It takes no
+ * instruction, and four bytes of constants in the whole program. For it each call is a macro of its own name, too;
  * (pinorange_hashes)(..) in brackets, and a pointer to a call, are the bare function, without the reference. A file
  * that defines functions of these names itself, to stand in for the library in a test, defines PINORANGE_UNBOUND before
- * it includes a header: then there are no such macros. Compilers other than gcc and clang, and objects other than ELF,
- * have no reference. */
-#if defined(__GNUC__) && defined(__ELF__) && !defined(PINORANGE_UNBOUND)
+ * it includes a header: then there are no such macros. Other compilers than gcc and clang have no reference. */
+#if defined(__GNUC__) && defined(__ELF__) && defined(__x86_64__) && !defined(PINORANGE_UNBOUND)
 #define PINORANGE_BOUND
 extern __inline__ __attribute__((__always_inline__, __gnu_inline__)) void pinorange_bind(void)
 {
-    /* .globl, since clang's assembler leaves a symbol out that stands in such a relocation alone */
-    __asm__ volatile(".globl pinorange_version_%c0\n\t"
-                     ".reloc ., BFD_RELOC_NONE, pinorange_version_%c0" : : "i"(PINORANGE_VERSION_MAJOR));
+    /* The reference stands in a constant, of which the linker keeps one. The empty relocation at the call ties it to
+     * the code, so that it is dropped with it and not before; by itself newer lld would let it pass. */
+    __asm__ volatile(".ifndef pinorange_bound_%c0\n\t"
+                     ".pushsection .rodata.pinorange_bound_%c0,\"aG\",@progbits,pinorange_bound_%c0,comdat\n\t"
+                     ".weak pinorange_bound_%c0\n"
+                     "pinorange_bound_%c0:\n\t"
+                     ".globl pinorange_version_%c0\n\t"
+                     ".reloc ., R_X86_64_PLT32, pinorange_version_%c0\n\t"
+                     ".long 0\n\t"
+                     ".popsection\n\t"
+                     ".endif\n\t"
+                     ".reloc ., BFD_RELOC_NONE, pinorange_bound_%c0" : : "i"(PINORANGE_VERSION_MAJOR));
 }
 #endif
 
