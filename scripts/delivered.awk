@@ -1,9 +1,8 @@
 # A page of this repository as it stands in target/lib: a link to a file that is delivered leads to where that lies, any
 # other becomes its text, with the file's name in the repository. Run with page (its name from the root of the
-# repository, which it keeps there) and files (the names of all that is delivered, from target/lib, one to a line).
+# repository, which it keeps there) and files (a file with the names of all that is delivered, from target/lib).
 BEGIN {
-    n = split(files, name, "\n")
-    for (i = 1; i <= n; i++) note(name[i])
+    while ((getline name < files) > 0) note(name)
     folder = page
     if (!sub(/\/[^\/]*$/, "", folder)) folder = ""
 }
