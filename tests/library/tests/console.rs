@@ -1,14 +1,14 @@
 //! The console program, as it was built and linked, against the console of the program by another hand: every byte of standard output.
 
 use std::collections::BTreeMap;
-use std::fs;
+use std::fs::{self, File};
 use std::io::{BufRead, BufReader, ErrorKind, Read, Write};
 use std::os::fd::OwnedFd;
 use std::os::unix::net::UnixStream;
 use std::path::{Path, PathBuf};
 use std::process::{Child, ChildStdin, Command, Output, Stdio};
 use std::thread::{self, JoinHandle};
-use std::time::{Duration, Instant};
+use std::time::{Duration, Instant, SystemTime};
 
 use reference::fast::Fast;
 use reference::rng::Rng;
@@ -605,16 +605,21 @@ fn a_listing_that_cannot_be_written() {
     nothing_follows(child, reading, filled);
 }
 
-/// The program that writes the house book, run in the folder: what it says on standard error.
-fn house_book(folder: &Folder) -> String {
-    let output = Command::new(HOUSE_BOOK)
-        .current_dir(&folder.0)
-        .output()
-        .expect("house_book, built by rt check");
+/// What a run of `house_book` says on standard error. It always ends with success, and prints nothing.
+fn said(command: &mut Command) -> String {
+    let output = command.output().expect("house_book, built by rt check");
     assert!(output.status.success());
     assert_eq!(String::from_utf8_lossy(&output.stdout), "");
     String::from_utf8(output.stderr).expect("text")
 }
+
+/// The program that writes the house book, run in the folder: what it says on standard error.
+fn house_book(folder: &Folder) -> String {
+    said(Command::new(HOUSE_BOOK).current_dir(&folder.0))
+}
+
+/// What it says of a book.bin that it leaves.
+const LEFT: &str = "book.bin: is there and is not the house book, left as it is\n";
 
 /// The program that writes the house book writes the table that the specification's rule gives.
 #[test]
@@ -625,14 +630,73 @@ fn the_house_book() {
     assert_eq!(written, book_of(&reference::house::HOUSE));
 }
 
-/// One line, where book.bin cannot be opened and where it cannot be written.
+/// A house book that is there already is left, without a word, and not written again: its old date stays.
+#[test]
+fn a_house_book_that_is_there() {
+    let folder = Folder::new("house-again");
+    let file = folder.0.join("book.bin");
+    assert_eq!(house_book(&folder), "");
+    let old = SystemTime::UNIX_EPOCH + Duration::from_secs(1_000_000);
+    File::options()
+        .append(true)
+        .open(&file)
+        .and_then(|book| book.set_modified(old))
+        .expect("a date");
+    assert_eq!(house_book(&folder), "");
+    let date = fs::metadata(&file).and_then(|about| about.modified()).expect("a date");
+    assert_eq!(date, old);
+    assert_eq!(fs::read(&file).expect("book.bin"), book_of(&reference::house::HOUSE));
+}
+
+/// Another book.bin is never written over: a station's own, one that differs in its first or last bit, one that is
+/// shorter or longer, and an empty one. One line says so.
+#[test]
+fn a_book_of_a_station() {
+    let folder = Folder::new("own");
+    let file = folder.0.join("book.bin");
+    let house = book_of(&reference::house::HOUSE);
+    let changed = |at: usize| {
+        let mut book = house.clone();
+        book[at] ^= 1;
+        book
+    };
+    let longer = [&house[..], &[0]].concat();
+    let own = book_of(&random_tabulation(&mut Rng::new(7), 65_536));
+    let short = house[..house.len() - 1].to_vec();
+    for book in [own, changed(0), changed(house.len() - 1), short, longer, Vec::new()] {
+        fs::write(&file, &book).expect("book.bin");
+        assert_eq!(house_book(&folder), LEFT);
+        assert!(fs::read(&file).expect("book.bin") == book, "{} bytes are changed", book.len());
+    }
+}
+
+/// What is no file is left, too: a folder, and a link that leads nowhere.
+#[test]
+fn a_name_that_is_taken() {
+    let folder = Folder::new("taken");
+    let file = folder.0.join("book.bin");
+    fs::create_dir(&file).expect("a folder of that name");
+    assert_eq!(house_book(&folder), LEFT);
+    fs::remove_dir(&file).expect("an empty folder");
+    std::os::unix::fs::symlink("nowhere", &file).expect("a link");
+    assert_eq!(house_book(&folder), "book.bin: No such file or directory\n");
+    assert!(!folder.0.join("nowhere").exists());
+}
+
+/// One line, where book.bin cannot be made and where it cannot be filled: then it is taken away again, so that the next
+/// run can write it. A limit on the size of files stands for a full disk; without the signal a write is refused.
 #[test]
 fn a_house_book_that_cannot_be_written() {
     let folder = Folder::new("no-house");
     let file = folder.0.join("book.bin");
-    fs::create_dir(&file).expect("a folder of that name");
-    assert_eq!(house_book(&folder), "book.bin: Is a directory\n");
-    fs::remove_dir(&file).expect("an empty folder");
-    std::os::unix::fs::symlink("/dev/full", &file).expect("a link to /dev/full");
-    assert_eq!(house_book(&folder), "book.bin: No space left on device\n");
+    let limited = format!("trap '' XFSZ; ulimit -f 1; exec '{HOUSE_BOOK}'");
+    let mut shell = Command::new("sh");
+    let line = said(shell.args(["-c", &limited]).current_dir(&folder.0));
+    assert_eq!(line, "book.bin: File too large\n");
+    assert!(!file.exists(), "a book.bin that is cut short stays");
+    assert_eq!(house_book(&folder), "");
+    fs::remove_file(&file).expect("book.bin");
+    let gone = format!("rmdir '{}'; exec '{HOUSE_BOOK}'", folder.0.display());
+    let line = said(Command::new("sh").args(["-c", &gone]).current_dir(&folder.0));
+    assert_eq!(line, "book.bin: No such file or directory\n");
 }
