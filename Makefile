@@ -21,12 +21,12 @@ lib:
 # Everything, from nothing: the layout, every proof, every must-fail edit, the programs, the Rust tests and the C tests. The last
 # line is 'N passed, M failed'; the exit status is 0 only when M is 0.
 test:
-	@scripts/need rt cargo gcc valgrind
+	@scripts/need rt cargo gcc g++ valgrind
 	@tests/run
 
 # The same without removing what is proved already, and without the must-fail edits.
 quick:
-	@scripts/need rt cargo gcc valgrind
+	@scripts/need rt cargo gcc g++ valgrind
 	@tests/run --quick
 
 # Instructions and times of the library against two Rust twins: the tables of docs/BENCHMARKS.md and docs/costs.svg, in some minutes. No time is asserted, but all must give the same.
