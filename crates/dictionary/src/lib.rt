@@ -1,5 +1,5 @@
-// Insert, remove and check: their whole outcome but the counters. All three go through the gateway: the words are loaded
-// as a set, or refused. Then the set changes in scratch and is committed. There are no incremental cases.
+// Insert, remove and check: their whole outcome but the counters. All three go through the gateway: the words are
+// loaded as a set, or refused. Then the set changes in scratch and is committed. There are no incremental cases.
 ghost use mathlib.Core.Path.{_≡_};
 ghost use Rattle.layout.specs.Layout.{header-of};
 ghost use Rattle.gateway.specs.Loading.{LoadedSet};

@@ -1,6 +1,6 @@
 // The gateway of every call on a whole dictionary. `load`: 1 to 4, in their order, or the keys of the words with their
-// edges in scratch. `commit`: 8, or the image of whichever set stands in scratch over all of a target, of which only the
-// length is asked. `clear`: zeros in scratch. A call is these and what it does to the set in between.
+// edges in scratch. `commit`: 8, or the image of whichever set stands in scratch over all of a target, of which only
+// the length is asked. `clear`: zeros in scratch. A call is these and what it does to the set in between.
 ghost use mathlib.Core.Path.{_≡_};
 ghost use lib.ListN.{length, replicate};
 ghost use Rattle.refusals.specs.Refusal.{done};
@@ -72,7 +72,8 @@ fn is_image(tabulation: &[u16], words: &[u32], scratch: &mut [u32], header: Head
     matches_built(words, &*scratch, r, s, n, stashed)
 }
 
-// The words loaded as a set: 1 to 4, in their order, or their heading, and their keys stand in scratch with their edges.
+// The words loaded as a set: 1 to 4, in their order, or their heading, and their keys stand in scratch with their
+// edges.
 pub fn load(tabulation: &[u16], words: &[u32], scratch: &mut [u32]) -> Loaded
     ensures numbered { λ l. ⌜ number l
         ≡ load-refusal (now (tabulation .entry)) (now (words .entry)) (now (scratch .entry)) ⌝ }

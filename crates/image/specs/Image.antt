@@ -138,7 +138,7 @@ module _ {P : Params} {L : List Entry} {held next tiers stash beside : List ℕ}
         (λ h. true-same ws (image P L) (laid-image e z (alike-laid h)))
         (λ h. laid-alike (rw (same-true ws (image P L) h) (image-laid e z)))
 
-  -- And what is image-written over words of the right length is the image.
+  -- And what is written over words of the right length is the image.
   module _ (ws : List ℕ) (some : 0 < P .slots) (size : length ws ≡ words-length (P .slots) (P .places)) where
     abbrev header : Header
     header = record { slots = P .slots; places = P .places; keys = length S; stashed = length (stash-of P S); station = P .station }
@@ -173,7 +173,7 @@ module _ {P : Params} {L : List Entry} {held next tiers stash beside : List ℕ}
     w4-length : length w4 ≡ length ws
     w4-length = put-length w3 _ _ stash ∙ w3-length
 
-    -- the stash is image-written behind the slots
+    -- the stash is written behind the slots
     before-stash : (k : ℕ) → k < st → getD w5 k 0 ≡ getD w3 k 0
     before-stash k l = put-off w4 (st + 1) place-width beside k (λ i m q. omega arith) ∙ put-off w3 st place-width stash k (λ i m q. omega arith)
 

@@ -32,7 +32,7 @@ pub record Ranked (r n : ℕ) (keys graph next stash : List ℕ) : Type 0 where
   pub nexts : (v : ℕ) → v < 2 * r → getD next (getD graph v 0) 0 ≤ n
   pub stashed : (i : ℕ) → i < length stash → getD stash i 0 ≤ n
 
--- the slots of some ranks, from `start` on, and the stash places: compared and image-written
+-- the slots of some ranks, from `start` on, and the stash places: compared and written
 abbrev pub ranked-slots-alike : (ws : List ℕ) (start r : ℕ) (keys graph next ranks : List ℕ) → Bool
 ranked-slots-alike ws start r keys graph next ranks =
     slots-alike ws start (key-column keys ranks) (next-column keys next ranks) (tier-column r graph ranks)

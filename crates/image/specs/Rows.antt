@@ -1,4 +1,4 @@
--- Columns side by side, row by row: the words of one slot, or of one stash place, compared and image-written together. What is left of the columns of some ranks is
+-- Columns side by side, row by row: the words of one slot, or of one stash place, compared and written together. What is left of the columns of some ranks is
 -- the columns of the ranks that are left. Assumes nothing.
 use Prim.Native.Nat.{ℕ, _+_, _≤_, _<_}
 use mathlib.Core.Path.{_≡_, refl, _∙_, ap}

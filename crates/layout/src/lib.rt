@@ -1,7 +1,7 @@
-// How a dictionary lies in words, as definitions and laws, with the constants and the structs that go with them. The code
-// that reads and writes words stands apart: `access` has that of the heading, slots, lengths, the shape and fresh words,
-// `lookup` that of lookup and the stash view, `collect` and `image` that of whole dictionaries. A wrong definition is
-// refused in seconds here.
+// How a dictionary lies in words, as definitions and laws, with the constants and the structs that go with them. The
+// code that reads and writes words stands apart: `access` has that of the heading, slots, lengths, the shape and fresh
+// words, `lookup` that of lookup and the stash view, `collect` and `image` that of whole dictionaries. A wrong
+// definition is refused in seconds here.
 
 // The words before the slots: r, s, the number of keys, the number of stashed keys and the station number.
 pub const HEADER_LENGTH: usize = 5;

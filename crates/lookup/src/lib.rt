@@ -1,5 +1,6 @@
-// Lookup and the stash view, in words read in place. Every public call takes words of any content and length, and promises
-// its whole answer by a definition of layout/specs/Answers.antt; only `tier_at` wants words of the right shape.
+// Lookup and the stash view, in words read in place. Every public call takes words of any content and length, and
+// promises its whole answer by a definition of layout/specs/Answers.antt; only `tier_at` wants words of the right
+// shape.
 ghost use mathlib.Core.Path.{_≡_};
 ghost use mathlib.Core.Bool.{cond};
 ghost use mathlib.Core.List.{_∷_};

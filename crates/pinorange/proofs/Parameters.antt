@@ -1,8 +1,8 @@
 -- The parameters of a call that is walked, by their kinds: how the value of each is spelled for the machine, that its
 -- type tells so, and that what is spelled is of the type.
---     number-kind, shared-slice, unique-slice, unique-ref       a u32, a `&[X]`, a `&mut [X]`, a `&mut S`. A slice and the
---                      reference say which lifetime is theirs, counted from 0, that there is such a one (`tt`), and
---                      what they are of (u16, a `the-row`)
+--     number-kind, shared-slice, unique-slice, unique-ref      a u32, a `&[X]`, a `&mut [X]`, a `&mut S`. A slice and
+--                      the reference say which lifetime is theirs, counted from 0, that there is such a one (`tt`),
+--                      and what they are of (u16, a `the-row`)
 --     rows-of, spells-of, tells-of, vals-of, typed-of      all of these, for the list of a call's parameters
 --     but, with-arg, with-val      the lifetimes but for one; the arguments, and their machine values, with another for
 --                      one: those of the callee, which has the struct in the place of the reference

@@ -1,4 +1,4 @@
--- `image::write_places` meets its contract: what is image-written, and the places of the ranks that are left, are together the places.
+-- `image::write_places` meets its contract: what is written, and the places of the ranks that are left, are together the places.
 use Prim.Native.Nat.{_≤_, _+_, _*_, _-_}
 use mathlib.Core.Path.{_≡_, refl, sym, _∙_, ap}
 use mathlib.Core.List.{[]}

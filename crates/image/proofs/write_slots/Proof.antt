@@ -1,4 +1,4 @@
--- `image::write_slots` meets its contract: what is image-written, and the slots of the ranks that are left, are together the slots.
+-- `image::write_slots` meets its contract: what is written, and the slots of the ranks that are left, are together the slots.
 use Prim.Native.Nat.{_≤_, _+_, _*_, _-_}
 use mathlib.Core.Path.{_≡_, refl, sym, _∙_, ap}
 use native.Mathlib.Omega.{arith}

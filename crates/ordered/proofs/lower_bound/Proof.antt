@@ -1,4 +1,4 @@
--- `ordered::lower_bound` meets its contract. The invariant: the rank is between `low` and `high`. Assumes nothing.
+-- `ordered::lower_bound` meets its contract. The invariant: the bound is between `low` and `high`. Assumes nothing.
 use borrow.Author.Needs.{needs}
 use Prim.Native.Nat.{_≤_, _+_, _-_, _/_}
 use native.Mathlib.Omega.{arith}
