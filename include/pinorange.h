@@ -57,8 +57,8 @@
  * all: keep a sum with them, and the first number of the version that wrote them. A dump names all keys with their
  * tiers, and nothing else that ever was.
  *
- * Which r and s: for n keys take r = 4n / 5 and s = r / 16, both rounded up, and s at least 8. In the sizes that
- * README.md ("How many cards fit") has measured fewer than one list of random keys in a hundred then refuses one. The
+ * Which r and s: for n keys take r = 4n / 5 and s = r / 16, both rounded up, and s at least 8. In the sizes of
+ * docs/FIGURES.md ("How many cards fit") fewer than one list of random keys in a hundred then refuses one. The
  * largest size, r = 1,024 and s = 64, is that of n = 1,280; with 1,500 keys about half of such lists refuse one.
  *
  * Over-full lists: where not all keys fit, which are refused with 8 hangs on the order in which they come, so that two
@@ -72,8 +72,8 @@
  * SSE2 and nothing above it. The stack is aligned to 16 bytes at a call, as the convention has it, and the 128 bytes
  * below the stack pointer (its red zone) are used, so that an interrupt must not run on the same stack without stepping
  * over them. An interrupt handler that calls the library saves the xmm registers. libpinorange.a needs one function
- * from elsewhere, memset of the C library, no operating system, no heap and no start-up. README.md has how much stack
- * and time a call takes, as measured; docs/DECISIONS.md (10.1) says what another processor would take. */
+ * from elsewhere, memset of the C library, no operating system, no heap and no start-up. docs/FIGURES.md has how much
+ * stack and time a call takes, as measured; docs/DECISIONS.md (10.1) says what another processor would take. */
 #ifndef PINORANGE_H
 #define PINORANGE_H
 
@@ -125,7 +125,7 @@ extern "C" {
  *
  * To list all keys of a canonical image: every filled slot of table 0; every filled slot of table 1, but for a key that
  * stands in its slot of table 0, too (pinorange_hashes tells which that is): the smallest key of a component without a
- * cycle sits in both its slots; and every filled place. README.md ("All cards of a list") has the loop.
+ * cycle sits in both its slots; and every filled place. docs/C.md ("All cards of a list") has the loop.
  *
  * Words are numbers in the processor's own byte order. Heads with one byte order may compare the bytes of their lists;
  * a list that is sent elsewhere, or written to a file, is sent in a fixed order, best the low byte first, as the
@@ -174,7 +174,7 @@ uint32_t pinorange_remove(const uint16_t *tabulation, size_t tabulation_length, 
  * 0 does not say that nobody changed the words: it says that they are the image of some set, and every look-up answers
  * by that set. A change that makes them the image of another set is not found: another tier (0 to 7) beside a key that
  * stands once, another key in a place of the stash that belongs there, too. Nor is a change of the tabulation in an
- * entry that no key of the set uses. README.md ("What a check finds") has how many single bits that are. A head that
+ * entry that no key of the set uses. docs/C.md ("What a check finds") has how many single bits that are. A head that
  * must notice each change compares its words with those of another head that has the same keys, as the station's
  * console does, or with a sum over words and tabulation that it takes after each accepted call and keeps elsewhere. */
 uint32_t pinorange_check(const uint16_t *tabulation, size_t tabulation_length, const uint32_t *words,

@@ -74,7 +74,7 @@ extern __inline__ __attribute__((__always_inline__, __gnu_inline__)) void pinora
  *
  * Which tabulation: the one that the heads have. Unless the station has its own, that is the house tabulation: entry i,
  * for i from 0 to 2,559, is (25,173 * i * i + 13,849) modulo 65,521. The product takes more than 32 bits: work it out
- * in uint64_t. README.md ("A till") has it in C. */
+ * in uint64_t. docs/TILL.md has it in C, and says where 1,000 test vectors are. */
 uint32_t pinorange_hashes(const uint16_t *tabulation, size_t length, uint32_t r, uint32_t station, uint32_t key,
                           uint32_t *table0, uint32_t *table1);
 

@@ -1,16 +1,16 @@
-//! Copies the Rust blocks of README.md to where a doctest finds them. They are not tried in README.md itself, since
+//! Copies the Rust blocks of docs/RUST.md to where a doctest finds them. They are not tried in the page itself, since
 //! rustdoc takes its indented commands for Rust, too.
 
 use std::path::Path;
 use std::{env, fs};
 
 fn main() {
-    let readme = concat!(env!("CARGO_MANIFEST_DIR"), "/../../README.md");
+    let page = concat!(env!("CARGO_MANIFEST_DIR"), "/../../docs/RUST.md");
     println!("cargo:rerun-if-changed=build.rs");
-    println!("cargo:rerun-if-changed={readme}");
-    let text = fs::read_to_string(readme).expect("README.md can be read");
+    println!("cargo:rerun-if-changed={page}");
+    let text = fs::read_to_string(page).expect("docs/RUST.md can be read");
     let folder = env::var_os("OUT_DIR").expect("cargo names a folder");
-    let written = fs::write(Path::new(&folder).join("README.md"), rust_blocks(&text));
+    let written = fs::write(Path::new(&folder).join("RUST.md"), rust_blocks(&text));
     written.expect("the copy can be written");
 }
 

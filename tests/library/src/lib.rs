@@ -167,7 +167,7 @@ pub fn change(change: Change, tabulation: &[u16], words: &mut [u32], key: u32) -
     update(change, tabulation, words, &mut scratch, &mut Counters::default(), key)
 }
 
-/// The Rust blocks of README.md, as doctests: see build.rs.
+/// The Rust blocks of docs/RUST.md, as doctests: see build.rs.
 #[cfg(doctest)]
-#[doc = include_str!(concat!(env!("OUT_DIR"), "/README.md"))]
-struct Readme;
+#[doc = include_str!(concat!(env!("OUT_DIR"), "/RUST.md"))]
+struct RustPage;

@@ -1,22 +1,26 @@
-//! The figures that README.md gives a planner, measured anew: how many cards fit, and which changes of a single bit a
-//! check lets pass. README must have them word for word.
+//! The figures that the pages give a planner, measured anew: how many cards fit, and which changes of a single bit a
+//! check lets pass. The pages must have them word for word.
 
 use std::collections::BTreeSet;
 
 use library::beside::{Kind, ANSWERS};
 use library::room::Room;
 use library::Change::Insert;
-use library::{change, check, fresh, hashes, house, scratch_length, HEADER_LENGTH};
+use library::{change, check, fresh, hashes, house, scratch_length, words_length, HEADER_LENGTH};
 use reference::rng::Rng;
 use reference::samples::random_station;
 
-const README: &str = include_str!("../../../README.md");
+const C: &str = include_str!("../../../docs/C.md");
+const TILL: &str = include_str!("../../../docs/TILL.md");
+const BENCH: &str = include_str!("../../../docs/BENCH.md");
+const FIGURES: &str = include_str!("../../../docs/FIGURES.md");
 
-/// Prints the lines, and asserts that README has each of them.
-fn readme_has(lines: &[String]) {
-    println!("{}", lines.join("\n"));
-    for line in lines {
-        assert!(README.contains(line.as_str()), "README.md lacks: {line}");
+/// Prints the texts, and asserts that the page has each of them, wherever its lines end.
+fn page_has(page: &str, texts: &[String]) {
+    println!("{}", texts.join("\n"));
+    let page = page.split_whitespace().collect::<Vec<_>>().join(" ");
+    for text in texts {
+        assert!(page.contains(text.as_str()), "the page lacks: {text}");
     }
 }
 
@@ -98,7 +102,7 @@ fn counts(r: u32, s: u32) -> Vec<usize> {
     counts
 }
 
-/// A row of README's table.
+/// A row of the table of what fits.
 fn row_of(r: u32, s: u32, counts: &[usize]) -> String {
     let [least, one_in_100, median] = [0, LISTS / 100, LISTS / 2].map(|i| grouped(counts[i]));
     let [slots, all] = [r, 2 * r + s].map(|number| grouped(number as usize));
@@ -109,8 +113,8 @@ fn row_of(r: u32, s: u32, counts: &[usize]) -> String {
 fn how_many_cards_fit() {
     let sizes: [(u32, u32); 8] =
         [(16, 4), (64, 8), (128, 8), (256, 16), (512, 32), (1_024, 0), (1_024, 16), (1_024, 64)];
-    readme_has(&sizes.map(|(r, s)| row_of(r, s, &counts(r, s))));
-    // Of a size in between README says to take the row with the next smaller r and s.
+    page_has(FIGURES, &sizes.map(|(r, s)| row_of(r, s, &counts(r, s))));
+    // Of a size in between the page says to take the row with the next smaller r and s.
     for ((r, s), (less_r, less_s)) in
         [((100, 10), (64, 8)), ((300, 20), (256, 16)), ((800, 48), (512, 32))]
     {
@@ -119,7 +123,31 @@ fn how_many_cards_fit() {
     }
 }
 
-/// The places that README gives a till maker to try a hash of his own on.
+/// A row of the table of sizes to take.
+fn size_row(cards: u32, r: u32, s: u32) -> String {
+    let bytes = [words_length(r, s), scratch_length(r, s)].map(|words| grouped(4 * words));
+    let [cards, slots] = [cards, r].map(|number| grouped(number as usize));
+    format!("| {cards} | {slots} | {s} | {} | {} |", bytes[0], bytes[1])
+}
+
+/// The rule by which r and s are taken for so many cards: fewer than one list in a hundred refuses one of them.
+#[test]
+fn which_r_and_s() {
+    let rows = [80_u32, 160, 320, 640, 1_280].map(|cards| {
+        let r = (4 * cards).div_ceil(5);
+        let s = r.div_ceil(16).max(8);
+        let counts = counts(r, s);
+        assert!(counts[LISTS / 100 - 1] >= cards as usize, "{cards} cards");
+        size_row(cards, r, s)
+    });
+    page_has(FIGURES, &rows);
+    // The largest size with more cards than it is for.
+    let refusing = counts(1_024, 64).iter().filter(|count| **count < 1_500).count();
+    let about_half = LISTS * 2 / 5..=LISTS * 3 / 5;
+    assert!(about_half.contains(&refusing), "{refusing} lists refuse one of 1,500");
+}
+
+/// The places that a till maker is given to try a hash of his own on.
 #[test]
 fn places_for_a_till() {
     let tabulation = house_tabulation();
@@ -128,14 +156,14 @@ fn places_for_a_till() {
         assert_eq!(answer, 0);
         format!("{card} {first} and {second}")
     });
-    readme_has(&places);
+    page_has(TILL, &places);
 }
 
-/// README's table of what A and W lines are answered has each number that an insert and a remove can give, in the order
-/// in which they are tried, but for 1 to 4, which the console's own memory never gets.
+/// The bench's table of what A and W lines are answered has each number that an insert and a remove can give, in the
+/// order in which they are tried, but for 1 to 4, which the console's own memory never gets.
 #[test]
 fn answers_at_the_bench() {
-    let rows: Vec<[&str; 2]> = README
+    let rows: Vec<[&str; 2]> = BENCH
         .lines()
         .skip_while(|line| *line != "| answer | on | what it says |")
         .skip(2)
@@ -154,7 +182,7 @@ fn answers_at_the_bench() {
     }
 }
 
-/// A number as README writes it: 1,024.
+/// A number as the pages write it: 1,024.
 fn grouped(number: usize) -> String {
     if number < 1_000 {
         number.to_string()
@@ -213,10 +241,11 @@ fn changes_that_a_check_lets_pass() {
         sums = [0, 1, 2].map(|i| sums[i] + counts[i]);
     }
     let [all, slots, places, keys] = [sums.iter().sum(), sums[0], sums[2], sums[1]].map(grouped);
-    readme_has(&[
+    let texts = [
         format!("of 195,200 single bits {all} are not found"),
         format!("{slots} in the tiers of pockets, {places} in those of the drawer, {keys} in the drawer's card numbers"),
-    ]);
+    ];
+    page_has(C, &texts);
     let empty: Vec<Vec<u32>> = lists(10).filter(|words| words[3] == 0).collect();
     let found: Vec<[usize; 3]> = empty.iter().map(|words| unnoticed(&tabulation, words)).collect();
     assert!(empty.len() > 50 && found.iter().all(|counts| counts[1] == 0 && counts[2] == 0));

@@ -1,11 +1,11 @@
-/* README.md's head in C, as it stands there (scripts/snippets takes it out): each of its functions is run, and what it prints is compared with the cards that
- * were added. */
+/* The head in C of docs/C.md, as it stands there (scripts/snippets takes it out): each of its functions is run, and
+ * what it prints is compared with the cards that were added. */
 #include <stdarg.h>
 #include <stdint.h>
 #include <stdio.h>
 #include <string.h>
 
-/* What README's code prints. */
+/* What the page's code prints. */
 static char printed[1 << 17];
 static size_t used;
 
@@ -18,8 +18,8 @@ static int record(const char *format, ...) {
 }
 
 #define printf record
-#define main readme_main
-#include "readme_1.c"
+#define main page_main
+#include "page_head.c"
 #undef main
 #undef printf
 
@@ -45,6 +45,12 @@ static unsigned times(const char *text) {
     return count;
 }
 
+static void list_cards(void) {
+    forget();
+    list_seated();
+    list_stashed();
+}
+
 /* Adds cards, more than there are pockets for in places, and expects each that was accepted in the listing once. */
 static void listed_once(void) {
     enum { CARDS = 1700 };
@@ -52,13 +58,12 @@ static void listed_once(void) {
     uint32_t count = 0, card = 0;
     for (uint32_t i = 0; i < CARDS; i++) {
         card = card * 1664525u + 1013904223u;
-        if (pinorange_insert(BOOK, LIST, SHEET, &counters, card, i % 8) == PINORANGE_DONE)
+        if (insert_plainly(card, i % 8) == PINORANGE_DONE)
             cards[count++] = card;
     }
-    expect(count > 1400 && words[3] > 0, "many cards are listed, and the drawer is in use");
-    forget();
+    expect(count > 1400 && memory.words[3] > 0, "many cards are listed, and the drawer is in use");
     list_cards();
-    expect(times("\n") == words[2] && words[2] == count + 1, "the listing has a line for each card");
+    expect(times("\n") == memory.words[2] && memory.words[2] == count + 1, "the listing has a line for each card");
     for (uint32_t i = 0; i < count; i++) {
         char text[32];
         snprintf(text, sizeof text, "card %u,", (unsigned)cards[i]);
@@ -68,9 +73,8 @@ static void listed_once(void) {
 }
 
 int main(void) {
-    expect(readme_main() == 0, "the head's main");
+    expect(page_main() == 0, "the head's main");
     expect(strcmp(printed, "410017 is listed at tier 3\n") == 0, "what it prints");
-    forget();
     list_cards();
     expect(strcmp(printed, "card 410017, tier 3\n") == 0, "a lone card is listed once");
     expect(price_of_sale(410017) == 1699 && price_of_sale(410018) == 0, "the price of a sale");
@@ -80,6 +84,6 @@ int main(void) {
     expect(replace_card(410017, 410019, 5) == PINORANGE_DONE, "a card is replaced");
     expect(price_of_sale(410017) == 0 && price_of_sale(410019) == 1749, "by another issue at another tier");
     listed_once();
-    printf("README's head: %u failures\n", failures);
+    printf("head.c: %u failures\n", failures);
     return failures != 0;
 }
