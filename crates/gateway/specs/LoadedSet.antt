@@ -11,15 +11,13 @@ use Rattle.basics.specs.Sets.{member, Asc}
 use Rattle.hashing.specs.Hash.{Hashing}
 use Rattle.layout.specs.declared.Header.{Header}
 use Rattle.layout.specs.Entries.{keys-of, tier-of, keys-tiered, tier-tiered}
-use Rattle.layout.specs.Layout.{Params, ValidKeys, OneIssue, header-of, params-of, slots-of, places-of, key-count}
+use Rattle.layout.specs.Layout.{Params, OneIssue, header-of, params-of, key-count}
 use Rattle.layout.specs.Layout.{image, image-by, keys-in, tier-in, set-in}
 use Rattle.layout.specs.Canonical.{canonical-true}
 use Rattle.layout.specs.Shape.{Shaped, shape}
 use Rattle.layout.specs.Standing.{keys-in-valid}
 use Rattle.collect.specs.Collect.{keys-in-few}
 use Rattle.build.specs.Scratch.{used}
-use Rattle.build.specs.Build.{Buildable}
-use Rattle.scratch_set.specs.Edges.{Lined, lined-buildable}
 use Rattle.scratch_set.specs.Members.{keys-at, lined-keys}
 use Rattle.gateway.specs.Loading.{LoadedSet}
 

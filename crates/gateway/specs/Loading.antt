@@ -8,14 +8,14 @@ use mathlib.Core.List.{List, [], _∷_, _++_, List·Memᴰ as In}
 use native.Mathlib.Omega.{arith}
 use borrow.Author.Tests.{eq-eqb, ne-eqb}
 use lib.Dec.{eqb}
-use lib.ListN.{length, take}
+use lib.ListN.{length}
 use Rattle.basics.specs.Tests.{bool-ext}
 use Rattle.basics.specs.Lists.{same, same-true, true-same}
 use Rattle.refusals.specs.Refusal.{done, not-canonical, first-refusal, front-applies, front-passes, front-none}
 use Rattle.layout.specs.declared.Header.{Header}
-use Rattle.layout.specs.Layout.{Params, ValidKeys, one-issue, header-of, params-of, slots-of, places-of, station-of}
+use Rattle.layout.specs.Layout.{Params, ValidKeys, one-issue, header-of, params-of, slots-of, places-of}
 use Rattle.layout.specs.Layout.{shaped, fits, image, keys-in, tier-in}
-use Rattle.layout.specs.Entries.{keys-of, tiered, keys-tiered, tiered-agree, tiered-in, in-tiered}
+use Rattle.layout.specs.Entries.{tiered, keys-tiered, tiered-agree, tiered-in, in-tiered}
 use Rattle.layout.specs.Canonical.{canonical, canonical-tier, canonical-true, image-of-canonical}
 use Rattle.layout.specs.Ready.{early-refusals, first-refusals, Ready, none-ready, head-ready}
 use Rattle.layout.specs.Issues.{one-issue-iff}

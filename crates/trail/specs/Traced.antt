@@ -2,7 +2,7 @@
 -- written. The contracts of the functions cite `seat-in`, `Traceable` and what is told: of a trail, of a set, of a call. Assumes nothing.
 use Prim.Native.Nat.{ℕ, zero, suc, _+_, _-_, _≤_, _<_}
 use mathlib.Core.Path.{_≡_, refl, sym, _∙_, ap}
-use mathlib.Core.Bool.{true, false, not, cond}
+use mathlib.Core.Bool.{true, false, cond}
 use mathlib.Core.Logic.{inl, inr}
 use mathlib.Core.List.{List, [], _∷_, _++_}
 use native.Mathlib.Omega.{arith}
@@ -23,11 +23,11 @@ use Rattle.refusals.specs.Refusal.{done, blank-key, key-absent, short-trail, fi
 use Rattle.hashing.specs.Hash.{tables, blank}
 use Rattle.hashing.specs.Slots.{slot-0, slot-1, slot-0-lt, slot-1-le, slot-1-lt}
 use Rattle.layout.specs.Entries.{keys-of, keys-tiered}
-use Rattle.layout.specs.Layout.{Params, family, family-of, header-of, params-of, slots-of, station-of, image, keys-in, tier-in, set-in, key-at}
+use Rattle.layout.specs.Layout.{Params, family, family-of, header-of, params-of, slots-of, image, keys-in, tier-in, set-in, key-at}
 use Rattle.layout.specs.Canonical.{canonical, canonical-true}
 use Rattle.layout.specs.Image.{image-key}
 use Rattle.layout.specs.declared.Header.{Header}
-use Rattle.layout.specs.Shape.{shape, same-header, by-own-family}
+use Rattle.layout.specs.Shape.{same-header, by-own-family}
 use Rattle.layout.specs.Standing.{keys-in-valid, not-blank}
 use Rattle.outcome.specs.declared.Traced.{Traced}
 use Rattle.outcome.specs.declared.Traced.the-variants.{Length, Refused}
