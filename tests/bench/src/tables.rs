@@ -47,14 +47,14 @@ fn print_rows(cases: &[Case], cells: impl Fn(usize, usize) -> [String; PARTNERS.
 
 impl Measured {
     fn print_instructions(&self) {
-        let columns = "instructions, case|keys|insert|to plain|to ranks|remove|to plain|to ranks|check|to plain|to ranks";
+        let columns = "instructions|keys|insert|to plain|to ranks|remove|to plain|to ranks|check|to plain|to ranks";
         head(&columns.split('|').collect::<Vec<_>>());
         print_rows(&self.cases, |case, call| {
             let call = CHANGES[call];
             let ratio = |who: usize| format!("{:.2}", self.instructions.ratio(case, who, call));
             [grouped(self.instructions.of(case, 0, call)), ratio(1), ratio(2)]
         });
-        head(&["instructions, case", "keys", "lookup of 2 × keys", "to the twins"]);
+        head(&["instructions", "keys", "lookup of 2 × keys", "to the twins"]);
         for (number, case) in self.cases.iter().enumerate() {
             let ours = grouped(self.instructions.of(number, 0, Call::Lookup));
             let ratio = format!("{:.2}", self.instructions.ratio(number, 1, Call::Lookup));
@@ -65,7 +65,7 @@ impl Measured {
     /// What a trail takes beside a check of the same words.
     fn print_trails(&self) {
         let columns =
-            "instructions, case|keys|check|shortest trail|its keys|typical trail|its keys";
+            "instructions|keys|check|shortest trail|its keys|typical trail|its keys";
         head(&columns.split('|').collect::<Vec<_>>());
         for (number, case) in self.cases.iter().enumerate() {
             let check = grouped(self.instructions.of(number, 0, Call::Check));
@@ -77,7 +77,7 @@ impl Measured {
     }
 
     fn print_times(&self) {
-        let columns = "time, case|keys|insert µs|to plain|to ranks|remove µs|to plain|to ranks|check µs|to plain|to ranks";
+        let columns = "time|keys|insert µs|to plain|to ranks|remove µs|to plain|to ranks|check µs|to plain|to ranks";
         head(&columns.split('|').collect::<Vec<_>>());
         print_rows(&self.cases, |case, call| {
             let found = &self.changes[case];
@@ -146,7 +146,7 @@ fn tallies(case: &Case) -> Vec<Tally> {
 /// 2,048 slots. The moves while linking are at most n log2 n ("Two-way chaining with reassignment"): a rank moves when its set is the smaller one of two.
 pub fn print_counts() {
     assert!(cfg!(feature = "counts"), "this build does not count");
-    let columns = "counts, case|keys n|n log2 n|steps|of these linking|most steps|longest way|moves|of these linking|most moves";
+    let columns = "counts|keys n|n log2 n|steps|linking|most steps|longest way|moves|linking|most moves";
     head(&columns.split('|').collect::<Vec<_>>());
     for case in (0..CASES).map(|number| numbered(number, SETS)) {
         let tallies = tallies(&case);

@@ -69,7 +69,7 @@ const ROWS: &[Row] = &[
     ] },
     Row { name: "insert, accepted", candidates: &[
         on(Kind::PendantComes, Call::Insert(Key::Extra), 0,
-            "cycle through all slots but one, stash full; the smallest key comes, for the last slot"),
+            "cycle but one; the smallest key, for the last slot"),
         on(Kind::LastComes, Call::Insert(Key::Extra), 0,
             "cycle through all slots; the largest key comes, for the last place"),
         on(Kind::HalvesLastComes, Call::Insert(Key::Extra), 0, "the same, joined by halves"),
@@ -80,13 +80,13 @@ const ROWS: &[Row] = &[
     ] },
     Row { name: "insert, refused", candidates: &[
         on(Kind::NoRoom, Call::Insert(Key::Extra), 8,
-            "8, cycle through all slots but one, stash full; the smallest key comes, for the cycle"),
+            "8, cycle but one; the smallest key, for the cycle"),
         on(Kind::Displaced, Call::Insert(Key::Extra), 4, "4, 2r + 64 keys, none in a slot of its own"),
         on(Kind::HalvesDisplaced, Call::Insert(Key::Extra), 4, "the same, joined by halves"),
     ] },
     Row { name: "remove, accepted", candidates: &[
         on(Kind::Pendant, Call::Remove(Key::Smallest), 0,
-            "cycle through all slots but one, stash full; the smallest key goes, from the last slot"),
+            "cycle but one; the smallest key, from the last slot"),
         on(Kind::Full, Call::Remove(Key::Largest), 0, "cycle through all slots; the key in the last place goes"),
         on(Kind::Full, Call::Remove(Key::Middle), 0, "cycle through all slots; the middle key goes"),
         on(Kind::Halves, Call::Remove(Key::Middle), 0, "the same, joined by halves"),
