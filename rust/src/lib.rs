@@ -73,6 +73,8 @@ mod calls;
 #[allow(unsafe_code)]
 mod hashing;
 
+#[allow(unsafe_code)]
+mod bound;
 pub mod raw;
 mod refusal;
 

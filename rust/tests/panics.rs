@@ -15,10 +15,11 @@ use compiler::{build_crate, built, folder, rustc_user, source};
 /// Functions that a compiler may call where the program copies, fills or compares.
 const ON_MEMORY: [&str; 5] = ["memcpy", "memmove", "memset", "memcmp", "bcmp"];
 
-/// The names of the calls that the crate declares.
+/// The names of the calls that the crate declares, and of the symbol that binds it to its version.
 fn declared() -> BTreeSet<String> {
-    let behind = include_str!("../src/raw.rs").split("pub fn ").skip(1);
-    behind.filter_map(|text| Some(text.split_once('(')?.0.to_string())).collect()
+    let texts = [include_str!("../src/raw.rs"), include_str!("../src/bound.rs")];
+    let behind = texts.iter().flat_map(|text| text.split(" fn pinorange_").skip(1));
+    behind.filter_map(|text| Some(format!("pinorange_{}", text.split_once('(')?.0))).collect()
 }
 
 /// The symbols of an archive: those that it needs, or those that it has.

@@ -178,7 +178,7 @@ pub fn print(path: &str) {
     let counts = read(path);
     let sizes = SIZES.map(|r| format!("r = {}", grouped(r)));
     let title =
-        format!("the most instructions found for one call, s = {PLACES} (the most drawer places)");
+        format!("call, s = {PLACES}");
     let case = format!("where, at {}", sizes[SIZES.len() - 1]);
     head(&[&title, &sizes[0], &sizes[1], &sizes[2], &sizes[3], &case]);
     let mut first = 0;
