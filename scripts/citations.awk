@@ -3,7 +3,8 @@
 #
 #     heading  its text
 #     item     an item of a list, with how many files it cites
-#     file     a link, or a path between backticks, with the heading that it leads to
+#     link     the file that it leads to, with the heading
+#     file     a path between backticks
 #     name     a name that a file is said to declare: `path: name, name`, or a link to a source with names behind a
 #              colon, each between backticks
 #     base     the name of a file without its folder, between backticks
@@ -38,7 +39,7 @@ function follow(target, rest,   path, heading, folder) {
     folder = document
     if (!sub(/\/[^\/]*$/, "", folder)) folder = ""
     path = path == "" ? document : plain(folder "/" path)
-    say("file", path, heading)
+    say("link", path, heading)
     cited++
     if (path !~ /\.(antt|rt|rs|c|h)$/) return rest
     if (rest !~ /^: `/) return rest

@@ -225,8 +225,8 @@ module _ (tabulation ws before : List ℕ) where
         r .0 ∙ sym (front-applies (first-refusals tabulation ws before) rest (λ q. r .1 (r .0 ∙ q)))
 
     -- or the heading of the words, and their set stands in scratch;
-    pub loaded-set : {h : Header} → l ≡ Set h → (h ≡ header-of ws) × LoadedSet tabulation ws left
-    loaded-set {h} e = (heading-is, T .1 .1 passed)
+    pub loaded-set : {h : Header} → l ≡ Set h → LoadedSet tabulation ws left × (h ≡ header-of ws)
+    loaded-set {h} e = (T .1 .1 passed, heading-is)
       where
         passed : load-refusal tabulation ws before ≡ done
         passed = sym (rw e at (T .0))

@@ -30,6 +30,19 @@ pub enum Kind {
     House,
 }
 
+impl Kind {
+    /// The calls on words that were laid before.
+    pub const ON_WORDS: [Kind; 7] = [
+        Kind::Insert,
+        Kind::Remove,
+        Kind::Check,
+        Kind::Lookup,
+        Kind::Stash,
+        Kind::Trail,
+        Kind::Open,
+    ];
+}
+
 /// The answers that each call can give, refusals in the order in which they are tried. Specification, "What a call gives back".
 pub const ANSWERS: &[(Kind, &[u32])] = &[
     (Kind::Init, &[0, 2]),

@@ -19,9 +19,7 @@ trace-listed-requires : tie.Need-trace-listed-requires
 trace-listed-requires c κs =
     let s = c .before .before .before in
     let a = load-at s .before .before .before .before .before .before .args in
-    let g = loaded-set (a .tabulation .now) (a .words .now) (a .scratch .now) (load-at s .load .ensures)
-    (s .loaded .given .1) in
-    (g .1, g .0)
+    loaded-set (a .tabulation .now) (a .words .now) (a .scratch .now) (load-at s .load .ensures) (s .loaded .given .1)
 
 enum-known-loaded-2 : tie.Need-enum-known-loaded-2
 enum-known-loaded-2 c = search needs

@@ -41,17 +41,8 @@ fn sequences_on_small_boards() {
     }
     println!("{} calls on small boards", beside.calls());
     assert!(beside.calls() > 900_000);
-    beside.report(&[
-        Kind::Init,
-        Kind::Insert,
-        Kind::Remove,
-        Kind::Check,
-        Kind::Lookup,
-        Kind::Stash,
-        Kind::Trail,
-        Kind::Open,
-        Kind::Hashes,
-    ]);
+    beside.report(&[Kind::Init, Kind::Hashes]);
+    beside.report(&Kind::ON_WORDS);
     for refusal in [9, 13, 10, 6] {
         assert!(beside.given(Kind::Insert, refusal) > 5_000, "{refusal} is rare");
     }

@@ -181,16 +181,7 @@ fn damages_of_the_station() {
     println!("changed stations, by the answers of check and of a sale: {times:?}");
     assert_eq!(Vec::from_iter(times.keys().copied()), [(0, 0), (2, 2), (4, 0), (4, 7)]);
     assert!(times.values().all(|times| *times > 300));
-    let on_words = [
-        Kind::Insert,
-        Kind::Remove,
-        Kind::Check,
-        Kind::Lookup,
-        Kind::Stash,
-        Kind::Trail,
-        Kind::Open,
-    ];
-    for kind in on_words {
+    for kind in Kind::ON_WORDS {
         assert!(beside.refused_stations(kind) > 2_000, "{kind:?} was seldom asked");
     }
 }
