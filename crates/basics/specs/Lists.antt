@@ -182,7 +182,7 @@ first-drop L i l =
     ]
 
 -- no member of an ascending list is smaller than the first
-first-low : {L : List ℕ} {d : ℕ} → Asc L → In d L → first L ≤ d
+pub first-low : {L : List ℕ} {d : ℕ} → Asc L → In d L → first L ≤ d
 first-low (some h k) (here q) = le-of-eq (sym q)
 first-low (some h k) (there i) = omega (arith, h _ i)
 

@@ -162,6 +162,16 @@ pub true-any : {A : Type 0} (p : A → Bool) {R : List A} {d : A} → In d R →
 true-any p (here {x = d} q) e = let e′ : p d ≡ true = cc in rw e′
 true-any p (there {x = d} h) e = rw (true-any p h e, or-true)
 
+-- none passes exactly if each of them fails
+pub any-false : {A : Type 0} (p : A → Bool) (R : List A) → any p R ≡ false → (d : A) → In d R → p d ≡ false
+any-false p R e d i = elim (test (p d)) [ inl t ↦ absurd (true≢false (sym (true-any p i t) ∙ e)) | inr t ↦ t ]
+
+pub false-any : {A : Type 0} (p : A → Bool) (R : List A) → ((d : A) → In d R → p d ≡ false) → any p R ≡ false
+false-any p R f = elim (test (any p R)) [
+  | inl t ↦ let r = any-true p R t in absurd (true≢false (sym (r .2) ∙ f (r .0) (r .1)))
+  | inr t ↦ t
+]
+
 pub asc-keep : (p : ℕ → Bool) {R : List ℕ} → Asc R → Asc (keep p R)
 asc-keep p none = none
 asc-keep p (some {c} {R} h k) = go (p c) (asc-keep p k)

@@ -30,6 +30,10 @@ pub or-cases : (p q : Bool) → (p || q) ≡ true → (p ≡ true) ⊎ (q ≡ tr
 or-cases true q e = inl refl
 or-cases false q e = inr e
 
+pub or-false : (p q : Bool) → (p || q) ≡ false → (p ≡ false) × (q ≡ false)
+or-false true q e = absurd (false≢true (sym e))
+or-false false q e = (refl, e)
+
 -- two tests that pass together are equal
 pub bool-ext : (p q : Bool) → (p ≡ true → q ≡ true) → (q ≡ true → p ≡ true) → p ≡ q
 bool-ext true q f g = sym (f refl)

@@ -41,14 +41,19 @@ module _ (P : Params) where
       let e : words-length r s - header-length ≡ slot-width * (r + r) + place-width * (s - 0) = omega arith in
       rw (e, empty-slots 0 (r + r), replicate-append-replicate)
 
+-- the test of a target: r, s and the station are in their ranges, and the words have the length that r and s ask for
+pub target-sizes : (len r s station : ℕ) → (params-in-range r s station && eqb len (words-length r s)) ≡ true
+    → (params-in-range r s station ≡ true) × (len ≡ words-length r s)
+target-sizes len r s station e =
+    let p = and-true (params-in-range r s station) (eqb len (words-length r s)) e in
+    (p .0, eqb-true len (words-length r s) (p .1))
+
 -- an accepted call lays the image of the empty set
 module _ (P : Params) (ws : List ℕ) (accepted : fresh-refusal (length ws) (P .slots) (P .places) (P .station) ≡ done) where
   pub fresh-sizes : (params-in-range (P .slots) (P .places) (P .station) ≡ true) × (length ws ≡ words-length (P .slots) (P .places))
   unfolding fresh-refusal
   fresh-sizes = elim (test (params-in-range (P .slots) (P .places) (P .station) && eqb (length ws) (words-length (P .slots) (P .places)))) [
-    | inl e ↦
-        let p = and-true (params-in-range (P .slots) (P .places) (P .station)) (eqb (length ws) (words-length (P .slots) (P .places))) e in
-        (p .0, eqb-true (length ws) (words-length (P .slots) (P .places)) (p .1))
+    | inl e ↦ target-sizes (length ws) (P .slots) (P .places) (P .station) e
     | inr e ↦ absurd (let z : _≡_ {A = ℕ} 2 0 = rw e at accepted in omega arith)
   ]
 

@@ -64,14 +64,19 @@ wrong-price = 12
 abbrev pub other-issue : ℕ
 other-issue = 13
 
+-- 14, "odd number of words, or cards not strictly rising"
+abbrev pub not-rising : ℕ
+not-rising = 14
+
 -- the number of the first refusal whose test holds, or done
 abbrev pub first-refusal : List (ℕ × Bool) → ℕ
 first-refusal [] = done
 first-refusal (r ∷ rs) = cond (r .1) (r .0) (first-refusal rs)
 
 -- The laws. The numbers are those of document 01's table, and after them those of document 02.
-pub table : done ∷ wrong-tabulation ∷ wrong-shape ∷ short-scratch ∷ not-canonical ∷ blank-key ∷ key-present ∷ key-absent ∷ stash-full ∷ wrong-tier ∷ other-tier ∷ short-trail ∷ wrong-price ∷ other-issue ∷ []
-    ≡ 0 ∷ 1 ∷ 2 ∷ 3 ∷ 4 ∷ 5 ∷ 6 ∷ 7 ∷ 8 ∷ 9 ∷ 10 ∷ 11 ∷ 12 ∷ 13 ∷ []
+pub table : done ∷ wrong-tabulation ∷ wrong-shape ∷ short-scratch ∷ not-canonical ∷ blank-key ∷ key-present ∷ key-absent
+    ∷ stash-full ∷ wrong-tier ∷ other-tier ∷ short-trail ∷ wrong-price ∷ other-issue ∷ not-rising ∷ []
+    ≡ 0 ∷ 1 ∷ 2 ∷ 3 ∷ 4 ∷ 5 ∷ 6 ∷ 7 ∷ 8 ∷ 9 ∷ 10 ∷ 11 ∷ 12 ∷ 13 ∷ 14 ∷ []
 table = refl
 
 -- The first that applies is given: the first of the list, if its test holds,

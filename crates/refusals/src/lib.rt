@@ -40,3 +40,6 @@ pub const WRONG_PRICE: u32 = 12;
 
 // Insert of a key of which another issue is in the set.
 pub const OTHER_ISSUE: u32 = 13;
+
+// The input of a bulk load has an odd number of words, or its keys do not rise.
+pub const NOT_RISING: u32 = 14;
