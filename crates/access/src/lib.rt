@@ -2,8 +2,10 @@
 // counts words but by what stands here and the constants of `layout`. Each function promises what a definition of
 // layout/specs says.
 ghost use mathlib.Core.Path.{_≡_};
+ghost use mathlib.Core.Bool.{_&&_};
 ghost use mathlib.Core.List.{_++_};
 ghost use Prim.Native.Nat.{_+_, _*_, _≤_, _<_};
+ghost use lib.Dec.{eqb};
 ghost use lib.ListN.{length, getD, take, drop};
 ghost use Rattle.hashing.specs.Hash.{max-slots};
 ghost use Rattle.layout.specs.Layout.{header-of, header-words, header-length, with-keys, with-stashed};
@@ -11,7 +13,7 @@ ghost use Rattle.layout.specs.Layout.{slot-width, slots-of};
 ghost use Rattle.layout.specs.Layout.{sizes-in-range, params-in-range, shaped, words-length};
 ghost use Rattle.layout.specs.Layout.{scratch-length, key-at, stash-at, tier-at, slot-entry};
 ghost use Rattle.layout.specs.Shape.{Sized, Shaped};
-ghost use Rattle.layout.specs.Answers.{fresh-refusal, fresh-words};
+ghost use Rattle.layout.specs.Answers.{fresh-refusal, fresh-header, fresh-words};
 use layout::HEADER_LENGTH;
 use layout::Header;
 use layout::MAX_PLACES;
@@ -34,6 +36,16 @@ pub fn are_params(r: u32, s: u32, station: u32) -> bool
     ensures { λ b. ⌜ b ≡ params-in-range r s station ⌝ }
 {
     are_sizes(r, s) && ranges::is_station(station)
+}
+
+// Whether words of this length can be laid as a dictionary with this r, s and station.
+pub fn is_target(len: usize, r: u32, s: u32, station: u32) -> bool
+    ensures { λ b. ⌜ b ≡ (params-in-range r s station && eqb len (words-length r s)) ⌝ }
+{
+    if !are_params(r, s, station) {
+        return false;
+    }
+    len == length_for(r, s)
 }
 
 // The heading of words that are long enough to have one.
@@ -60,6 +72,19 @@ pub fn write_header(words: &mut [u32], header: Header)
     words[2] = header.keys;
     words[3] = header.stashed;
     words[4] = header.station;
+}
+
+// The heading of a dictionary that has no keys.
+pub fn fresh_header(r: u32, s: u32, station: u32) -> Header
+    ensures { λ h. ⌜ h ≡ fresh-header r s station ⌝ }
+{
+    Header {
+        slots: r,
+        places: s,
+        keys: 0,
+        stashed: 0,
+        station: station,
+    }
 }
 
 // A heading with another number of keys.
@@ -184,20 +209,10 @@ pub fn fresh(words: &mut [u32], r: u32, s: u32, station: u32) -> u32
     ensures numbered { λ n. ⌜ n ≡ fresh-refusal (length (now (words .entry))) r s station ⌝ }
     ensures laid { λ n. ⌜ now (words .exit) ≡ fresh-words (now (words .entry)) r s station ⌝ }
 {
-    if !are_params(r, s, station) {
-        return WRONG_SHAPE;
-    }
-    if words.len() != length_for(r, s) {
+    if !is_target(words.len(), r, s, station) {
         return WRONG_SHAPE;
     }
     fill(&mut *words, 0);
-    let header = Header {
-        slots: r,
-        places: s,
-        keys: 0,
-        stashed: 0,
-        station: station,
-    };
-    write_header(words, header);
+    write_header(words, fresh_header(r, s, station));
     0
 }

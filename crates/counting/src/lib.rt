@@ -1,10 +1,11 @@
-// Init, insert and remove with the counters, by value: counts in and counts out, for callers that hold them so. The
+// Init, bulk load, insert and remove with the counters, by value: counts in and counts out, for callers that hold them so. The
 // calls that hold the counters by reference are in `pinorange`.
 ghost use mathlib.Core.Path.{_≡_};
 ghost use lib.ListN.{length};
 ghost use Rattle.counters.specs.Counters.{counted};
 ghost use Rattle.layout.specs.Answers.{fresh-refusal, fresh-words};
 ghost use Rattle.outcome.specs.Outcome.{change-outcome};
+ghost use Rattle.bulk.specs.Bulk.{params-for, bulk-outcome};
 use counters::Counted;
 use counters::Counters;
 use counters::with_counts;
@@ -74,4 +75,24 @@ pub fn remove(
     ensures moved { λ c. ⌜ c .counters ≡ counted counters (c .answer) ⌝ }
 {
     update(Change::Remove, tabulation, words, scratch, key, counters)
+}
+
+// Bulk load, its parameters in the order of the exported call, too.
+pub fn bulk_load(
+    tabulation: &[u16],
+    words: &mut [u32],
+    scratch: &mut [u32],
+    counters: Counters,
+    r: u32,
+    s: u32,
+    station: u32,
+    input: &[u32],
+) -> Counted
+    ensures loaded { λ c. ⌜ record { answer = c .answer; words = now (words .exit); scratch = now (scratch .exit) }
+        ≡ bulk-outcome (params-for (now (tabulation .entry)) r s station) (now (input .entry)) (now (words .entry))
+        (now (scratch .entry)) ⌝ }
+    ensures moved { λ c. ⌜ c .counters ≡ counted counters (c .answer) ⌝ }
+{
+    let answer = bulk_load::bulk_load(tabulation, words, scratch, r, s, station, input);
+    with_counts(answer, counters)
 }
