@@ -7,6 +7,7 @@ ghost use Rattle.hashing.specs.Hash.{tables};
 ghost use Rattle.hashing.specs.Answer.{hashes-refusal, written};
 ghost use Rattle.layout.specs.Answers.{lookup-refusal, view-refusal, fresh-refusal, fresh-words};
 ghost use Rattle.outcome.specs.Outcome.{change-outcome, check-outcome};
+ghost use Rattle.bulk.specs.Bulk.{params-for, bulk-outcome};
 ghost use Rattle.outcome.specs.Trail.{trail-outcome};
 ghost use Rattle.outcome.specs.Sale.{sale-refusal, sale-left, closed};
 ghost use Rattle.counters.specs.Counters.{counted};
@@ -89,6 +90,30 @@ pub extern "C" fn pinorange_init(
 {
     let old = *counters;
     let new = counting::init(words, r, s, station, old);
+    *counters = new.counters;
+    new.answer
+}
+
+// Lays a whole list in one call, and moves the counters on: the input alternates key and tier, the keys ascending. The
+// words have no say but by their length; the scratch is zero over its full length afterwards.
+#[no_mangle]
+pub extern "C" fn pinorange_bulk_load(
+    tabulation: &[u16],
+    words: &mut [u32],
+    scratch: &mut [u32],
+    counters: &mut Counters,
+    r: u32,
+    s: u32,
+    station: u32,
+    input: &[u32],
+) -> u32
+    ensures loaded { λ n. ⌜ record { answer = n; words = now (words .exit); scratch = now (scratch .exit) }
+        ≡ bulk-outcome (params-for (now (tabulation .entry)) r s station) (now (input .entry)) (now (words .entry))
+        (now (scratch .entry)) ⌝ }
+    ensures moved { λ n. ⌜ now (counters .exit) ≡ counted (now (counters .entry)) n ⌝ }
+{
+    let old = *counters;
+    let new = counting::bulk_load(tabulation, words, scratch, old, r, s, station, input);
     *counters = new.counters;
     new.answer
 }
