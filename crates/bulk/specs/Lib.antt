@@ -3,3 +3,4 @@
 pub mod Bulk
 pub mod Input
 pub mod Laws
+pub mod Rows
