@@ -1,5 +1,6 @@
 -- Entries inserted one by one in a sequence of calls, and orders of a set, as definitions: this file is what a reader
--- must believe, with Calls.antt and Model.antt of crate history. Orders.antt and Overfull.antt have the theorems.
+-- must believe, with Calls.antt and Model.antt of crate history and Feed.antt of crate feeding. Orders.antt,
+-- Overfull.antt and AnyList.antt have the theorems.
 use Prim.Native.Nat.{ℕ, _*_, _≤_}
 use mathlib.Core.Bool.{Bool, not, cond, _&&_}
 use mathlib.Core.List.{List, [], _∷_, List·Memᴰ as In}

@@ -311,3 +311,8 @@ module _ {P : Params} {ws : List ℕ} {cs : List Call} (q : Sequence P [] ws cs)
   bulk-order-words e =
       let h = bulk-accepted P input target scratch e in
       order-words q i order (sound-set input sound) (h .is .fit) ∙ sym (h .is .is)
+
+  pub accepted-order : came-to (run (P .tabulation) ws cs) ≡ done
+      → (bulk-outcome P input target scratch .answer ≡ done)
+      × (words-left P ws cs ≡ bulk-outcome P input target scratch .words)
+  accepted-order e = let d = sym bulk-order-answer ∙ e in (d, bulk-order-words d)
