@@ -1,8 +1,7 @@
 -- Demand 3 at work, so that a reader sees that its hypothesis can be met: a sequence of calls of every kind on document
--- 01's test board, with its answers and the words that it leaves written out, and a second one with another past that
--- leaves the same words. The answers are proved through the theorem, from the rows of K5, with the tiers 3, 0 and 7, and K6
--- of layout/specs/Board.antt.
--- Assumes nothing.
+-- 01's test board, with its answers and the words that it leaves written out, and two more that leave the same words:
+-- one with another past, one that starts with a bulk load. The answers are proved through the theorem, from the rows of
+-- K5, with the tiers 3, 0 and 7, and K6 of layout/specs/Board.antt. Assumes nothing.
 use Prim.Native.Nat.{ℕ}
 use mathlib.Core.Path.{_≡_, refl, sym, _∙_, ap}
 use mathlib.Core.Bool.{true}
@@ -382,7 +381,7 @@ pub load-says : (bulk-outcome P input (replicate 31 7) scratch .answer ≡ done)
 unfolding input-of
 load-says = bulk-holds held-K5 board-length (replicate 31 7) scratch refl (omega arith)
 
--- a sequence that starts with its set,
+-- the words are those of K5. So a sequence may start with them, and with that set.
 abbrev pub loaded-calls : List Call
 loaded-calls = remove 1290 ∷ insert 1290 7 ∷ []
 
@@ -394,7 +393,7 @@ loaded-sequence = record {
   allowed = more tt (more tt none);
 }
 
--- and ends with it, leaves the words of the first, which started with none.
+-- This one ends with the set, too, and leaves the words of the first, which started with no key.
 pub loaded-set : set-left P set-K5 words loaded-calls ≡ set-K5
 unfolding requests reply with-key below above blank another-issue
 loaded-set =
