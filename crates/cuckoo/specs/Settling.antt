@@ -88,7 +88,7 @@ module _ {a b : ℕ → ℕ} where
   cycle-mono {c = c} s l = record { on = s c (l .on); closed = mono (out-sub c s) (l .closed) }
 
   -- a component with a cycle has one in every larger set,
-  cyclic-mono : {R R′ : List ℕ} {v : ℕ} → Sub R R′ → Cyclic a b R v → Cyclic a b R′ v
+  pub cyclic-mono : {R R′ : List ℕ} {v : ℕ} → Sub R R′ → Cyclic a b R v → Cyclic a b R′ v
   cyclic-mono s l = record { d = l .d; cycle = cycle-mono s (l .cycle); near = mono s (l .near) }
 
   -- and a spare key is spare in every larger set

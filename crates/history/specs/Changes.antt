@@ -35,7 +35,7 @@ by-tiers : (M : List Entry) {t : ℕ → ℕ} {S : List ℕ} → Asc (keys-of M)
 by-tiers M {t} a e f = ap (tiered t) e ∙ (tiered-agree (keys-of M) f ∙ tiered-self M a)
 
 module _ (e : Entry) where
-  put-in-keys : (L : List Entry) → Asc (keys-of L) → (In (e .key) (keys-of L) → ⊥)
+  pub put-in-keys : (L : List Entry) → Asc (keys-of L) → (In (e .key) (keys-of L) → ⊥)
       → keys-of (put-in e L) ≡ with-key (e .key) (keys-of L)
   unfolding with-key below above
   put-in-keys [] a n = refl

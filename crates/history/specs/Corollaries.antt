@@ -1,6 +1,6 @@
 -- What else follows from the theorem about whole sequences: the answers alone; which runs are sequences; a lookup tells
 -- the set; another issue of a key excludes the key; a refused call of another kind leaves words and set; a removal undoes
--- an insert; what a trail answers; that stations stay apart. Assumes nothing.
+-- an insert; what a trail answers; a sequence may start where another has ended; stations stay apart. Assumes nothing.
 use Prim.Native.Nat.{ℕ, _-_, _≤_}
 use mathlib.Core.Path.{_≡_, refl, sym, _∙_, ap}
 use mathlib.Core.Bool.{true, false, not}
@@ -29,13 +29,16 @@ use Rattle.history.specs.Calls.{Lent, own, wrong, lent-of, Other, Call, 
 use Rattle.history.specs.Calls.{MayStand, Allowed, none, more, Sequence}
 use Rattle.history.specs.Model.{Request, request, requests, Reply, lookup-tests, reply, model, set-left}
 use Rattle.history.specs.Reads.{lookup-number, lookup-value}
+use Rattle.history.specs.Starts.{holds-start}
 use Rattle.history.specs.History.{pictured, history}
 
 -- the answers alone
-pub same-answers : {P : Params} {ws : List ℕ} {cs : List Call} → Sequence P ws cs
-    → map (λ (o : Step). o .answer) (run (P .tabulation) ws cs) ≡ map (λ (m : Reply). m .answer) (model P [] (requests (P .tabulation) ws cs))
-same-answers {P} {ws} {cs} q =
-    ap (map (λ (o : Step). o .answer)) (history q .trace) ∙ map-map (λ (o : Step). o .answer) (pictured P) (model P [] (requests (P .tabulation) ws cs))
+pub same-answers : {P : Params} {L₀ : List Entry} {ws : List ℕ} {cs : List Call} → Sequence P L₀ ws cs
+    → map (λ (o : Step). o .answer) (run (P .tabulation) ws cs)
+    ≡ map (λ (m : Reply). m .answer) (model P L₀ (requests (P .tabulation) ws cs))
+same-answers {P} {L₀} {ws} {cs} q =
+    ap (map (λ (o : Step). o .answer)) (history q .trace)
+    ∙ map-map (λ (o : Step). o .answer) (pictured P) (model P L₀ (requests (P .tabulation) ws cs))
 
 -- What the next two laws need of a call of one of the five kinds: nothing is asked of the words where it stands, and
 -- nothing that it answered is fed to the model. One line for each kind of call.
@@ -68,12 +71,12 @@ fed-alike t ws (c ∷ cs) a n =
 
 -- the next call of a sequence
 
-module _ {P : Params} {ws : List ℕ} {cs : List Call} (q : Sequence P ws cs) where
+module _ {P : Params} {L₀ : List Entry} {ws : List ℕ} {cs : List Call} (q : Sequence P L₀ ws cs) where
   abbrev t : List ℕ
   t = P .tabulation
 
   abbrev L : List Entry
-  L = set-left P ws cs
+  L = set-left P L₀ ws cs
 
   abbrev W : List ℕ
   W = words-left P ws cs
@@ -141,36 +144,49 @@ module _ {P : Params} {ws : List ℕ} {cs : List Call} (q : Sequence P ws cs) wh
       held-reissued (history q .final) (q .full-length) key tier i e small scratch scratch′ room room′
 
 -- "13 (another issue is listed) .. never together with 10 or 6": where the register's set has another issue of a key, it does not have the key.
-pub issue-excludes : {P : Params} {ws : List ℕ} {cs : List Call} → Sequence P ws cs → (key : ℕ)
-    → another-issue key (keys-of (set-left P ws cs)) ≡ true → member key (keys-of (set-left P ws cs)) ≡ false
+pub issue-excludes : {P : Params} {L₀ : List Entry} {ws : List ℕ} {cs : List Call} → Sequence P L₀ ws cs → (key : ℕ)
+    → another-issue key (keys-of (set-left P L₀ ws cs)) ≡ true → member key (keys-of (set-left P L₀ ws cs)) ≡ false
 issue-excludes q key a = issue-absent (history q .final) key a
 
 -- What a trail answers at the end of a sequence: it tries its refusals as the register would, "the set" being the register's, and shows the trail of that set. So
 -- two sequences that end in one set show the same trails.
-module _ {P : Params} {ws : List ℕ} {cs : List Call} (q : Sequence P ws cs) (key : ℕ) where
+module _ {P : Params} {L₀ : List Entry} {ws : List ℕ} {cs : List Call} (q : Sequence P L₀ ws cs) (key : ℕ) where
   pub trail-number : (scratch sheet : List ℕ)
       → trail-outcome (P .tabulation) (words-left P ws cs) scratch key sheet .number
       ≡ first-refusal
       ((short-scratch, ltb (length scratch) (scratch-length (P .slots) (P .places))) ∷ (blank-key, blank key)
-      ∷ (key-absent, not (member key (keys-of (set-left P ws cs))))
-      ∷ (short-trail, ltb (length sheet) (length (trail-of P (keys-of (set-left P ws cs)) key))) ∷ [])
+      ∷ (key-absent, not (member key (keys-of (set-left P L₀ ws cs))))
+      ∷ (short-trail, ltb (length sheet) (length (trail-of P (keys-of (set-left P L₀ ws cs)) key))) ∷ [])
   unfolding trail-outcome
   trail-number scratch sheet = held-trail (history q .final) key (q .full-length) scratch (length sheet)
 
   pub trail-shown : (scratch sheet : List ℕ) → trail-outcome (P .tabulation) (words-left P ws cs) scratch key sheet .number ≡ done
-      → let L = trail-of P (keys-of (set-left P ws cs)) key in
+      → let L = trail-of P (keys-of (set-left P L₀ ws cs)) key in
       trail-outcome (P .tabulation) (words-left P ws cs) scratch key sheet .trail ≡ L ++ replicate (length sheet - length L) 0
   trail-shown scratch sheet e =
       trail-done (P .tabulation) (words-left P ws cs) scratch key sheet e .1
       ∙ ap (λ (L : List ℕ). L ++ replicate (length sheet - length L) 0) (held-asked (history q .final) key)
 
+-- starts
+
+-- A sequence may start where another has ended: with the words that it left, and with its set.
+pub goes-on : {P : Params} {L₀ : List Entry} {ws : List ℕ} {cs ds : List Call} → Sequence P L₀ ws cs
+    → Allowed (P .tabulation) (words-left P ws cs) ds → Sequence P (set-left P L₀ ws cs) (words-left P ws cs) ds
+goes-on q more-calls = record {
+  full-length = q .full-length;
+  start = holds-start (history q .final) (q .full-length);
+  allowed = more-calls;
+}
+
 -- stations
 
--- No call changes the station number: word 4 stays what init was given,
-pub station-stays : {P : Params} {ws : List ℕ} {cs : List Call} → Sequence P ws cs → station-of (words-left P ws cs) ≡ P .station
-station-stays {P} {ws} {cs} q = ap station-of (history q .final .is .is) ∙ image-station P (set-left P ws cs)
+-- No call changes the station number: word 4 stays what init or bulk load was given,
+pub station-stays : {P : Params} {L₀ : List Entry} {ws : List ℕ} {cs : List Call} → Sequence P L₀ ws cs
+    → station-of (words-left P ws cs) ≡ P .station
+station-stays {P} {L₀} {ws} {cs} q = ap station-of (history q .final .is .is) ∙ image-station P (set-left P L₀ ws cs)
 
 -- and lists of two stations never have the same words: "Identical words are now promised for lists of one station number."
-pub stations-apart : {P P′ : Params} {ws ws′ : List ℕ} {cs cs′ : List Call} → Sequence P ws cs → Sequence P′ ws′ cs′ → (P .station ≡ P′ .station → ⊥)
+pub stations-apart : {P P′ : Params} {L₀ L₀′ : List Entry} {ws ws′ : List ℕ} {cs cs′ : List Call}
+    → Sequence P L₀ ws cs → Sequence P′ L₀′ ws′ cs′ → (P .station ≡ P′ .station → ⊥)
     → words-left P ws cs ≡ words-left P′ ws′ cs′ → ⊥
 stations-apart q q′ n e = n (sym (station-stays q) ∙ ap station-of e ∙ station-stays q′)

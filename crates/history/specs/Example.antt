@@ -1,8 +1,7 @@
 -- Demand 3 at work, so that a reader sees that its hypothesis can be met: a sequence of calls of every kind on document
--- 01's test board, with its answers and the words that it leaves written out, and a second one with another past that
--- leaves the same words. The answers are proved through the theorem, from the rows of K5, with the tiers 3, 0 and 7, and K6
--- of layout/specs/Board.antt.
--- Assumes nothing.
+-- 01's test board, with its answers and the words that it leaves written out, and two more that leave the same words:
+-- one with another past, one that starts with a bulk load. The answers are proved through the theorem, from the rows of
+-- K5, with the tiers 3, 0 and 7, and K6 of layout/specs/Board.antt. Assumes nothing.
 use Prim.Native.Nat.{ℕ}
 use mathlib.Core.Path.{_≡_, refl, sym, _∙_, ap}
 use mathlib.Core.Bool.{true}
@@ -31,14 +30,18 @@ use Rattle.outcome.specs.Trail.{trail-in, trail-refusal, trail-outcome}
 use Rattle.outcome.specs.declared.Sale.{Sale}
 use Rattle.outcome.specs.Sale.{all-in-range, unpriced, sale-refusal, sale-of, sale-values}
 use Rattle.outcome.specs.Board.{shown-trail}
+use Rattle.outcome.specs.Held.{Holds}
+use Rattle.bulk.specs.Bulk.{params-for, input-set, bulk-refusal, bulk-outcome}
+use Rattle.bulk.specs.Input.{input-of}
+use Rattle.bulk.specs.Laws.{bulk-holds}
 use Rattle.history.specs.Calls.{own, wrong, Call, Answer, Step, step, run, words-after, words-left}
-use Rattle.history.specs.Calls.{refused, unchanged, Allowed, none, more, Sequence}
+use Rattle.history.specs.Calls.{refused, unchanged, Allowed, none, more, laid, loaded, Sequence}
 use Rattle.history.specs.Model.{Request, requests, Reply, reply, model, set-after, set-left}
 use Rattle.history.specs.History.{history}
 use Rattle.history.specs.NoTrace.{ComesToFull, step-after, NoTrace, part, alike-self, no-trace}
 use Rattle.history.specs.Sales.{opening, closing, sale-stays}
 use Rattle.history.specs.Corollaries.{same-answers}
-use Rattle.history.specs.Others.{init, reads, hashes, tracing, trail-stands}
+use Rattle.history.specs.Others.{init, loading, reads, hashes, tracing, trail-stands}
 
 -- the calls
 
@@ -66,6 +69,10 @@ says n values = record { number = n; values = values }
 abbrev pub count-keys : Call
 count-keys = Call.other (reads (λ ws. says 0 (getD ws 2 0 ∷ [])))
 
+-- K5 with these tiers as the input of a bulk load
+abbrev pub input : List ℕ
+input = 10 ∷ 3 ∷ 650 ∷ 0 ∷ 1290 ∷ 7 ∷ []
+
 -- each call with its answer
 abbrev pub script : List (Call × Answer)
 script =
@@ -92,6 +99,8 @@ script =
     ∷ (insert 1290 7, says 6 [])
     -- "any other call on it may stand there if it is refused": init with station 256
     ∷ (Call.other (init 4 1 256), says 2 [])
+    -- and a bulk load under a book of a wrong length
+    ∷ (Call.other (loading [] 4 1 0 input scratch), says 1 [])
     -- another one that is accepted: the hashes of 650, "0.1" and "1.0"
     ∷ (Call.other (hashes (family P) 650), says 0 (1 ∷ 0 ∷ []))
     -- tier 0, tier 7, and not listed; a removal wants the exact issue
@@ -141,6 +150,16 @@ init-more : {ws : List ℕ} {cs : List Call}
     → Allowed board-tabulation ws (Call.other (init 4 1 256) ∷ cs)
 init-more {ws} rest = more (refused (init-refused ws)) rest
 
+-- So is a bulk load under a book of no words.
+load-refused : (ws : List ℕ) → bulk-outcome (params-for [] 4 1 0) input ws scratch .answer ≡ done → ⊥
+unfolding bulk-outcome bulk-refusal
+load-refused ws e = omega arith
+
+load-more : {ws : List ℕ} {cs : List Call}
+    → Allowed board-tabulation (step board-tabulation ws (Call.other (loading [] 4 1 0 input scratch)) .words) cs
+    → Allowed board-tabulation ws (Call.other (loading [] 4 1 0 input scratch) ∷ cs)
+load-more {ws} rest = more (refused (load-refused ws)) rest
+
 -- The calls that leave the words may stand anywhere.
 trail-more : {ws : List ℕ} (sheet : List ℕ) {cs : List Call}
     → Allowed board-tabulation (step board-tabulation ws (Call.other (tracing board-tabulation scratch 650 sheet)) .words) cs
@@ -150,13 +169,13 @@ trail-more {ws} sheet rest = more (trail-stands board-tabulation ws scratch 650 
 may-stand : Allowed board-tabulation fresh calls
 may-stand =
     let rest = more (unchanged refl) (more tt (more tt (more tt (more tt (more tt (more tt none)))))) in
-    let middle = more tt (more tt (more tt (more tt (more tt (more tt (more tt (init-more rest))))))) in
+    let middle = more tt (more tt (more tt (more tt (more tt (more tt (more tt (init-more (load-more rest)))))))) in
     more tt (more tt (more tt (more tt (more (unchanged refl) (trail-more (8 ∷ 8 ∷ 8 ∷ []) (trail-more (8 ∷ []) middle))))))
 
 -- It is a sequence: the list had 31 words, all 7, before it was laid.
-pub sequence : Sequence P fresh calls
+pub sequence : Sequence P [] fresh calls
 unfolding fresh-refusal fresh-words params-in-range sizes-in-range slots-in-range station-in-range
-sequence = record { full-length = board-length; before = replicate 31 7; accepted = refl; laid = refl; allowed = may-stand }
+sequence = record { full-length = board-length; start = laid (replicate 31 7) refl refl refl; allowed = may-stand }
 
 -- what the register answers
 
@@ -242,15 +261,15 @@ hashes-say : (hashes-refusal (family P) 650 ≡ 0) × (hashes-values (family P) 
 unfolding hashes-refusal hashes-values slots-in-range station-in-range hash blank board-tabulation
 hashes-say = (refl, refl)
 
--- and all of them. Of the second init the register is fed the refusal, of the calls that leave the words what they
--- answered.
+-- and all of them. Of the second init and of the bulk load the register is fed the refusal, of the calls that leave the
+-- words what they answered.
 goes : Replies []
     (requests board-tabulation fresh calls)
     (to 0 [] (one ∷ [])
     ∷ to 0 [] (one ∷ two ∷ [])
     ∷ map (λ (row : Call × Answer). record { answer = row .1; set = set-K5 }) (drop 2 script))
     set-K5
-unfolding requests words-after step fresh-refusal params-in-range sizes-in-range slots-in-range station-in-range reply with-key below above blank another-issue trail-outcome
+unfolding requests words-after step fresh-refusal params-in-range sizes-in-range slots-in-range station-in-range reply with-key below above blank another-issue trail-outcome bulk-outcome bulk-refusal
 goes =
     goes-first
     (goes-fourth
@@ -265,6 +284,7 @@ goes =
     (next (rw board-length)
     (next (rw board-length)
     (next refl
+    (next refl
     (next (rw (hashes-say .0, hashes-say .1))
     (next (rw board-length)
     (next (rw board-length)
@@ -272,7 +292,7 @@ goes =
     (next (rw board-length)
     (next (rw board-length)
     (next (rw stash-K5)
-    (stop set-K5))))))))))))))))))))
+    (stop set-K5)))))))))))))))))))))
 
 -- what the calls answer, through the theorem
 
@@ -281,7 +301,7 @@ pub answers-are : map (λ (o : Step). o .answer) (run board-tabulation fresh cal
 answers-are = same-answers sequence ∙ ap (map (λ (m : Reply). m .answer)) (goes .replies)
 
 -- the register ends with K5,
-pub set-is : set-left P fresh calls ≡ set-K5
+pub set-is : set-left P [] fresh calls ≡ set-K5
 set-is = goes .set
 
 -- and the words that the sequence leaves are those of K5.
@@ -290,14 +310,14 @@ words-are = history sequence .final .is .is ∙ (ap (image P) set-is ∙ K5 .wor
 
 -- demand 3 of it
 
-pub leaves-no-trace : NoTrace P fresh calls
+pub leaves-no-trace : NoTrace P [] fresh calls
 leaves-no-trace = no-trace sequence
 
 -- The insert of 1930 came to the test of 8 and was refused by it, so no placement of K5 with 1930 exists.
 abbrev first-three : List Call
 first-three = insert 10 3 ∷ insert 650 0 ∷ insert 1290 7 ∷ []
 
-first-set : set-left P fresh first-three ≡ set-K5
+first-set : set-left P [] fresh first-three ≡ set-K5
 unfolding requests
 first-set = goes-first (stop set-K5) .set
 
@@ -320,17 +340,15 @@ no-place =
 abbrev pub other-calls : List Call
 other-calls = insert 1290 2 ∷ insert 650 0 ∷ remove 1290 ∷ insert 10 3 ∷ insert 1290 7 ∷ []
 
-pub other-sequence : Sequence P fresh other-calls
+pub other-sequence : Sequence P [] fresh other-calls
 unfolding fresh-refusal fresh-words params-in-range sizes-in-range slots-in-range station-in-range
 other-sequence = record {
   full-length = board-length;
-  before = replicate 31 0;
-  accepted = refl;
-  laid = refl;
+  start = laid (replicate 31 0) refl refl refl;
   allowed = more tt (more tt (more tt (more tt (more tt none))));
 }
 
-pub other-set : set-left P fresh other-calls ≡ set-K5
+pub other-set : set-left P [] fresh other-calls ≡ set-K5
 unfolding requests reply with-key below above blank another-issue without
 other-set =
     let last-two : fits P (650 ∷ 1290 ∷ []) ≡ true = without-fits P (K5 .valid .keys) 10 (K5 .fit) in
@@ -350,6 +368,42 @@ same-end = leaves-no-trace .same-words other-sequence .1 (set-is ∙ sym other-s
 pub same-then : (ds : List Call)
     → run board-tabulation (words-left P fresh calls) ds ≡ run board-tabulation (words-left P fresh other-calls) ds
 same-then ds = leaves-no-trace .same-later other-sequence (set-is ∙ sym other-set) (alike-self board-tabulation ds)
+
+-- a bulk load
+
+-- K5 is loaded in one call, over words that were all 7:
+held-K5 : Holds P set-K5 words
+unfolding params-in-range sizes-in-range slots-in-range station-in-range
+held-K5 = record { range = refl; is = record { valid = K5 .valid; fit = K5 .fit; is = sym (K5 .words-are) } }
+
+pub load-says : (bulk-outcome P input (replicate 31 7) scratch .answer ≡ done)
+    × (bulk-outcome P input (replicate 31 7) scratch .words ≡ words)
+unfolding input-of
+load-says = bulk-holds held-K5 board-length (replicate 31 7) scratch refl (omega arith)
+
+-- the words are those of K5. So a sequence may start with them, and with that set.
+abbrev pub loaded-calls : List Call
+loaded-calls = remove 1290 ∷ insert 1290 7 ∷ []
+
+pub loaded-sequence : Sequence P set-K5 words loaded-calls
+unfolding input-set
+loaded-sequence = record {
+  full-length = board-length;
+  start = loaded input (replicate 31 7) scratch (load-says .0) refl (sym (load-says .1));
+  allowed = more tt (more tt none);
+}
+
+-- This one ends with the set, too, and leaves the words of the first, which started with no key.
+pub loaded-set : set-left P set-K5 words loaded-calls ≡ set-K5
+unfolding requests reply with-key below above blank another-issue
+loaded-set =
+    let g : Replies set-K5 (requests board-tabulation words loaded-calls)
+    (to 0 [] (one ∷ two ∷ []) ∷ to 0 [] set-K5 ∷ []) set-K5 =
+    next (rw board-length) (next (rw (board-length, K5 .fit)) (stop set-K5)) in
+    g .set
+
+pub same-as-loaded : words-left P fresh calls ≡ words-left P words loaded-calls
+same-as-loaded = leaves-no-trace .same-words loaded-sequence .1 (set-is ∙ sym loaded-set)
 
 -- a sale
 

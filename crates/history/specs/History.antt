@@ -2,17 +2,17 @@
 -- answers are those of the reference model, and after every call the words are the canonical image of the model's set.
 -- Assumes nothing.
 use Prim.Native.Nat.{ℕ}
-use mathlib.Core.Path.{_≡_, refl, _∙_}
+use mathlib.Core.Path.{_≡_, refl}
 use mathlib.Core.Bool.{true}
 use mathlib.Core.List.{List, [], _∷_, map, List·Memᴰ as In, List·Memᴰ·head as here, List·Memᴰ·tail as there}
 use lib.ListN.{length}
 use Rattle.hashing.specs.Hash.{tabulation-length}
 use Rattle.layout.specs.Entries.{Entry, keys-of}
 use Rattle.layout.specs.Layout.{Params, ValidSet, fits, image}
-use Rattle.layout.specs.Fresh.{empty-valid, empty-fits, fresh-sizes, fresh-image}
 use Rattle.outcome.specs.Held.{Holds}
 use Rattle.history.specs.Calls.{Call, Step, step, run, words-after, MayStand, Allowed, none, more, Sequence}
 use Rattle.history.specs.Model.{request, requests, Reply, reply, model, set-after}
+use Rattle.history.specs.Starts.{start-holds}
 use Rattle.history.specs.Agrees.{Agrees}
 use Rattle.history.specs.Changes.{change-agrees}
 use Rattle.history.specs.Reads.{lookup-agrees, check-agrees, view-agrees}
@@ -62,11 +62,7 @@ follows h full-length {cs = c ∷ cs} (more stand rest) =
       final = f .final;
     }
 
--- Every sequence of calls from an accepted init on follows the model, which starts with the empty set.
-pub history : {P : Params} {ws : List ℕ} {cs : List Call} → Sequence P ws cs → Follows P [] ws cs
-history {P} {ws} {cs} q =
-    let h : Holds P [] ws = record {
-      range = fresh-sizes P (q .before) (q .accepted) .0;
-      is = record { valid = empty-valid; fit = empty-fits P; is = q .laid ∙ fresh-image P (q .before) (q .accepted) };
-    } in
-    follows h (q .full-length) (q .allowed)
+-- Every sequence of calls from an accepted init or bulk load on follows the model, which starts with the empty set, or
+-- with the set that was loaded.
+pub history : {P : Params} {L₀ : List Entry} {ws : List ℕ} {cs : List Call} → Sequence P L₀ ws cs → Follows P L₀ ws cs
+history q = follows (start-holds (q .start)) (q .full-length) (q .allowed)

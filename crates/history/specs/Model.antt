@@ -127,6 +127,7 @@ module _ (P : Params) where
   set-after L [] = L
   set-after L (q ∷ qs) = set-after (reply L q .set) qs
 
--- the set with which the register ends, fed the sequence cs of calls that starts with words ws
-abbrev pub set-left : Params → List ℕ → List Call → List Entry
-set-left P ws cs = set-after P [] (requests (P .tabulation) ws cs)
+-- the set with which the register ends that starts with the set L₀, fed the sequence cs of calls that starts with words
+-- ws
+abbrev pub set-left : Params → List Entry → List ℕ → List Call → List Entry
+set-left P L₀ ws cs = set-after P L₀ (requests (P .tabulation) ws cs)

@@ -1,7 +1,7 @@
 -- Demand 3 as one statement, the record NoTrace, and one theorem, `no-trace`: all of it holds of every sequence of
--- calls from an accepted init on. Document 01: "All this is a single claim about the whole sequence and not one for
--- each call." The two records and `step-after` are what a reader must believe, with Calls.antt, Model.antt and `Follows`
--- of History.antt; the proofs stand below them. Assumes nothing.
+-- calls from an accepted init or bulk load on. Document 01: "All this is a single claim about the whole sequence and
+-- not one for each call." The two records and `step-after` are what a reader must believe, with Calls.antt, Model.antt
+-- and `Follows` of History.antt; the proofs stand below them. Assumes nothing.
 use Prim.Native.Nat.{ℕ, _≤_}
 use mathlib.Core.Path.{_≡_, refl, sym, _∙_, ap}
 use mathlib.Core.Bool.{Bool, false, not, _&&_, true≢false}
@@ -49,18 +49,19 @@ pub record ComesToFull (P : Params) (L : List Entry) (l : Lent) (scratch-size ke
 abbrev pub step-after : Params → List ℕ → List Call → Call → Step
 step-after P ws cs c = step (P .tabulation) (words-left P ws cs) c
 
--- Demand 3, of the sequence of calls cs that starts with words ws.
-pub record NoTrace (P : Params) (ws : List ℕ) (cs : List Call) : Type 0 where
+-- Demand 3, of the sequence of calls cs that starts with words ws and the set L₀.
+pub record NoTrace (P : Params) (L₀ : List Entry) (ws : List ℕ) (cs : List Call) : Type 0 where
   -- "Every call answers as document 01's plain register does, and the words after it are the canonical image of the
   -- register's set."
-  pub follows : Follows P [] ws cs
+  pub follows : Follows P L₀ ws cs
   -- "Two such sequences with the same book and the same rack and drawer sizes leave the same words exactly when they
-  -- end in one set": those of one P, which has the station, too
-  pub same-words : {ws′ : List ℕ} {cs′ : List Call} → Sequence P ws′ cs′
-      → (words-left P ws cs ≡ words-left P ws′ cs′) ↔ (set-left P ws cs ≡ set-left P ws′ cs′)
+  -- end in one set": those of one P, which has the station, too. They may start with two sets.
+  pub same-words : {L₀′ : List Entry} {ws′ : List ℕ} {cs′ : List Call} → Sequence P L₀′ ws′ cs′
+      → (words-left P ws cs ≡ words-left P ws′ cs′) ↔ (set-left P L₀ ws cs ≡ set-left P L₀′ ws′ cs′)
   -- "and any later call with like arguments then answers the same.": so do all later calls, of any kind, accepted or
   -- not, and they leave the same words. They may lend any book t, that of the sequence or another.
-  pub same-later : {ws′ : List ℕ} {cs′ : List Call} → Sequence P ws′ cs′ → set-left P ws cs ≡ set-left P ws′ cs′
+  pub same-later : {L₀′ : List Entry} {ws′ : List ℕ} {cs′ : List Call} → Sequence P L₀′ ws′ cs′
+      → set-left P L₀ ws cs ≡ set-left P L₀′ ws′ cs′
       → {t : List ℕ} {ds ds′ : List Call} → Alike t ds ds′
       → run t (words-left P ws cs) ds ≡ run t (words-left P ws′ cs′) ds′
   -- "Where a call comes to the rule of the full drawer, it is refused by it exactly when no placement of the new set
@@ -68,9 +69,10 @@ pub record NoTrace (P : Params) (ws : List ℕ) (cs : List Call) : Type 0 where
   -- every insert of the sequence, after the calls cs₁ and before the calls cs₂.
   pub full : (cs₁ cs₂ : List Call) (l : Lent) (scratch : List ℕ) (counters : Counters) (key tier : ℕ)
       → cs ≡ cs₁ ++ (Call.change (Insert tier) l scratch counters key ∷ cs₂)
-      → ComesToFull P (set-left P ws cs₁) l (length scratch) key tier
+      → ComesToFull P (set-left P L₀ ws cs₁) l (length scratch) key tier
       → (step-after P ws cs₁ (Call.change (Insert tier) l scratch counters key) .answer .number ≡ stash-full)
-      ↔ (Placement (slot-0 (family P)) (slot-1 (family P)) (P .places) (with-key key (keys-of (set-left P ws cs₁))) → ⊥)
+      ↔ (Placement (slot-0 (family P)) (slot-1 (family P)) (P .places)
+      (with-key key (keys-of (set-left P L₀ ws cs₁))) → ⊥)
 
 -- The laws. First, parts of a sequence:
 
@@ -79,12 +81,11 @@ allowed-part : (t : List ℕ) {ws : List ℕ} (cs ds : List Call) → Allowed t 
 allowed-part t [] ds a = none
 allowed-part t (c ∷ cs) ds (more stand a) = more stand (allowed-part t cs ds a)
 
-pub part : {P : Params} {ws : List ℕ} (cs ds : List Call) → Sequence P ws (cs ++ ds) → Sequence P ws cs
+pub part : {P : Params} {L₀ : List Entry} {ws : List ℕ} (cs ds : List Call) → Sequence P L₀ ws (cs ++ ds)
+    → Sequence P L₀ ws cs
 part {P} cs ds q = record {
   full-length = q .full-length;
-  before = q .before;
-  accepted = q .accepted;
-  laid = q .laid;
+  start = q .start;
   allowed = allowed-part (P .tabulation) cs ds (q .allowed);
 }
 
@@ -117,11 +118,12 @@ one-image {P} h h′ e = h .is .is ∙ (ap (image P) e ∙ sym (h′ .is .is))
 one-set : {P : Params} {L L′ : List Entry} {ws ws′ : List ℕ} → Holds P L ws → Holds P L′ ws′ → ws ≡ ws′ → L ≡ L′
 one-set h h′ e = image-one (rw e at (h .is)) (h′ .is) refl (held-some h) .1
 
-module _ {P : Params} {ws ws′ : List ℕ} {cs cs′ : List Call} (q : Sequence P ws cs) (q′ : Sequence P ws′ cs′) where
-  words-say-set : words-left P ws cs ≡ words-left P ws′ cs′ → set-left P ws cs ≡ set-left P ws′ cs′
+module _ {P : Params} {L₀ L₀′ : List Entry} {ws ws′ : List ℕ} {cs cs′ : List Call}
+    (q : Sequence P L₀ ws cs) (q′ : Sequence P L₀′ ws′ cs′) where
+  words-say-set : words-left P ws cs ≡ words-left P ws′ cs′ → set-left P L₀ ws cs ≡ set-left P L₀′ ws′ cs′
   words-say-set e = one-set (history q .final) (history q′ .final) e
 
-  set-says-words : set-left P ws cs ≡ set-left P ws′ cs′ → words-left P ws cs ≡ words-left P ws′ cs′
+  set-says-words : set-left P L₀ ws cs ≡ set-left P L₀′ ws′ cs′ → words-left P ws cs ≡ words-left P ws′ cs′
   set-says-words e = one-image (history q .final) (history q′ .final) e
 
 -- later calls
@@ -155,10 +157,10 @@ alike-self t (c ∷ cs) = then (like-self t c) (alike-self t cs)
 
 -- the test of 8
 
-module _ {P : Params} {ws : List ℕ} {cs : List Call} (q : Sequence P ws cs)
+module _ {P : Params} {L₀ : List Entry} {ws : List ℕ} {cs : List Call} (q : Sequence P L₀ ws cs)
     (l : Lent) (scratch : List ℕ) (counters : Counters) (key tier : ℕ) where
   abbrev L : List Entry
-  L = set-left P ws cs
+  L = set-left P L₀ ws cs
 
   abbrev answer : ℕ
   answer = step-after P ws cs (Call.change (Insert tier) l scratch counters key) .answer .number
@@ -199,11 +201,11 @@ module _ {P : Params} {ws : List ℕ} {cs : List Call} (q : Sequence P ws cs)
   )
 
 -- It then answers 8 exactly if no placement of the new set exists.
-pub full-insert : {P : Params} {ws : List ℕ} {cs : List Call} → Sequence P ws cs
+pub full-insert : {P : Params} {L₀ : List Entry} {ws : List ℕ} {cs : List Call} → Sequence P L₀ ws cs
     → (l : Lent) (scratch : List ℕ) (counters : Counters) (key tier : ℕ)
-    → ComesToFull P (set-left P ws cs) l (length scratch) key tier
+    → ComesToFull P (set-left P L₀ ws cs) l (length scratch) key tier
     → (step-after P ws cs (Call.change (Insert tier) l scratch counters key) .answer .number ≡ stash-full)
-    ↔ (Placement (slot-0 (family P)) (slot-1 (family P)) (P .places) (with-key key (keys-of (set-left P ws cs))) → ⊥)
+    ↔ (Placement (slot-0 (family P)) (slot-1 (family P)) (P .places) (with-key key (keys-of (set-left P L₀ ws cs))) → ⊥)
 unfolding step
 full-insert {P} q own scratch counters key tier h =
     let room : scratch-length (P .slots) (P .places) ≤ length scratch = ltb-false (length scratch) _ (h .long-enough) in
@@ -211,11 +213,11 @@ full-insert {P} q own scratch counters key tier h =
 full-insert {P} q (wrong t n) scratch counters key tier h = absurd (true≢false (sym (wrong-lent P t n) ∙ h .right-length))
 
 -- THE theorem of demand 3: no past leaves a trace.
-pub no-trace : {P : Params} {ws : List ℕ} {cs : List Call} → Sequence P ws cs → NoTrace P ws cs
+pub no-trace : {P : Params} {L₀ : List Entry} {ws : List ℕ} {cs : List Call} → Sequence P L₀ ws cs → NoTrace P L₀ ws cs
 no-trace {P} q = record {
   follows = history q;
   same-words = λ q′. (words-say-set q q′, set-says-words q q′);
-  same-later = λ {ws′} {cs′} q′ e {t} a. rw (set-says-words q q′ e) (alike-run t (words-left P ws′ cs′) a);
+  same-later = λ {L₀′} {ws′} {cs′} q′ e {t} a. rw (set-says-words q q′ e) (alike-run t (words-left P ws′ cs′) a);
   full = λ cs₁ cs₂ l scratch counters key tier e h.
       full-insert (part cs₁ (Call.change (Insert tier) l scratch counters key ∷ cs₂) (rw e at q)) l scratch counters key tier h;
 }

@@ -1,6 +1,6 @@
 -- Calls of another kind in a sequence: where one may stand it agrees with the model, and like ones answer and leave the
--- same. Then three that exist today: init, which may stand where it is refused; the hashes and the trail of a key, which
--- may stand anywhere, as any call that only reads the words. Assumes nothing.
+-- same. Then four that exist today: init and bulk load, which may stand where they are refused; the hashes and the
+-- trail of a key, which may stand anywhere, as any call that only reads the words. Assumes nothing.
 use Prim.Native.Nat.{ℕ}
 use mathlib.Core.Path.{_≡_, refl}
 use mathlib.Core.List.{List, [], _++_}
@@ -15,6 +15,8 @@ use Rattle.layout.specs.Answers.{fresh-refusal, fresh-words}
 use Rattle.outcome.specs.Held.{Holds}
 use Rattle.outcome.specs.Trail.{trail-outcome}
 use Rattle.outcome.specs.TrailLaws.{trail-words, trail-any-scratch}
+use Rattle.bulk.specs.Bulk.{params-for, bulk-outcome}
+use Rattle.bulk.specs.Laws.{bulk-refused, bulk-any-scratch}
 use Rattle.history.specs.Calls.{Answer, Other, Call, step, OtherStands, refused, unchanged, Like}
 use Rattle.history.specs.Model.{Request, reply}
 use Rattle.history.specs.Agrees.{Agrees}
@@ -54,6 +56,29 @@ pub init-like : (t : List ℕ) {r r′ s s′ station station′ : ℕ} → r �
     → Like t (Call.other (init r s station)) (Call.other (init r′ s′ station′))
 init-like t {r} {r′} {s} {s′} {station} {station′} e f g =
     Like.other (init r s station) (init r′ s′ station′) (λ ws. rw (e, f, g)) (λ ws. rw (e, f, g))
+
+-- bulk load, with any tabulation, r, s, station, input and scratch, over the words of the sequence: refused, it leaves
+-- them ("a refusal leaves the target unchanged"), and may stand there; accepted, it starts another sequence (`Start`)
+
+abbrev pub loading : (tabulation : List ℕ) (r s station : ℕ) (input scratch : List ℕ) → Other
+loading tabulation r s station input scratch = record {
+  answer = λ ws.
+      record { number = bulk-outcome (params-for tabulation r s station) input ws scratch .answer; values = [] };
+  words = λ ws. bulk-outcome (params-for tabulation r s station) input ws scratch .words;
+  leaves = λ ws n. bulk-refused (params-for tabulation r s station) input ws scratch n;
+}
+
+-- "Like arguments are equal ones, what the work sheet and the meter hold aside": two bulk loads that differ only in
+-- what the scratch holds are like.
+pub loading-like : (t tabulation : List ℕ) (r s station : ℕ) (input scratch scratch′ : List ℕ)
+    → length scratch ≡ length scratch′
+    → Like t (Call.other (loading tabulation r s station input scratch))
+    (Call.other (loading tabulation r s station input scratch′))
+loading-like t tabulation r s station input scratch scratch′ e =
+    let P = params-for tabulation r s station in
+    Like.other (loading tabulation r s station input scratch) (loading tabulation r s station input scratch′)
+    (λ ws. rw (bulk-any-scratch P input ws scratch scratch′ e))
+    (λ ws. rw (bulk-any-scratch P input ws scratch scratch′ e))
 
 -- calls that only read the words
 

@@ -10,7 +10,7 @@ use lib.IntN.{ℤ}
 use Rattle.basics.specs.Sets.{member}
 use Rattle.refusals.specs.Refusal.{done, blank-key, key-absent, wrong-price, first-refusal}
 use Rattle.hashing.specs.Hash.{blank}
-use Rattle.layout.specs.Entries.{keys-of, tier-of}
+use Rattle.layout.specs.Entries.{Entry, keys-of, tier-of}
 use Rattle.layout.specs.Layout.{Params}
 use Rattle.outcome.specs.declared.Sale.{Sale}
 use Rattle.outcome.specs.Sale.{record-values, unpriced, sale-refusal, sale-of, sale-values, closed}
@@ -62,10 +62,11 @@ others (opens tabulation key base steps ∷ acts) (o ∷ os) = others acts os
 others (closes s ∷ acts) (o ∷ os) = others acts os
 
 -- A sale that is opened after the calls cs of a sequence, and what becomes of its record s.
-pub record SaleOf (P : Params) (ws : List ℕ) (cs : List Call) (key base : ℕ) (steps : List ℤ) (s : Sale) : Type 0 where
+pub record SaleOf (P : Params) (L₀ : List Entry) (ws : List ℕ) (cs : List Call) (key base : ℕ) (steps : List ℤ)
+    (s : Sale) : Type 0 where
   -- "The sale record holds card, tier and litre price": the card, listed, with the tier of the register's set,
   pub of-key : s .key ≡ key
-  pub of-set : In (record { key = key; tier = s .tier }) (set-left P ws cs)
+  pub of-set : In (record { key = key; tier = s .tier }) (set-left P L₀ ws cs)
   -- and the price, which is base plus the tier's step.
   pub priced : Priced base steps s
   -- "Adds and withdrawals are allowed while sales are open; closing gives the record's price, though the card may have gone": after whatever calls ds.
@@ -111,33 +112,36 @@ sales-allowed t ws (call c ∷ acts) (more stand rest) = more stand (sales-allow
 sales-allowed t ws (opens tabulation key base steps ∷ acts) h = more (reads-stands _ ws) (sales-allowed t ws acts h)
 sales-allowed t ws (closes s ∷ acts) h = more (reads-stands _ ws) (sales-allowed t ws acts h)
 
-pub with-sales : {P : Params} {ws : List ℕ} (acts : List Act) → Sequence P ws (without-sales acts) → Sequence P ws (all-calls acts)
-with-sales {P} {ws} acts q = record {
+pub with-sales : {P : Params} {L₀ : List Entry} {ws : List ℕ} (acts : List Act) → Sequence P L₀ ws (without-sales acts)
+    → Sequence P L₀ ws (all-calls acts)
+with-sales {P} {L₀} {ws} acts q = record {
   full-length = q .full-length;
-  before = q .before;
-  accepted = q .accepted;
-  laid = q .laid;
+  start = q .start;
   allowed = sales-allowed (P .tabulation) ws acts (q .allowed);
 }
 
 -- and two sequences that differ in sales alone end in one set.
-pub same-set-left : {P : Params} {ws : List ℕ} (acts : List Act) → Sequence P ws (without-sales acts) → set-left P ws (all-calls acts) ≡ set-left P ws (without-sales acts)
-same-set-left {P} {ws} acts q = no-trace (with-sales acts q) .same-words q .0 (same-words-left (P .tabulation) ws acts)
+pub same-set-left : {P : Params} {L₀ : List Entry} {ws : List ℕ} (acts : List Act)
+    → Sequence P L₀ ws (without-sales acts) → set-left P L₀ ws (all-calls acts) ≡ set-left P L₀ ws (without-sales acts)
+same-set-left {P} {L₀} {ws} acts q =
+    no-trace (with-sales acts q) .same-words q .0 (same-words-left (P .tabulation) ws acts)
 
 -- What an opening answers at the end of a sequence: it tries its refusals as the register would, "the set" being the register's.
-pub opening-number : {P : Params} {ws : List ℕ} {cs : List Call} → Sequence P ws cs → (key base : ℕ) (steps : List ℤ)
-    → let L = set-left P ws cs in
+pub opening-number : {P : Params} {L₀ : List Entry} {ws : List ℕ} {cs : List Call} → Sequence P L₀ ws cs
+    → (key base : ℕ) (steps : List ℤ)
+    → let L = set-left P L₀ ws cs in
     step-after P ws cs (Call.other (opening (P .tabulation) key base steps)) .answer .number
     ≡ first-refusal ((blank-key, blank key) ∷ (key-absent, not (member key (keys-of L))) ∷ (wrong-price, unpriced base steps (tier-of L key)) ∷ [])
 unfolding step
 opening-number q key base steps = held-sale (history q .final) (q .full-length) key base steps
 
 -- Every opening of a sequence that is not refused gives such a sale (`SaleOf`).
-pub sale-stays : {P : Params} {ws : List ℕ} {cs : List Call} → Sequence P ws cs → (key base : ℕ) (steps : List ℤ) (s : Sale)
+pub sale-stays : {P : Params} {L₀ : List Entry} {ws : List ℕ} {cs : List Call} → Sequence P L₀ ws cs
+    → (key base : ℕ) (steps : List ℤ) (s : Sale)
     → step-after P ws cs (Call.other (opening (P .tabulation) key base steps)) .answer ≡ record { number = done; values = record-values s }
-    → SaleOf P ws cs key base steps s
+    → SaleOf P L₀ ws cs key base steps s
 unfolding step closed
-sale-stays {P} {ws} {cs} q key base steps s e =
+sale-stays {P} {L₀} {ws} {cs} q key base steps s e =
     let W = words-left P ws cs in
     let t = P .tabulation in
     let d : sale-refusal t W key base steps ≡ done = ap (λ (a : Answer). a .number) e in
