@@ -114,7 +114,7 @@ module _ {P : Params} {K : List Entry} {ws : List ℕ} (h : Holds P K ws) (e : E
   part-done scratch z =
       elim (front-none (change-tests P (Insert (e .tier)) own (length scratch) (e .key) K) [] z refl) [
         | and x (and y (and b (and t (and alone (and o (and m (and f Refusal.none))))))) ↦ (
-          rw (b, t),
+          simp (b, t),
           ap (map part-key) (put-in-keys e K asc (λ i. true≢false (sym (in-member i) ∙ m))) ∙ part-with b alone
               ∙ sym (fed-in P (map part-key S) (part-key (e .key)) (part-fits b alone ∙ not-false _ f)),
         )
