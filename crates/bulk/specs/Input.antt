@@ -24,7 +24,7 @@ use Rattle.layout.specs.Issues.{one-issue-iff}
 use Rattle.bulk.specs.Bulk.{input-keys, input-tiers, input-set, odd-length, rising, input-refusals}
 
 -- an input of which none of 5, 9, 14 and 13 is given
-pub record Sound (input : List ℕ) : Type 0 where
+pub record SoundInput (input : List ℕ) : Type 0 where
   pub even : odd-length input ≡ false
   pub valid : ValidKeys (input-keys input)
   pub issues : OneIssue (input-keys input)
@@ -144,7 +144,7 @@ pub tested-valid : (K : List ℕ) → any blank K ≡ false → rising K ≡ tru
 tested-valid K b r = record { asc = rising-iff K .0 r; none-blank = any-false blank K b }
 
 -- An input that passes is sound, and a sound one passes.
-pub none-sound : (input : List ℕ) → None (input-refusals input) → Sound input
+pub none-sound : (input : List ℕ) → None (input-refusals input) → SoundInput input
 none-sound input (and b (and t (and r (and o Refusal.none)))) =
     let K = input-keys input in
     let p = or-false (odd-length input) (not (rising K)) r in
@@ -155,7 +155,7 @@ none-sound input (and b (and t (and r (and o Refusal.none)))) =
       tiers = λ x i. ltb-false max-tier x (any-false (ltb max-tier) (input-tiers input) t x i);
     }
 
-pub sound-none : (input : List ℕ) → Sound input → None (input-refusals input)
+pub sound-none : (input : List ℕ) → SoundInput input → None (input-refusals input)
 sound-none input h =
     let K = input-keys input in
     let r : (odd-length input || not (rising K)) ≡ false = rw (h .even, rising-iff K .1 (h .valid .asc)) in
@@ -164,7 +164,7 @@ sound-none input h =
     (and r (and (ap not (one-issue-iff K .1 (h .issues))) Refusal.none)))
 
 -- It is a set.
-pub sound-set : (input : List ℕ) → Sound input → ValidSet (input-set input)
+pub sound-set : (input : List ℕ) → SoundInput input → ValidSet (input-set input)
 sound-set input h =
     let k = even-keys input (h .even) in
     record { keys = rw k (h .valid); issues = rw k (h .issues); tiers = λ x i. h .tiers (x .tier) (entry-tier input i) }
@@ -190,7 +190,7 @@ unfolding input-of input-tiers
 of-tier (e ∷ L) (here q) = (e, here refl, sym q)
 of-tier (e ∷ L) (there i) = let r = of-tier L i in (r .0, there (r .1), r .2)
 
-pub input-of-sound : (L : List Entry) → ValidSet L → Sound (input-of L)
+pub input-of-sound : (L : List Entry) → ValidSet L → SoundInput (input-of L)
 input-of-sound L valid = record {
   even = of-even L;
   valid = rw (input-of-keys L) (valid .keys);

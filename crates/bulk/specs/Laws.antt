@@ -32,7 +32,7 @@ use Rattle.outcome.specs.Demands.{Harmless}
 use Rattle.outcome.specs.Held.{Holds, held-entry}
 use Rattle.bulk.specs.Bulk.{input-keys, input-tiers, input-set, odd-length, rising, target-refusals, input-refusals}
 use Rattle.bulk.specs.Bulk.{room-refusals, bulk-refusal, bulk-outcome}
-use Rattle.bulk.specs.Input.{Sound, none-sound, sound-none, sound-set, even-keys, input-of, input-of-keys}
+use Rattle.bulk.specs.Input.{SoundInput, none-sound, sound-none, sound-set, even-keys, input-of, input-of-keys}
 use Rattle.bulk.specs.Input.{input-of-set, input-of-sound}
 
 -- "Checks are 1, 2 .., and 3; then 5, 9, 14 and 13 ..; then 8."
@@ -140,7 +140,7 @@ module _ (P : Params) (input : List ℕ) (n m : ℕ) where
         bulk-rising o = passed ∙ (rw (b, t, o))
 
     -- then only 8 is left,
-    module _ (sound : Sound input) where
+    module _ (sound : SoundInput input) where
       pub bulk-fits : bulk-refusal P input n m ≡ cond (fits P (input-keys input)) done stash-full
       bulk-fits =
           passed ∙ front-passes (input-refusals input) (room-refusals P input) (sound-none input sound)
@@ -177,7 +177,7 @@ module _ (P : Params) (input : List ℕ) (n m : ℕ) where
 
   -- An answer of 0: none of the refusals applies.
   pub bulk-passed : bulk-refusal P input n m ≡ done
-      → Layable P n m × (Sound input × (fits P (input-keys input) ≡ true))
+      → Layable P n m × (SoundInput input × (fits P (input-keys input) ≡ true))
   unfolding bulk-refusal
   bulk-passed e =
       elim (front-none (target-refusals P n m ++ (input-refusals input ++ room-refusals P input)) [] e refl) [
@@ -192,7 +192,7 @@ module _ (P : Params) (input ws scratch : List ℕ) (e : bulk-outcome P input ws
   abbrev us : List ℕ
   us = bulk-outcome P input ws scratch .words
 
-  why : Layable P (length ws) (length scratch) × (Sound input × (fits P (input-keys input) ≡ true))
+  why : Layable P (length ws) (length scratch) × (SoundInput input × (fits P (input-keys input) ≡ true))
   why = bulk-passed P input (length ws) (length scratch) (sym (bulk-answer P input ws scratch) ∙ e)
 
   pub bulk-accepted : Holds P (input-set input) us

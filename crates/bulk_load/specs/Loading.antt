@@ -27,7 +27,7 @@ use Rattle.gateway.specs.Committing.{new-answer, new-words, Committable, Commit
 use Rattle.outcome.specs.Outcome.{Outcome}
 use Rattle.bulk.specs.Bulk.{params-for, input-keys, input-tiers, input-set, target-refusals}
 use Rattle.bulk.specs.Bulk.{input-refusals, bulk-refusal, bulk-outcome}
-use Rattle.bulk.specs.Input.{Sound, none-sound, even-size, even-keys, tier-count, input-key, input-tier, tier-given}
+use Rattle.bulk.specs.Input.{SoundInput, none-sound, even-size, even-keys, tier-count, input-key, input-tier, tier-given}
 use Rattle.bulk.specs.Laws.{Layable, none-layable, bulk-answer, bulk-refused, bulk-target, bulk-input, bulk-fits, crowded-unfit}
 use Rattle.bulk.specs.Laws.{bulk-done}
 
@@ -35,7 +35,7 @@ use Rattle.bulk.specs.Laws.{bulk-done}
 pub record Fillable (tabulation input scratch : List ℕ) (r s station n : ℕ) : Type 0 where
   pub hashing : Hashing tabulation r station
   pub places : s ≤ 64
-  pub sound : Sound input
+  pub sound : SoundInput input
   pub count : n ≡ length (input-keys input)
   pub few : n ≤ 2 * r + s
   pub room : used r s ≤ length scratch
@@ -98,7 +98,7 @@ module _ {tabulation input scratch : List ℕ} {r s station n : ℕ} (h : Fillab
 
 -- The target and the input passed their tests: the input has room, or it has more keys than there are slots and places.
 module _ {tabulation input : List ℕ} (ws scratch : List ℕ) {r s station : ℕ}
-    (Y : Layable (params-for tabulation r s station) (length ws) (length scratch)) (S : Sound input) where
+    (Y : Layable (params-for tabulation r s station) (length ws) (length scratch)) (S : SoundInput input) where
   abbrev P : Params
   P = params-for tabulation r s station
 
@@ -147,7 +147,7 @@ module _ {tabulation input : List ℕ} (ws scratch : List ℕ) {r s station : �
         rw (← k) (tiered-self (input-set input) (rw k (S .valid .asc))) in
         (w .0, rw L at (w .1))
 
-pub input-sound : (input : List ℕ) {n : ℕ} → n ≡ first-refusal (input-refusals input) → n ≡ 0 → Sound input
+pub input-sound : (input : List ℕ) {n : ℕ} → n ≡ first-refusal (input-refusals input) → n ≡ 0 → SoundInput input
 input-sound input e z = none-sound input (front-none (input-refusals input) [] (sym e ∙ z) refl)
 
 -- What the call answers and leaves,

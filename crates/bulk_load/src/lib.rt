@@ -8,7 +8,7 @@ ghost use lib.ListN.{length, take};
 ghost use Rattle.refusals.specs.Refusal.{first-refusal};
 ghost use Rattle.gateway.specs.Committing.{new-answer, new-words};
 ghost use Rattle.bulk.specs.Bulk.{params-for, input-keys, input-set, target-refusals, bulk-outcome};
-ghost use Rattle.bulk.specs.Input.{Sound};
+ghost use Rattle.bulk.specs.Input.{SoundInput};
 ghost use Rattle.bulk.specs.Laws.{Layable};
 ghost use Rattle.bulk_load.specs.Loading.{Fillable, InputLined, BulkLoaded};
 use access::fresh_header;
@@ -92,7 +92,7 @@ fn load_set(
     input: &[u32],
 ) -> u32
     requires { ⌜ Layable (params-for (now tabulation) r s station) (length (now words)) (length (now scratch))
-        × Sound (now input) ⌝ }
+        × SoundInput (now input) ⌝ }
     ensures { λ a. ⌜ (a ≡ new-answer (params-for (now (tabulation .entry)) r s station)
         (input-keys (now (input .entry))))
         × (now (words .exit) ≡ new-words (params-for (now (tabulation .entry)) r s station)

@@ -27,7 +27,7 @@ use Rattle.counters.specs.declared.Counters.{Counters}
 use Rattle.outcome.specs.declared.Change.the-variants.{Insert}
 use Rattle.outcome.specs.Held.{Holds, held-new}
 use Rattle.bulk.specs.Bulk.{input-set, bulk-outcome}
-use Rattle.bulk.specs.Input.{Sound, sound-set, even-keys}
+use Rattle.bulk.specs.Input.{SoundInput, sound-set, even-keys}
 use Rattle.bulk.specs.Laws.{Layable, bulk-answer, bulk-fits, bulk-accepted}
 use Rattle.history.specs.Calls.{own, Call, Step, step, run, words-left, Allowed, Sequence}
 use Rattle.history.specs.Calls as Calls
@@ -295,7 +295,7 @@ module _ {P : Params} {ws : List ℕ} {cs : List Call} (q : Sequence P [] ws cs)
 
 -- The same beside a bulk load of the set, whose input passes, into a target that passes.
 module _ {P : Params} {ws : List ℕ} {cs : List Call} (q : Sequence P [] ws cs) {M : List Entry} (i : Inserts P M cs)
-    {input : List ℕ} (sound : Sound input) (order : Order M (input-set input)) (target scratch : List ℕ)
+    {input : List ℕ} (sound : SoundInput input) (order : Order M (input-set input)) (target scratch : List ℕ)
     (layable : Layable P (length target) (length scratch)) where
   -- Either every order is accepted, and bulk load is, or each comes to 8, and bulk load answers 8;
   pub bulk-order-answer : came-to (run (P .tabulation) ws cs) ≡ bulk-outcome P input target scratch .answer
