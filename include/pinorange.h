@@ -14,10 +14,10 @@
  * PINORANGE_FIRST_PART(key), and another digit. A set has at most one issue of each first part, and keys below 10,
  * which have none, are blank. Issues of one first part have the same two slots. Every call means the exact key.
  *
- * The station number, 0 to PINORANGE_MAX_STATION, is given when a dictionary is laid and stands in its words (word 4).
- * It has a part in where every key sits, so that a fleet which crowds the slots at one station is spread otherwise at
- * the next. Every other call takes it from the words. Two dictionaries of one set, with one tabulation, r, s and
- * station, have the same words; those of two stations never do.
+ * The station number, 0 to PINORANGE_MAX_STATION, is given when a dictionary is laid (init, bulk load) and stands in
+ * its words (word 4). It has a part in where every key sits, so that a fleet which crowds the slots at one station is
+ * spread otherwise at the next. Every other call takes it from the words. Two dictionaries of one set, with one
+ * tabulation, r, s and station, have the same words; those of two stations never do.
  *
  * Words and scratch are alike in type and stand side by side in these calls. Exchanged, an insert takes the scratch for
  * the words and answers 2, and clears the words, which it takes for scratch: the list is gone. pinorange_list.h has the
@@ -25,14 +25,14 @@
  * where you can.
  *
  * What the caller sees to: no pointer is null, neither that of a piece of length 0 nor that of an out-parameter which
- * is not wanted; pointers are aligned; and no two lent pieces of memory overlap. Counters, out-parameters, steps and
- * the record of a sale are lent pieces, too: none may stand in the words, in the scratch, or in another. One tabulation
- * goes with a dictionary; under another its words are, in general, the image of no set (4). No call keeps state of its
- * own. The promises hold when a call returns. Let nothing else read or write the same words or scratch meanwhile: while
- * a call runs nobody else, no interrupt handler and no other core, may write any memory that it is lent, nor read what
- * it writes (the words of init, insert and remove; scratch, counters, out-parameters). So there is no lookup during an
- * insert, but in a second bank (below). Calls that only read the words (lookup, check, trail, stash, open_sale) may run
- * side by side, each with its own scratch.
+ * is not wanted; pointers are aligned; and no two lent pieces of memory overlap. Counters, out-parameters, steps, the
+ * input of a bulk load and the record of a sale are lent pieces, too: none may stand in the words, in the scratch, or
+ * in another. One tabulation goes with a dictionary; under another its words are, in general, the image of no set (4).
+ * No call keeps state of its own. The promises hold when a call returns. Let nothing else read or write the same words
+ * or scratch meanwhile: while a call runs nobody else, no interrupt handler and no other core, may write any memory
+ * that it is lent, nor read what it writes (the words of init, bulk load, insert and remove; scratch, counters,
+ * out-parameters). So there is no lookup during an insert, but in a second bank (below). Calls that only read the words
+ * (lookup, check, trail, stash, open_sale) may run side by side, each with its own scratch.
  * "The set" is the set whose canonical image the words are, under the lent tabulation: keys, one issue of each first
  * part, each with one tier.
  *
@@ -40,16 +40,18 @@
  * in use to the other bank, makes the change there, and, where that answers 0, swaps which bank is in use: one store,
  * which an interrupt handler finds done or not done. Another core reads it with acquire, after a store with release,
  * and the next change waits until each lookup that began in the bank which it will write has ended. Tabulation, scratch
- * and counters are for both banks. It helps at a reset, too, if both banks and the mark of the one in use are in memory
- * that a reset leaves: the bank in use is never half written. tests/c/two_banks.c has it in C, tried with interrupts
- * and resets.
+ * and counters are for both banks. A bulk load goes into the other bank in the same way and needs no copy before it,
+ * since what the words were has no say. Two banks help at a reset, too, if both and the mark of the one in use are in
+ * memory that a reset leaves: the bank in use is never half written. tests/c/two_banks.c has it in C, tried with
+ * interrupts and resets.
  *
  * On 4, and after a reset: when a call answers PINORANGE_NOT_CANONICAL, or PINORANGE_WRONG_SHAPE for words that were a
- * dictionary, somebody else wrote the words, or the tabulation is another one. After a reset in the middle of an insert
- * or a remove the words may be half written, and the scratch may hold keys. In all these cases look nothing up. Clear
- * the scratch, write the tabulation afresh (pinorange_house, or your own from its record), call pinorange_init, and
- * insert all keys again from a record of your own: the words are then those of any head with these keys, tabulation,
- * sizes and station. The library keeps no copy, and half-written words may, by chance, pass a check.
+ * dictionary, somebody else wrote the words, or the tabulation is another one. After a reset in the middle of a bulk
+ * load, an insert or a remove the words may be half written, and the scratch may hold keys. In all these cases look
+ * nothing up. Clear the scratch, write the tabulation afresh (pinorange_house, or your own from its record), and lay
+ * all keys again from a record of your own: in one call from an ascending record (pinorange_bulk_load), or by
+ * pinorange_init and an insert of each key. The words are then those of any head with these keys, tabulation, sizes and
+ * station. The library keeps no copy, and half-written words may, by chance, pass a check.
  *
  * Dump and restore: between calls the words may be copied anywhere, and are a dictionary wherever they are copied to,
  * with the same tabulation; the scratch need not be kept. Before words that were kept elsewhere are relied on, compare
@@ -63,10 +65,13 @@
  *
  * Over-full lists: where not all keys fit, which are refused with 8 hangs on the order in which they come, so that two
  * heads which are given the same keys in different orders differ, and a console that compares them finds them unlike.
- * So size for the keys that you have. If 8 can come, give all heads the same calls in the same order, from an empty
- * list in ascending order of the keys; or let one head decide, and give the others the keys that it accepted: a set
- * that fits once fits in every order, and makes the same words. Keep that set as the record for a reset, and not all
- * that was sent. Whoever offers refused keys again after a remove does so on all heads, in one order.
+ * How many are listed does not: keys, one issue of each, that are offered one by one to an empty list, those that are
+ * refused with 8 skipped, are listed equally many in every order, and no choice among them lists more (proved). A bulk
+ * load makes no choice: it answers 8, and nothing is laid. So size for the keys that you have. If 8 can come, give all
+ * heads the same calls in the same order, from an empty list in ascending order of the keys; or let one head decide,
+ * and give the others the keys that it accepted, which a bulk load then takes: a set that fits once fits in every
+ * order, and makes the same words. Keep that set as the record for a reset, and not all that was sent. Whoever offers
+ * refused keys again after a remove does so on all heads, in one order.
  *
  * Which processor: the kit makes x86-64 code by the System V convention (Linux and others), position-independent, with
  * SSE2 and nothing above it. The stack is aligned to 16 bytes at a call, as the convention has it, and the 128 bytes
@@ -83,15 +88,18 @@
 extern "C" {
 #endif
 
-/* The other numbers that a call answers. A call tries those that it can give in the order 1, 2, 3, 4, 5, 9, 13, 10, 6,
- * 7, 11, 12, 8; only the opening of a sale tries 4 behind 7. Of a call on words, PINORANGE_WRONG_SHAPE (2) says: there
- * are fewer than 5 words, word 0 (r) is not 1 to 1,024, word 1 (s) is above 64, word 4 (the station) is above 255, or
- * there are not PINORANGE_WORDS(r, s). */
+/* The other numbers that a call answers. A call tries those that it can give in the order 1, 2, 3, 4, 5, 9, 14, 13, 10,
+ * 6, 7, 11, 12, 8; only the opening of a sale tries 4 behind 7. Of a call on words, PINORANGE_WRONG_SHAPE (2) says:
+ * there are fewer than 5 words, word 0 (r) is not 1 to 1,024, word 1 (s) is above 64, word 4 (the station) is above
+ * 255, or there are not PINORANGE_WORDS(r, s). Init and bulk load, which are given r, s and station, say what it is
+ * there. */
 #define PINORANGE_SHORT_SCRATCH 3u /* the scratch is shorter than PINORANGE_SCRATCH(r, s) */
 #define PINORANGE_NOT_CANONICAL 4u /* under the lent tabulation the words are the canonical image of no set; of a sale:
                                     * the tier found is above 7 */
-#define PINORANGE_WRONG_TIER 9u    /* insert with a tier above PINORANGE_MAX_TIER */
-#define PINORANGE_OTHER_ISSUE 13u  /* insert of a key of which the set has another issue, which stays */
+#define PINORANGE_WRONG_TIER 9u    /* insert, bulk load: a tier is above PINORANGE_MAX_TIER */
+#define PINORANGE_NOT_RISING 14u   /* bulk load: the keys do not rise, or the input has an odd number of words */
+#define PINORANGE_OTHER_ISSUE 13u  /* insert of a key of which the set has another issue, which stays; bulk load: the
+                                    * input has two issues of one first part */
 #define PINORANGE_OTHER_TIER 10u   /* insert of a key that is in the set with another tier, which it keeps */
 #define PINORANGE_KEY_PRESENT 6u   /* insert of a key that is in the set with this tier */
 #define PINORANGE_KEY_ABSENT 7u    /* remove or trail of a key that is not in the set, sale of one that is not found */
@@ -106,7 +114,7 @@ extern "C" {
 #define PINORANGE_MAX_STEP 500    /* the largest step, up or down, in tenths of a cent */
 
 /* Sizes in 32-bit words, for r slots in each table and s stash places: the dictionary, and the scratch that insert,
- * remove, check and trail borrow. */
+ * remove, check, trail and bulk load borrow. */
 #define PINORANGE_WORDS(r, s) (5u + 6u * (r) + 2u * (s))
 #define PINORANGE_SCRATCH(r, s) (12u * (r) + 8u * (s))
 
@@ -134,7 +142,8 @@ extern "C" {
 #define PINORANGE_PLACE(r, place) (5u + 6u * (r) + 2u * (place))
 
 /* Counts of calls. The caller clears them, when and if it likes: no call does, pinorange_init neither, which moves them
- * on by one as insert and remove do. No call reads them for anything else. A count at 4,294,967,295 stays there. */
+ * on by one as bulk load, insert and remove do. No call reads them for anything else. A count at 4,294,967,295 stays
+ * there. */
 struct pinorange_counters {
     uint32_t done;    /* accepted */
     uint32_t refused; /* refused */
@@ -147,7 +156,31 @@ struct pinorange_counters {
 uint32_t pinorange_init(uint32_t *words, size_t words_length, uint32_t r, uint32_t s, uint32_t station,
                         struct pinorange_counters *counters);
 
-/* Puts a key with its tier into the set. Take care not to exchange words and scratch, here and below: pinorange_list.h.
+/* Lays a whole list in one call: that of the keys in `input`, whatever the words were. The input alternates key and
+ * tier: `input[0]` is a key, `input[1]` its tier, and so on, the keys strictly ascending, as head office holds them.
+ * `input_length` counts words, two for each key; with 0 the list is the empty one that init lays.
+ *
+ * Reads: the tabulation and the input, of any length and content. Writes: nothing but words, scratch and counters. The
+ * input is never written, and may stand in read-only memory; it may not overlap what is written. Take care not to
+ * exchange words and scratch, here and below: pinorange_list.h.
+ * Done (0): the words are the canonical image of the input's set, in every word: exactly those that pinorange_init and
+ *   an insert of each key with its tier, in any order, leave.
+ * Refused (1, 2, 3, 5, 9, 14, 13 or 8, tried in that order): the words stay. All is laid, or nothing. Each of 5, 9, 14
+ *   and 13 is tried over the whole input before the next.
+ *   2: as for init, of r, s, the station and the number of words. What the words hold has no say: 4 never comes.
+ *   3: the scratch is shorter than PINORANGE_SCRATCH(r, s), for the r and s that are given.
+ *   5, 9: a key is below 10, a tier above PINORANGE_MAX_TIER. A last word that has no partner is a key.
+ *   14: the number of words is odd, or a key is not larger than the one before it: the same key twice is 14, too.
+ *   13: two keys have one first part.
+ *   8: exactly when there is no way at all to give each key one of its two slots or one of the s stash places, no slot
+ *     two keys. So it is for more than 2r + s keys, however many.
+ * Scratch and counters as for insert. */
+uint32_t pinorange_bulk_load(const uint16_t *tabulation, size_t tabulation_length, uint32_t *words,
+                             size_t words_length, uint32_t *scratch, size_t scratch_length,
+                             struct pinorange_counters *counters, uint32_t r, uint32_t s, uint32_t station,
+                             const uint32_t *input, size_t input_length);
+
+/* Puts a key with its tier into the set.
  * Done (0): the words are the canonical image of the set with the key at this tier, in every word.
  * Refused (1, 2, 3, 4, 5, 9, 13, 10, 6 or 8, tried in that order): the words stay. 8 exactly when there is no way at
  * all to give each key of the new set one of its two slots or one of the s stash places, no slot two keys.
@@ -265,6 +298,7 @@ uint32_t pinorange_house(uint16_t *tabulation, size_t tabulation_length);
 /* The reference to the version at each call (pinorange_hashes.h). */
 #ifdef PINORANGE_BOUND
 #define pinorange_init(...) (pinorange_bind(), pinorange_init(__VA_ARGS__))
+#define pinorange_bulk_load(...) (pinorange_bind(), pinorange_bulk_load(__VA_ARGS__))
 #define pinorange_insert(...) (pinorange_bind(), pinorange_insert(__VA_ARGS__))
 #define pinorange_remove(...) (pinorange_bind(), pinorange_remove(__VA_ARGS__))
 #define pinorange_check(...) (pinorange_bind(), pinorange_check(__VA_ARGS__))

@@ -16,8 +16,8 @@
  * Each call hands on to the plain one of its name and answers what that answers; pinorange.h says what it promises, and
  * what the caller sees to. Out-parameters that are alike stand in a struct, too. What is left alike in one call shows
  * when it is exchanged: two of r, s and station (2, since the words' length fits r and s alone; unless they are equal),
- * key and tier (5, since no tier is a key). pinorange_house, pinorange_hashes and pinorange_close_sale are lent no
- * words and no scratch, and have no inline call.
+ * key and tier, in the input of a bulk load, too (5, since no tier is a key). pinorange_house, pinorange_hashes and
+ * pinorange_close_sale are lent no words and no scratch, and have no inline call.
  *
  * With PINORANGE_CHECKED defined, for a debug build, each call first looks at all pieces of the list and at all that it
  * is handed: none is null, each is aligned, no two overlap. Where one fails PINORANGE_FAILED(piece, what) is called
@@ -164,6 +164,16 @@ static inline uint32_t pinorange_list_init(const struct pinorange_list *list, ui
 {
     PINORANGE_CHECK_LENT(list, PINORANGE_NO_PIECE, PINORANGE_NO_PIECE);
     return pinorange_init(list->words, list->words_length, r, s, station, list->counters);
+}
+
+/* pinorange_bulk_load: the whole list from `input_length` words, key and tier by turns, the keys ascending. */
+static inline uint32_t pinorange_list_bulk_load(const struct pinorange_list *list, uint32_t r, uint32_t s,
+                                                uint32_t station, const uint32_t *input, size_t input_length)
+{
+    PINORANGE_CHECK_LENT(list, PINORANGE_PIECE("input", input, input_length * sizeof *input), PINORANGE_NO_PIECE);
+    return pinorange_bulk_load(list->tabulation, list->tabulation_length, list->words, list->words_length,
+                               list->scratch, list->scratch_length, list->counters, r, s, station, input,
+                               input_length);
 }
 
 /* pinorange_insert. */

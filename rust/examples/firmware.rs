@@ -5,7 +5,9 @@
 
 use core::fmt::{Result as Written, Write};
 
-use pinorange::{cards, check, close_sale, hashes, house, init, insert, lookup, open_sale};
+use pinorange::{
+    bulk_load, cards, check, close_sale, hashes, house, init, insert, lookup, open_sale,
+};
 use pinorange::{first_part, place_start, scratch_length, slot_start, words_length};
 use pinorange::{remove, stash, trail};
 use pinorange::{Counters, List, Refusal, Scratch, STEPS, TABULATION_LENGTH};
@@ -34,6 +36,23 @@ pub fn over_a_list(
     let sale = list.open_sale(410_010, 1_749, &[0; STEPS])?;
     show_list(&list, scratch, show)?;
     Ok(close_sale(&sale))
+}
+
+/// Lays a whole list in one call, from pairs of card and tier.
+#[no_mangle]
+pub fn loaded(
+    tabulation: &[u16; TABULATION_LENGTH],
+    words: &mut [u32],
+    scratch: &mut Scratch,
+    counters: &mut Counters,
+    sizes: [u32; 3],
+    cards: &[[u32; 2]],
+    show: Show,
+) -> Result<(), Refusal> {
+    let [r, s, station] = sizes;
+    let input = cards.as_flattened();
+    let list = List::bulk_load(tabulation, words, r, s, station, scratch, counters, input)?;
+    show_list(&list, scratch, show)
 }
 
 /// Opens a list that is there.
@@ -90,6 +109,7 @@ pub fn over_slices(
     counters: &mut Counters,
     show: Show,
 ) -> Result<u32, Refusal> {
+    bulk_load(tabulation, words, scratch, counters, 16, 2, 17, &[410_010, 1, 733_001, 3])?;
     init(words, 16, 2, 17, counters)?;
     insert(tabulation, words, scratch, counters, 410_010, 1)?;
     remove(tabulation, words, scratch, counters, 410_010)?;

@@ -27,6 +27,64 @@ pub fn init(
     done(unsafe { raw::pinorange_init(words.as_mut_ptr(), words.len(), r, s, station, counters) })
 }
 
+/// Lays a whole list in one call, whatever the words were: that of the keys in the input, which alternates key and
+/// tier, the keys strictly ascending. The words are those that [`init`] and an [`insert`] of each key, in any order,
+/// leave. Of words and scratch see [`insert`].
+///
+/// Cards that come as pairs, `[card, tier]`, are lent as they stand, by `as_flattened`. (Of tuples it is not known how
+/// they lie in memory.)
+///
+/// # Errors
+///
+/// In this order, and the words stay as they were: all is laid, or nothing. `WrongTabulation`; `WrongShape` and
+/// `ShortScratch`, by the r, s and station that are given; over the whole input, each before the next, `BlankKey` (a
+/// last word without a partner is a key), `WrongTier`, `NotRising` (an odd number of words, or a key that is not larger
+/// than the one before it) and `OtherIssue` (two issues of one card); `StashFull`.
+///
+/// ```
+/// use pinorange::{scratch_length, words_length, Counters, Refusal, TABULATION_LENGTH};
+///
+/// const R: u32 = 16;
+/// const S: u32 = 2;
+/// let mut tabulation = [0; TABULATION_LENGTH];
+/// let mut words = [0; words_length(R, S)];
+/// let mut scratch = [0; scratch_length(R, S)];
+/// let mut counters = Counters::default();
+/// pinorange::house(&mut tabulation)?;
+///
+/// // What head office sends: each card with its tier, ascending.
+/// let mut cards = [[410_010, 3], [410_025, 0], [733_001, 7]];
+/// let input = cards.as_flattened();
+/// pinorange::bulk_load(&tabulation, &mut words, &mut scratch, &mut counters, R, S, 17, input)?;
+/// assert_eq!(pinorange::lookup(&tabulation, &words, 733_001), Ok(Some(7)));
+///
+/// // One card at fault, and the list stays as it was.
+/// let before = words;
+/// cards[1] = [410_013, 0];
+/// let input = cards.as_flattened();
+/// let answer = pinorange::bulk_load(&tabulation, &mut words, &mut scratch, &mut counters, R, S, 17, input);
+/// assert_eq!(answer, Err(Refusal::OtherIssue));
+/// assert_eq!(words, before);
+/// assert_eq!(counters, Counters { done: 1, refused: 1 });
+/// # Ok::<(), Refusal>(())
+/// ```
+#[inline]
+#[rustfmt::skip]
+#[allow(clippy::too_many_arguments)] // They are the call's.
+pub fn bulk_load(
+    tabulation: &[u16], words: &mut [u32], scratch: &mut [u32], counters: &mut Counters, r: u32, s: u32, station: u32,
+    input: &[u32],
+) -> Result<(), Refusal> {
+    // Safe: all five are lent for this call alone and lie apart, and it is proved to touch nothing else, and to write
+    // neither tabulation nor input.
+    done(unsafe {
+        raw::pinorange_bulk_load(
+            tabulation.as_ptr(), tabulation.len(), words.as_mut_ptr(), words.len(),
+            scratch.as_mut_ptr(), scratch.len(), counters, r, s, station, input.as_ptr(), input.len(),
+        )
+    })
+}
+
 /// Puts a key with its tier into the set.
 ///
 /// Words and scratch are alike in type. Exchanged, they are answered `WrongShape`, and the list is zeros then, as each

@@ -47,8 +47,8 @@
 //! What `pinorange.h` says to a caller in C holds here, too: the library is x86-64 code (System V, SSE2, with a red
 //! zone) that needs `memset` and no operating system, and the crate is not compiled for anything else; nobody reads or
 //! writes the words while a call changes them, an interrupt handler no more than another core, which the borrows of a
-//! `List` see to in safe Rust; on [`Refusal::NotCanonical`], and after a reset, the tabulation is written afresh, the
-//! list laid afresh, and all cards are inserted again from a record of the caller's own.
+//! `List` see to in safe Rust; on [`Refusal::NotCanonical`], and after a reset, the tabulation is written afresh, and
+//! all cards are laid again from a record of the caller's own, in one call if that is ascending.
 //!
 //! `examples/head.rs` is a short head.
 
@@ -93,7 +93,9 @@ pub use hashing::{first_part, hashes, MAX_SLOTS, MAX_STATION, TABULATION_LENGTH,
 pub use refusal::Refusal;
 
 #[cfg(feature = "list")]
-pub use calls::{check, close_sale, house, init, insert, lookup, open_sale, remove, stash, trail};
+pub use calls::{
+    bulk_load, check, close_sale, house, init, insert, lookup, open_sale, remove, stash, trail,
+};
 #[cfg(feature = "list")]
 pub use cards::cards;
 #[cfg(feature = "list")]

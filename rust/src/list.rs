@@ -9,11 +9,12 @@ use crate::{Counters, Refusal, Sale, Scratch, STEPS, TABULATION_LENGTH};
 
 /// A card list over memory that it is lent: a tabulation, words and counters.
 ///
-/// [`init`](List::init) lays an empty one, [`open`](List::open) takes words that are a list already, and checks that
-/// they are. From then on nothing else in safe Rust can write the words or the tabulation, so that the words stay the
-/// canonical image of a set under this tabulation. `WrongShape` and `NotCanonical`, where a method may give them, say
-/// that it happened all the same: by a fault of the memory, or by another program. What to do then stands in
-/// `pinorange.h`: lay the list afresh, and insert all cards again from a record of your own.
+/// [`init`](List::init) lays an empty one, [`bulk_load`](List::bulk_load) a whole one in one call, and
+/// [`open`](List::open) takes words that are a list already, and checks that they are. From then on nothing else in
+/// safe Rust can write the words or the tabulation, so that the words stay the canonical image of a set under this
+/// tabulation. `WrongShape` and `NotCanonical`, where a method may give them, say that it happened all the same: by a
+/// fault of the memory, or by another program. What to do then stands in `pinorange.h`: lay all cards again from a
+/// record of your own.
 ///
 /// Two lists of the same cards at the same tiers, with one tabulation, of one size and station, have the same
 /// [`words`](List::words), whatever came before. Methods that take `&self` may run side by side.
@@ -63,6 +64,58 @@ impl<'a> List<'a> {
         counters: &'a mut Counters,
     ) -> Result<List<'a>, Refusal> {
         calls::init(words, r, s, station, counters)?;
+        Ok(List { tabulation, words, counters })
+    }
+
+    /// Lays a whole list of r slots in each table and s stash places, at a station, in one call, whatever the words
+    /// were: that of the keys in the input, which alternates key and tier, the keys strictly ascending. Its words are
+    /// those of an empty list into which the same keys were inserted, in any order.
+    ///
+    /// Cards that come as pairs, `[card, tier]`, are lent as they stand, by `as_flattened`.
+    ///
+    /// ```
+    /// # use pinorange::{scratch_length, words_length, Counters, List, Refusal, Scratch, TABULATION_LENGTH};
+    /// # let (mut tabulation, mut counters) = ([0; TABULATION_LENGTH], Counters::default());
+    /// # let mut words = [0; words_length(16, 2)];
+    /// # let mut scratch = Scratch::<[u32; scratch_length(16, 2)]>::new();
+    /// # pinorange::house(&mut tabulation)?;
+    /// // What head office sends, sorted, in case that it is not.
+    /// let mut cards = [[733_001, 7], [410_010, 3], [410_025, 0]];
+    /// cards.sort_unstable();
+    /// let input = cards.as_flattened();
+    /// let list = List::bulk_load(&tabulation, &mut words, 16, 2, 17, &mut scratch, &mut counters, input)?;
+    /// assert_eq!(list.lookup(733_001), Ok(Some(7)));
+    /// assert_eq!(list.len(), 3);
+    ///
+    /// // Two issues of one card: all is refused, and the words are a list as before.
+    /// let cards = [[410_010, 3], [410_013, 3]];
+    /// let input = cards.as_flattened();
+    /// let refused = List::bulk_load(&tabulation, &mut words, 16, 2, 17, &mut scratch, &mut counters, input);
+    /// assert_eq!(refused.err(), Some(Refusal::OtherIssue));
+    /// let list = List::open(&tabulation, &mut words, &mut scratch, &mut counters)?;
+    /// assert_eq!(list.len(), 3);
+    /// # Ok::<(), Refusal>(())
+    /// ```
+    ///
+    /// # Errors
+    ///
+    /// In this order; the words stay as they were, and the counters count it. `WrongShape` as for [`init`](List::init);
+    /// `ShortScratch`; over the whole input, each before the next, `BlankKey` (a last word without a partner is a key),
+    /// `WrongTier`, `NotRising` (an odd number of words, or a key that is not larger than the one before it) and
+    /// `OtherIssue` (two issues of one card); `StashFull`.
+    #[inline]
+    #[allow(clippy::too_many_arguments)] // Those of `init`, a scratch and the input.
+    pub fn bulk_load(
+        tabulation: &'a [u16; TABULATION_LENGTH],
+        words: &'a mut [u32],
+        r: u32,
+        s: u32,
+        station: u32,
+        scratch: &mut Scratch,
+        counters: &'a mut Counters,
+        input: &[u32],
+    ) -> Result<List<'a>, Refusal> {
+        calls::bulk_load(tabulation, words, scratch.words(), counters, r, s, station, input)?;
         Ok(List { tabulation, words, counters })
     }
 

@@ -22,6 +22,13 @@ extern "C" {
         words: *mut u32, words_length: usize, r: u32, s: u32, station: u32, counters: *mut Counters,
     ) -> u32;
 
+    /// Lays a whole list. 0, or the first that applies of 1, 2, 3, 5, 9, 14, 13, 8.
+    pub fn pinorange_bulk_load(
+        tabulation: *const u16, tabulation_length: usize, words: *mut u32, words_length: usize,
+        scratch: *mut u32, scratch_length: usize, counters: *mut Counters, r: u32, s: u32, station: u32,
+        input: *const u32, input_length: usize,
+    ) -> u32;
+
     /// Puts a key with its tier into the set. 0, or the first that applies of 1, 2, 3, 4, 5, 9, 13, 10, 6, 8.
     pub fn pinorange_insert(
         tabulation: *const u16, tabulation_length: usize, words: *mut u32, words_length: usize,

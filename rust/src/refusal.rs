@@ -17,7 +17,7 @@ pub enum Refusal {
     ShortScratch,
     /// 4: the words are the canonical image of no set; of a sale: the tier found is above 7.
     NotCanonical,
-    /// 5: the key is below 10.
+    /// 5: the key, or one of a bulk load's input, is below 10.
     BlankKey,
     /// 6: the key is in the set, with this tier.
     KeyPresent,
@@ -25,7 +25,7 @@ pub enum Refusal {
     KeyAbsent,
     /// 8: the new set does not fit, since its stash would have too many keys.
     StashFull,
-    /// 9: the tier is above 7.
+    /// 9: the tier, or one of a bulk load's input, is above 7.
     WrongTier,
     /// 10: the key is in the set with another tier, which it keeps.
     OtherTier,
@@ -33,8 +33,10 @@ pub enum Refusal {
     ShortTrail,
     /// 12: the base price or a step is outside its range, there are not eight steps, or the price is below 1.
     WrongPrice,
-    /// 13: the set has another issue of the key, which stays.
+    /// 13: the set has another issue of the key, which stays; of a bulk load: the input has two issues of one card.
     OtherIssue,
+    /// 14: the keys of a bulk load's input do not rise, or it has an odd number of words.
+    NotRising,
     /// A number that this version does not know: the crate is linked with a library of another version. With 0 such a
     /// library said that it is done, but named a part of the lent memory that is not there.
     Unknown(u32),
@@ -59,6 +61,7 @@ impl Refusal {
             11 => Refusal::ShortTrail,
             12 => Refusal::WrongPrice,
             13 => Refusal::OtherIssue,
+            14 => Refusal::NotRising,
             _ => Refusal::Unknown(number),
         })
     }
@@ -80,6 +83,7 @@ impl Refusal {
             Refusal::ShortTrail => 11,
             Refusal::WrongPrice => 12,
             Refusal::OtherIssue => 13,
+            Refusal::NotRising => 14,
             Refusal::Unknown(number) => number,
         }
     }
@@ -101,6 +105,7 @@ impl fmt::Display for Refusal {
             Refusal::ShortTrail => "the trail has more keys than words are lent for it",
             Refusal::WrongPrice => "the prices are outside their range",
             Refusal::OtherIssue => "another issue of the key is listed",
+            Refusal::NotRising => "the keys do not rise, or the last has no tier",
             Refusal::Unknown(number) => {
                 return write!(f, "the library answered {number}, which this crate does not know");
             }
@@ -126,8 +131,8 @@ mod tests {
     #[test]
     fn any_number_is_an_answer() {
         assert_eq!(done(0), Ok(()));
-        assert_eq!(done(13), Err(Refusal::OtherIssue));
-        for number in [14, 256, u32::MAX] {
+        assert_eq!(done(14), Err(Refusal::NotRising));
+        for number in [15, 256, u32::MAX] {
             assert_eq!(done(number), Err(Refusal::Unknown(number)));
         }
     }

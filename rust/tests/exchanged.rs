@@ -28,24 +28,31 @@ const AFTER: &str = "
 ";
 
 /// Lines that are right: each call that takes words or scratch, and a list that two threads read.
-const RIGHT: [&str; 7] = [
+const RIGHT: [&str; 8] = [
     "list.insert(&mut scratch, 410_017, 3)?;",
     "list.remove(&mut scratch, 410_017)?;",
     "list.check(&mut scratch)?;",
     "list.trail(&mut scratch, 410_017, keys)?;",
     "List::init(&tabulation, other_words, 16, 2, 17, &mut other_counters)?;",
+    "List::bulk_load(&tabulation, other_words, 16, 2, 17, &mut other, &mut other_counters, keys)?;",
     "List::open(&tabulation, other_words, &mut other, &mut other_counters)?;",
     "fn may_be_shared<T: Send + Sync>(_: &T) {} may_be_shared(&list);",
 ];
 
 /// Lines that are wrong, with the compiler's number of what is.
-const WRONG: [(&str, &str); 13] = [
+const WRONG: [(&str, &str); 18] = [
     ("list.insert(other_words, 410_017, 3)?;", "E0308"),
     ("list.remove(other_words, 410_017)?;", "E0308"),
     ("list.check(other_words)?;", "E0308"),
     ("list.trail(other_words, 410_017, keys)?;", "E0308"),
     ("list.trail(&mut scratch, 410_017, &mut other)?;", "E0308"),
     ("List::init(&tabulation, &mut other, 16, 2, 17, &mut other_counters)?;", "E0308"),
+    ("List::bulk_load(&tabulation, &mut other, 1, 2, 3, &mut scratch, &mut other_counters, keys)?;", "E0308"),
+    ("List::bulk_load(&tabulation, other_words, 1, 2, 3, keys, &mut other_counters, &[])?;", "E0308"),
+    ("List::bulk_load(&tabulation, keys, 1, 2, 3, &mut scratch, &mut other_counters, &other)?;", "E0308"),
+    // The input stands in the words that are written, and in a list's.
+    ("List::bulk_load(&tabulation, keys, 1, 2, 3, &mut other, &mut other_counters, keys)?;", "E0502"),
+    ("List::bulk_load(&tabulation, keys, 1, 2, 3, &mut other, &mut other_counters, &words)?;", "E0502"),
     ("List::open(&tabulation, &mut other, &mut scratch, &mut other_counters)?;", "E0308"),
     ("List::open(&tabulation, other_words, keys, &mut other_counters)?;", "E0308"),
     // Both exchanged are two errors, which the compiler tells as one.

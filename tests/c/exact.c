@@ -1,7 +1,9 @@
-/* Every call on memory from malloc that is exactly as long as the call is told, from no word to one too many, with scratch that was never written, and with
- * sheets for trails and records of sales that were not either. Run under a memory checker (tests/run does) it shows what no comparison of words can: that
- * nothing is read or written outside the lent ends, that no answer and no word depends on what the scratch or the record held, and that a trail writes every
- * word of its sheet, and an opening every field of its record. Exits with 0 when the answers, the trails and the prices are as expected, too. */
+/* Every call on memory from malloc that is exactly as long as the call is told, from no word to one too many, with
+ * scratch that was never written, and with targets of bulk loads, sheets for trails and records of sales that were not
+ * either. Run under a memory checker (tests/run does) it shows what no comparison of words can: that nothing is read or
+ * written outside the lent ends, that no answer and no word depends on what the scratch, the target or the record held,
+ * and that a bulk load writes every word of its target, a trail every word of its sheet, and an opening every field of
+ * its record. Exits with 0 when the answers, the trails and the prices are as expected, too. */
 #include "pinorange.h"
 
 #include <stdio.h>
@@ -78,6 +80,26 @@ static uint32_t change(const uint16_t *book, size_t book_length, uint32_t *words
         printf("the counters did not move by one\n");
         failures++;
     }
+    free(scratch);
+    return answer;
+}
+
+/* A bulk load with a scratch of its own of this length, which must be zeros afterwards, and with an input of its own of
+ * exactly its length, which must stay. */
+static uint32_t load(const uint16_t *book, size_t book_length, uint32_t *words, size_t length, size_t room,
+                     const uint32_t laid[3], const uint32_t *list, size_t list_length)
+{
+    struct pinorange_counters counters = {0, 0};
+    uint32_t *scratch = lend(room * sizeof *scratch), *input = lend(list_length * sizeof *input), answer;
+    if (list_length > 0)
+        memcpy(input, list, list_length * sizeof *input);
+    answer = pinorange_bulk_load(book, book_length, words, length, scratch, room, &counters, laid[0], laid[1], laid[2],
+                                 input, list_length);
+    expect_zeros("scratch", scratch, room);
+    expect("the input stays", list_length == 0 || memcmp(input, list, list_length * sizeof *input) == 0, 1);
+    expect("done", counters.done, answer == PINORANGE_DONE);
+    expect("refused", counters.refused, answer != PINORANGE_DONE);
+    free(input);
     free(scratch);
     return answer;
 }
@@ -263,8 +285,86 @@ static void replace(const struct board *board, uint32_t *words, uint32_t keys)
     free(before);
 }
 
-/* A dictionary filled, key i at tier i % 8, and emptied again; in between refused inserts, keys that are replaced,
- * lookups, trails, sales and views. */
+static int by_number(const void *one, const void *other)
+{
+    uint32_t first = *(const uint32_t *)one, second = *(const uint32_t *)other;
+    return (first > second) - (first < second);
+}
+
+/* The keys of a session that were accepted, ascending, each with its tier. Gives how many words they are. */
+static size_t listed_keys(uint32_t keys, uint32_t *list)
+{
+    size_t length = 0;
+    for (uint32_t i = 1; i <= keys; i++)
+        if (accepted[i]) {
+            list[length++] = key_of(i);
+            list[length++] = i % 8;
+        }
+    qsort(list, length / 2, 2 * sizeof *list, by_number);
+    return length;
+}
+
+/* A load that must be refused: over words that were never written, on which the answer must not depend, and over words
+ * that must stay. */
+static void expect_no_list(const char *what, const struct board *board, const uint32_t laid[3], const uint32_t *list,
+                           size_t list_length, uint32_t wanted)
+{
+    uint32_t *words = lend(board->length * sizeof *words);
+    expect(what, load(board->book, board->book_length, words, board->length, board->room, laid, list, list_length),
+           wanted);
+    for (size_t i = 0; i < board->length; i++)
+        words[i] = 1000 + (uint32_t)i;
+    expect(what, load(board->book, board->book_length, words, board->length, board->room, laid, list, list_length),
+           wanted);
+    for (size_t i = 0; i < board->length; i++)
+        expect(what, words[i], 1000 + (uint32_t)i);
+    free(words);
+}
+
+/* The same list in one call, into words that were never written: all words must be those of the board. Then the input
+ * with a fault of each kind, and with a word less. Where a key was refused, all of them together do not fit. */
+static void load_whole(const struct board *board, const uint32_t laid[3], uint32_t keys)
+{
+    size_t bytes = board->length * sizeof *board->words, length;
+    uint32_t *words = lend(bytes), *list = lend((2 * keys + 2) * sizeof *list), count = board->words[2], kept;
+    length = listed_keys(keys, list);
+    expect("the keys of the input", (uint32_t)length, 2 * count);
+    expect("bulk load", load(board->book, board->book_length, words, board->length, board->room, laid, list, length),
+           PINORANGE_DONE);
+    expect("the words of a bulk load", memcmp(words, board->words, bytes) == 0, 1);
+    expect_no_list("a word less", board, laid, list, length - 1, PINORANGE_NOT_RISING);
+    list[length] = UINT32_MAX; /* a key of its own, without a tier; then one that is none */
+    expect_no_list("a word more", board, laid, list, length + 1, PINORANGE_NOT_RISING);
+    list[length] = 9;
+    expect_no_list("a blank word more", board, laid, list, length + 1, PINORANGE_BLANK_KEY);
+    kept = list[length - 1];
+    list[length - 1] = PINORANGE_MAX_TIER + 1;
+    expect_no_list("the last tier", board, laid, list, length, PINORANGE_WRONG_TIER);
+    list[length - 1] = kept;
+    kept = list[length - 2];
+    list[length - 2] = 9;
+    expect_no_list("the last key", board, laid, list, length, PINORANGE_BLANK_KEY);
+    list[length - 2] = list[0];
+    expect_no_list("the first key again", board, laid, list, length, PINORANGE_NOT_RISING);
+    list[length - 2] = kept;
+    list[length] = other_issue(kept);
+    list[length + 1] = 0;
+    expect_no_list("another issue of the last key", board, laid, list, length + 2,
+                   list[length] > kept ? PINORANGE_OTHER_ISSUE : PINORANGE_NOT_RISING);
+    for (uint32_t i = 1; i <= keys; i++)
+        if (!accepted[i]) {
+            list[length] = key_of(i);
+            list[length + 1] = i % 8;
+            qsort(list, length / 2 + 1, 2 * sizeof *list, by_number);
+            expect_no_list("a key that has no place", board, laid, list, length + 2, PINORANGE_STASH_FULL);
+            break;
+        }
+    free(list);
+    free(words);
+}
+
+/* A dictionary filled, key i at tier i % 8, and emptied again; in between refused inserts, keys that are replaced, the
+ * same list in one call, lookups, trails, sales and views. */
 static void session(uint32_t r, uint32_t s, uint32_t station, uint32_t keys)
 {
     size_t length = PINORANGE_WORDS(r, s), room = PINORANGE_SCRATCH(r, s);
@@ -293,6 +393,7 @@ static void session(uint32_t r, uint32_t s, uint32_t station, uint32_t keys)
                accepted[i] ? PINORANGE_OTHER_ISSUE : PINORANGE_STASH_FULL);
     }
     replace(&board, words, keys);
+    load_whole(&board, (const uint32_t[]){r, s, station}, keys);
     for (uint32_t i = 1; i <= 2 * keys; i++) {
         uint32_t listed = 7, tier = 77, table0, table1;
         expect("lookup", look_up(&board, other_issue(key_of(i)), &listed, &tier), PINORANGE_DONE);
@@ -467,6 +568,33 @@ static void test_board(void)
     free(book);
 }
 
+/* Bulk loads into a target of this length, with tabulation and scratch of these: of inputs of no word to six, of which
+ * none too many is read. The target was never written. */
+static void load_lengths(const struct board *board, const uint32_t laid[3], uint32_t shape)
+{
+    static const uint32_t all[] = {40, 7, 50, 0, 60, 1};
+    for (size_t length = 0; length <= 6; length++) {
+        uint32_t *words = lend(board->length * sizeof *words), wanted = PINORANGE_DONE;
+        if (length / 2 > 2 * laid[0] + laid[1])
+            wanted = PINORANGE_STASH_FULL;
+        if (length % 2)
+            wanted = PINORANGE_NOT_RISING;
+        if (board->room < PINORANGE_SCRATCH(laid[0], laid[1]))
+            wanted = PINORANGE_SHORT_SCRATCH;
+        if (shape)
+            wanted = shape;
+        if (board->book_length != PINORANGE_TABULATION_LENGTH)
+            wanted = PINORANGE_WRONG_TABULATION;
+        expect("bulk load", load(board->book, board->book_length, words, board->length, board->room, laid, all, length),
+               wanted);
+        if (wanted == PINORANGE_DONE)
+            expect("the number of keys", words[2], (uint32_t)length / 2);
+        for (size_t i = 0; wanted == PINORANGE_DONE && i < board->length; i++)
+            expect("every word is written", words[i] <= 255, 1);
+        free(words);
+    }
+}
+
 /* Every length of words, scratch and tabulation around the right ones, with this number as the station: above 255 no length
  * of words is right. */
 static void lengths(uint32_t r, uint32_t s, uint32_t station)
@@ -498,6 +626,9 @@ static void lengths(uint32_t r, uint32_t s, uint32_t station)
                            more ? PINORANGE_WRONG_TABULATION : shape ? shape : PINORANGE_KEY_ABSENT);
             expect_refusal("trail", &(struct board){house, PINORANGE_TABULATION_LENGTH, words, length, rooms}, 50,
                            length % 3, shape ? shape : more < 0 ? PINORANGE_SHORT_SCRATCH : PINORANGE_KEY_ABSENT);
+            load_lengths(&(struct board){book, books, words, length, rooms}, (const uint32_t[]){r, s, station}, shape);
+            load_lengths(&(struct board){house, PINORANGE_TABULATION_LENGTH, words, length, rooms},
+                         (const uint32_t[]){r, s, station}, shape);
             expect_no_sale("sale", &(struct board){book, books, words, length, rooms}, 50, 100, length % 10,
                            more ? PINORANGE_WRONG_TABULATION : shape ? shape : PINORANGE_KEY_ABSENT);
             expect("lookup", pinorange_lookup(book, books, words, length, 50, &listed, &tier),

@@ -72,6 +72,43 @@ static void listed_once(void) {
     }
 }
 
+/* A file that is refused: what is printed, and that the list stays, down to the last word. */
+static void not_loaded(const char *file, const char *said) {
+    static uint32_t before[PINORANGE_WORDS(R, S)];
+    memcpy(before, memory.words, sizeof before);
+    forget();
+    expect(!load_file(file) && strcmp(printed, said) == 0, said);
+    expect(memcmp(before, memory.words, sizeof before) == 0, "a file that is refused leaves the list");
+}
+
+/* Head office's files: each line that is at fault is found. */
+static void files(void) {
+    static char text[32 * (MOST + 1)];
+    size_t length = 0;
+    forget();
+    expect(load_file("410010,3\n410025,0\n4294967295,7\n") && used == 0, "a file of three cards");
+    expect(memory.words[2] == 3 && price_of_sale(410025) == 1749, "it is the list then");
+    list_cards();
+    expect(times("\n") == 3 && times("card 4294967295, tier 7") == 1, "each card is listed once");
+    not_loaded("410010,3\n410025,0\n9,0\n", "refused with 5, line 3\n");
+    not_loaded("410010,3\n410025,8\n", "refused with 9, line 2\n");
+    not_loaded("410010,3\n410025,0\n410011,3\n", "refused with 14, line 3\n");
+    not_loaded("410010,3\n410010,3\n", "refused with 14, line 2\n");
+    not_loaded("410010,3\n410013,3\n410025,0\n", "refused with 13, line 2\n");
+    not_loaded("410010,3\n410025\n", "line 2 is not card,tier, or one too many\n");
+    not_loaded("410010,3\n\n", "line 2 is not card,tier, or one too many\n");
+    not_loaded("410010,3", "line 1 is not card,tier, or one too many\n");
+    not_loaded("4294967296,0\n", "line 1 is not card,tier, or one too many\n");
+    not_loaded("18446744073709551626,0\n", "line 1 is not card,tier, or one too many\n");
+    for (uint32_t i = 0; i < MOST; i++)
+        length += (size_t)snprintf(text + length, sizeof text - length, "%u,0\n", (unsigned)(10 * i + 10));
+    not_loaded(text, "the list is too small for these cards\n");
+    snprintf(text + length, sizeof text - length, "4294967295,0\n");
+    not_loaded(text, "line 2113 is not card,tier, or one too many\n");
+    expect(load_file("") && memory.words[2] == 0, "an empty file is an empty list");
+    expect(load_file("410019,5\n") && memory.words[2] == 1, "a file of one card");
+}
+
 int main(void) {
     expect(page_main() == 0, "the head's main");
     expect(strcmp(printed, "410017 is listed at tier 3\n") == 0, "what it prints");
@@ -83,6 +120,7 @@ int main(void) {
     expect(replace_card(410018, 410019, 5) == PINORANGE_KEY_ABSENT, "a card that is not listed is not replaced");
     expect(replace_card(410017, 410019, 5) == PINORANGE_DONE, "a card is replaced");
     expect(price_of_sale(410017) == 0 && price_of_sale(410019) == 1749, "by another issue at another tier");
+    files();
     listed_once();
     printf("head.c: %u failures\n", failures);
     return failures != 0;

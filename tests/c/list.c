@@ -17,7 +17,9 @@ enum { R = 8, S = 2, STATION = 17, KEYS = 40 };
 static struct PINORANGE_MEMORY(R, S) ours, plain;
 static const struct pinorange_list whole = PINORANGE_LIST(ours);
 static const int32_t steps[PINORANGE_STEPS] = {-30, -20, -10, 0, 10, 20, 30, 40};
-static unsigned calls, failures, seen[14];
+/* The numbers that a call answers, 0 to the last. */
+enum { ANSWERS = 15 };
+static unsigned calls, failures, seen[ANSWERS];
 
 static void expect(int holds, const char *what)
 {
@@ -31,8 +33,8 @@ static void expect(int holds, const char *what)
 static void same(const char *what, uint32_t answer, uint32_t plain_answer)
 {
     calls++;
-    seen[answer < 14 ? answer : 0]++;
-    expect(answer == plain_answer && answer < 14, what);
+    seen[answer < ANSWERS ? answer : 0]++;
+    expect(answer == plain_answer && answer < ANSWERS, what);
     expect(memcmp(&ours, &plain, sizeof ours) == 0, what);
 }
 
@@ -98,6 +100,35 @@ static void lay(const struct pinorange_list *list, uint32_t r, uint32_t s, uint3
     same("init", pinorange_list_init(list, r, s, station), pinorange_init(WORDS, r, s, station, &plain.counters));
 }
 
+static void load(const struct pinorange_list *list, uint32_t r, uint32_t s, uint32_t station, const uint32_t *input,
+                 size_t length)
+{
+    ours.scratch[3] = plain.scratch[3] = 99;
+    same("bulk load", pinorange_list_bulk_load(list, r, s, station, input, length),
+         pinorange_bulk_load(BOOK, WORDS, SHEET, &plain.counters, r, s, station, input, length));
+}
+
+/* Whole lists: of inputs of all lengths, of which the odd ones are refused, and of inputs with a fault; with sizes and
+ * station in their places and exchanged. The last is laid. */
+static void load_all(const struct pinorange_list *list)
+{
+    static const uint32_t keys[] = {410010, 1, 410025, 0, 733001, 7, 733010, 3};
+    static const uint32_t wrong[][4] = {{9, 1, 20, 0}, {10, 8, 20, 0}, {20, 0, 10, 0}, {10, 0, 11, 0},
+                                        {1, 410010, 0, 410025}}; /* tier and key exchanged */
+    static uint32_t many[2 * (2 * R + S + 1)];
+    size_t i;
+    for (i = 0; i < sizeof wrong / sizeof *wrong; i++)
+        load(list, R, S, STATION, wrong[i], 4);
+    for (i = 0; i < sizeof many / sizeof *many; i += 2)
+        many[i] = 10 * (uint32_t)i + 10; /* one more than there are slots and places */
+    load(list, R, S, STATION, many, sizeof many / sizeof *many);
+    load(list, S, R, STATION, keys, 8);
+    load(list, R, STATION, S, keys, 8);
+    load(list, R, S, PINORANGE_MAX_STATION + 1, keys, 8);
+    for (i = 0; i <= 8; i++)
+        load(list, R, S, STATION, keys, i);
+}
+
 /* Every call about one key, so that each refusal comes that it can get on this list. */
 static void ask_all(const struct pinorange_list *list, uint32_t key)
 {
@@ -126,14 +157,17 @@ static void wrong_lists(void)
     struct pinorange_list list = whole;
     list.tabulation_length--;
     ask_all(&list, key_of(1));
+    load_all(&list);
     list = whole;
     list.words_length--;
     ask_all(&list, key_of(1));
     lay(&list, R, S, STATION);
+    load_all(&list);
     list = whole;
     list.scratch_length--;
     ask_all(&list, key_of(1));
     take_out(&list, key_of(1));
+    load_all(&list);
     ours.words[3] = plain.words[3] = S + 1;
     ask_all(&whole, key_of(1));
 }
@@ -153,8 +187,14 @@ static void session(void)
     lay(&whole, S, R, STATION);
     lay(&whole, R, STATION, S);
     lay(&whole, R, S, PINORANGE_MAX_STATION + 1);
+    load_all(&whole);
+    expect(ours.words[2] == 4 && ours.words[4] == STATION, "four keys are loaded");
+    look_up(&whole, 733010);
     wrong_lists();
-    for (i = 0; i < 14; i++)
+    expect(ours.words[2] == 4, "no load with wrong memory is laid");
+    load_all(&whole);
+    check(&whole);
+    for (i = 0; i < ANSWERS; i++)
         expect(seen[i] > 0, "every number was answered");
 }
 
@@ -199,7 +239,9 @@ static void failed(const char *piece, const char *what)
         struct pinorange_sale some_sale; \
         uint32_t some_keys[2 * R]; \
         struct pinorange_trail_keys some_trail = {some_keys, 2 * R, 0}; \
+        static const uint32_t some_input[2] = {410017, 3}; \
         EXPECT_CHECK(pinorange_list_init(list, R, S, STATION), piece, what); \
+        EXPECT_CHECK(pinorange_list_bulk_load(list, R, S, STATION, some_input, 2), piece, what); \
         EXPECT_CHECK(pinorange_list_insert(list, 410017, 3), piece, what); \
         EXPECT_CHECK(pinorange_list_remove(list, 410017), piece, what); \
         EXPECT_CHECK(pinorange_list_check(list), piece, what); \
@@ -250,6 +292,14 @@ static void wrong_arguments(void)
     struct pinorange_trail_keys keys = {0, 2 * R, 0};
     struct pinorange_sale sale;
     int32_t *in_words = (int32_t *)(void *)ours.words;
+    EXPECT_CHECK(pinorange_list_bulk_load(&whole, R, S, STATION, 0, 0), "input", "is null");
+    EXPECT_CHECK(pinorange_list_bulk_load(&whole, R, S, STATION, ASKEW(uint32_t, plain.words), 2), "input",
+                 "is not aligned");
+    EXPECT_CHECK(pinorange_list_bulk_load(&whole, R, S, STATION, &ours.words[5], 2), "input",
+                 "overlaps another piece");
+    EXPECT_CHECK(pinorange_list_bulk_load(&whole, R, S, STATION, ours.scratch, 2), "input", "overlaps another piece");
+    EXPECT_CHECK(pinorange_list_bulk_load(&whole, R, S, STATION, &ours.counters.refused, 1), "input",
+                 "overlaps another piece");
     EXPECT_CHECK(pinorange_list_lookup(&whole, 410017, 0), "found", "is null");
     EXPECT_CHECK(pinorange_list_lookup(&whole, 410017, ASKEW(struct pinorange_found, plain.words)), "found",
                  "is not aligned");
@@ -287,6 +337,12 @@ static void touching(void)
     list.scratch = ours.words + 1;
     list.scratch_length = 1;
     expect(pinorange_list_check(&list) == PINORANGE_WRONG_SHAPE, "pieces that touch do not overlap");
+    list = whole;
+    list.scratch_length -= 2;
+    expect(pinorange_list_bulk_load(&list, R, S, STATION, &ours.scratch[list.scratch_length], 2)
+           == PINORANGE_SHORT_SCRATCH, "an input that touches the scratch does not overlap it");
+    expect(pinorange_list_bulk_load(&whole, R, S, STATION, &ours.words[5], 0) == PINORANGE_DONE,
+           "an input of no length overlaps nothing");
 }
 #endif
 

@@ -1,8 +1,11 @@
-/* What the largest dictionary costs in memory, with one open sale, added up and held to a pump head's 128 KiB. The words, scratch and tabulation, the steps of
- * the prices and the record of a sale are as long as the header says; the stack is measured: every call runs on a stack that was painted before, and what is
- * painted afterwards was not used. The longest trail that there is, of 2,048 keys, has a painted stack of its own: its steps are calls in calls, so that it
- * could take more the longer it is. The code's size comes in as CODE_BYTES (tests/run takes it from `size`). Exits with 0 when all fits, the longest trail's
- * stack is below TRAIL_STACK_BYTES, and every sale was closed at its price. */
+/* What the largest dictionary costs in memory, with one open sale, added up and held to a pump head's 128 KiB. The
+ * words, scratch and tabulation, the steps of the prices and the record of a sale are as long as the header says; the
+ * stack is measured: every call runs on a stack that was painted before, and what is painted afterwards was not used.
+ * The longest trail that there is, of 2,048 keys, has a painted stack of its own: its steps are calls in calls, so that
+ * it could take more the longer it is. So has a bulk load, of the keys that the inserts before it listed. The code's
+ * size comes in as CODE_BYTES (tests/run takes it from `size`). Exits with 0 when all fits, the longest trail's stack
+ * is below TRAIL_STACK_BYTES, every sale was closed at its price, and the bulk load laid the words that the inserts
+ * left. */
 #define _GNU_SOURCE
 #include "pinorange.h"
 
@@ -28,12 +31,65 @@ static uint32_t trail[2 * R], longest, short_answer;
 static const int32_t steps[PINORANGE_STEPS] = {-500, -10, 0, 10, 20, 30, 40, 500};
 static struct pinorange_sale sale;
 static uint32_t sales, closed_right;
+/* A bulk load's input, with all keys and with those that fit; and the words that the inserts left. Not counted: a head
+ * that is sent its list has it in a buffer of its own, or where it is kept. */
+static uint32_t input[2 * 1800], input_length, all_input[2 * 1800], inserted[PINORANGE_WORDS(R, S)];
+static uint32_t loaded_answer, full_answer, odd_answer;
 
 static unsigned char *base; /* where the calls' own stack begins: a local of the function that calls them */
 
 _Static_assert(sizeof words == 25108, "the words of the largest dictionary");
 _Static_assert(sizeof scratch == 51200, "the scratch of the largest dictionary");
 _Static_assert(sizeof tabulation == 5120, "a tabulation");
+
+static int by_key(const void *one, const void *other)
+{
+    uint32_t first = *(const uint32_t *)one, second = *(const uint32_t *)other;
+    return (first > second) - (first < second);
+}
+
+/* What the words list, as an input; and all 1,800 keys, as another. The words are kept, and spoiled. */
+static void take_input(void)
+{
+    for (uint32_t i = 1; i <= 1800; i++) {
+        uint32_t key = i * 2654435761u, listed = 0, tier = 0;
+        pinorange_lookup(tabulation, PINORANGE_TABULATION_LENGTH, words, PINORANGE_WORDS(R, S), key, &listed, &tier);
+        all_input[2 * i - 2] = key;
+        all_input[2 * i - 1] = i % 8;
+        if (listed) {
+            input[input_length++] = key;
+            input[input_length++] = tier;
+        }
+    }
+    qsort(input, input_length / 2, 2 * sizeof *input, by_key);
+    qsort(all_input, 1800, 2 * sizeof *all_input, by_key);
+    memcpy(inserted, words, sizeof words);
+    memset(words, 0x5a, sizeof words);
+}
+
+static uint32_t load(const uint32_t *list, size_t length)
+{
+    return pinorange_bulk_load(tabulation, PINORANGE_TABULATION_LENGTH, words, PINORANGE_WORDS(R, S), scratch,
+                               PINORANGE_SCRATCH(R, S), &counters, R, S, STATION, list, length);
+}
+
+/* Bulk loads alone: one with more keys than fit, one that is done, and one with a word too few. */
+static void *bulk_loads(void *unused)
+{
+    unsigned char local;
+    base = &local;
+    full_answer = load(all_input, 2 * 1800);
+    loaded_answer = load(input, input_length);
+    odd_answer = load(input, input_length - 1);
+    return unused;
+}
+
+/* Whether the bulk loads were what they must be, and left the words of the inserts. */
+static int is_loaded(void)
+{
+    return full_answer == PINORANGE_STASH_FULL && loaded_answer == PINORANGE_DONE && odd_answer == PINORANGE_NOT_RISING
+           && memcmp(words, inserted, sizeof words) == 0;
+}
 
 /* Sales of all keys, of those that are in the set and of those that are not; each that is opened is closed. */
 static void open_and_close(void)
@@ -56,7 +112,8 @@ static void insert_others(void)
     }
 }
 
-/* Every call but the trail, the changes up to a full stash: with cycles, with full components, with refusals. */
+/* Every call but the trail and the bulk load, the changes up to a full stash: with cycles, with full components, with
+ * refusals. */
 static void *other_calls(void *unused)
 {
     uint32_t listed, tier, offset, length, table0, table1;
@@ -151,21 +208,29 @@ static size_t stack_of(void *(*calls)(void *))
 
 int main(void)
 {
-    size_t other_stack = stack_of(other_calls), trail_stack, stack, sum;
+    size_t other_stack = stack_of(other_calls), load_stack, trail_stack, stack, sum;
+    uint32_t refused = counters.refused;
+    int loaded;
+    take_input();
+    load_stack = stack_of(bulk_loads);
+    loaded = is_loaded();
     lay_cycle();
     trail_stack = stack_of(longest_trail);
-    stack = other_stack < trail_stack ? trail_stack : other_stack;
+    stack = other_stack < load_stack ? load_stack : other_stack;
+    stack = stack < trail_stack ? trail_stack : stack;
     /* The stack is the deepest of all calls, the longest trail among them. The words of a trail are not counted: the caller lends them on the bench only, where
      * somebody asks why a key sits where it sits. */
     sum = CODE_BYTES + sizeof words + sizeof scratch + sizeof tabulation + sizeof counters + sizeof steps + sizeof sale + stack;
 
     printf("code and constants %u\nwords %zu\nscratch %zu\ntabulation %zu\ncounters %zu\nsteps %zu\nsale %zu\nstack %zu\n", CODE_BYTES, sizeof words,
            sizeof scratch, sizeof tabulation, sizeof counters, sizeof steps, sizeof sale, stack);
-    printf("stack of the longest trail %zu\nstack of the other calls %zu\n", trail_stack, other_stack);
+    printf("stack of the longest trail %zu\nstack of a bulk load %zu\nstack of the other calls %zu\n", trail_stack,
+           load_stack, other_stack);
     printf("memory.c: %zu of %u bytes; %u keys accepted, %u calls refused, %u of them for another tier, %u for another "
-           "issue; the longest trail has %u keys; %u sales\n", sum, HEAD_BYTES, (unsigned)accepted,
-           (unsigned)counters.refused, (unsigned)other_tier, (unsigned)other_issue, (unsigned)longest, (unsigned)sales);
+           "issue; the longest trail has %u keys; %u sales; %u keys in one call\n", sum, HEAD_BYTES, (unsigned)accepted,
+           (unsigned)refused, (unsigned)other_tier, (unsigned)other_issue, (unsigned)longest, (unsigned)sales,
+           (unsigned)input_length / 2);
     return sum > HEAD_BYTES || trail_stack >= TRAIL_STACK_BYTES || !is_longest() || accepted < 1200 || other_tier == 0
-           || other_issue == 0 || counters.refused == other_tier + other_issue || sales != accepted
-           || closed_right != sales;
+           || other_issue == 0 || refused == other_tier + other_issue || sales != accepted || closed_right != sales
+           || !loaded || input_length < 2400;
 }

@@ -1,6 +1,7 @@
 /* More cards than fit: which of them are refused hangs on the order, so that heads which are fed in other orders
- * differ. What keeps them alike: one order on all heads, or the cards that one head accepted, which fit in every order.
- * Exits with 0 when the lists differ and are equal as pinorange.h says. */
+ * differ, though each lists as many. What keeps them alike: one order on all heads, or the cards that one head
+ * accepted, which fit in every order, and in one call. All cards in one call are refused together. Exits with 0 when
+ * the lists differ and are equal as pinorange.h says. */
 #include "pinorange_list.h"
 
 #include <stdio.h>
@@ -48,6 +49,19 @@ static uint32_t feed(uint32_t order, const unsigned char *wanted, unsigned char 
     return refused;
 }
 
+/* The cards that are wanted, in one call. */
+static uint32_t load(const unsigned char *wanted)
+{
+    static uint32_t input[2 * CARDS];
+    size_t length = 0;
+    for (uint32_t card = 0; card < CARDS; card++)
+        if (wanted[card]) {
+            input[length++] = card_of(card);
+            input[length++] = card % 8;
+        }
+    return pinorange_list_bulk_load(&list, R, S, STATION, input, length);
+}
+
 int main(void)
 {
     static unsigned char all[CARDS], accepted[CARDS], again[CARDS];
@@ -60,12 +74,18 @@ int main(void)
     memcpy(first, memory.words, sizeof first);
     expect(feed(0, all, again) == refused && memcmp(first, memory.words, sizeof first) == 0, "one order, one list");
     for (uint32_t order = 1; order < 6; order++) {
-        feed(order, all, again);
+        expect(feed(order, all, again) == refused, "every order lists as many");
         others += memcmp(first, memory.words, sizeof first) != 0;
         expect(feed(order, accepted, again) == 0, "what was accepted once fits in every order");
         expect(memcmp(first, memory.words, sizeof first) == 0, "and makes the same list");
     }
     expect(others > 0, "another order makes another list");
+    expect(load(all) == PINORANGE_STASH_FULL && memcmp(first, memory.words, sizeof first) == 0,
+           "all cards in one call are refused, and the list stays");
+    memset(memory.words, 0x5a, sizeof memory.words);
+    expect(load(all) == PINORANGE_STASH_FULL && memory.words[7] == 0x5a5a5a5a, "whatever the words are");
+    expect(load(accepted) == PINORANGE_DONE && memcmp(first, memory.words, sizeof first) == 0,
+           "those that were accepted make the same list in one call");
     printf("over_full.c: %u failures; %u of %u cards refused; %u of 5 other orders make another list\n", failures,
            (unsigned)refused, (unsigned)CARDS, (unsigned)others);
     return failures != 0;

@@ -57,6 +57,12 @@ static uint32_t withdraw(uint32_t card)
     return swapped(pinorange_list_remove(copied(), card));
 }
 
+/* A whole list: there is nothing to copy, since what the other bank holds has no say. */
+static uint32_t load(const uint32_t *input, size_t input_length)
+{
+    return swapped(pinorange_list_bulk_load(&banks[!in_use], R, S, STATION, input, input_length));
+}
+
 static uint32_t look_up(uint32_t card, struct pinorange_found *found)
 {
     return pinorange_list_lookup(&banks[in_use], card, found);
@@ -88,9 +94,12 @@ static uint32_t restore(const unsigned char *bytes)
     return swapped(pinorange_list_check(to));
 }
 
-/* What follows tries it. The cards, and which of them each bank lists: tier + 1, or 0. */
+/* What follows tries it. The cards, and which of them each bank lists: tier + 1, or 0. A change is of one card, or a
+ * load of as many of the first ones. */
 enum { CARDS = 14 };
+enum kind { WITHDRAW, ADD, LOAD };
 static unsigned char tiers[2][CARDS];
+static uint32_t input[2 * CARDS];
 static unsigned failures;
 static volatile unsigned long interrupts, wrong, give_up_at;
 static volatile uint32_t left_out; /* a card that the interrupt does not look up; CARDS for none */
@@ -155,35 +164,41 @@ static void set_handlers(void)
 }
 
 /* What the bank that is not in use will list after a change: written before the swap, as its words are. */
-static void note(uint32_t i, unsigned char listed)
+static void note(uint32_t i, enum kind kind)
 {
-    memcpy(tiers[!in_use], tiers[in_use], CARDS);
-    tiers[!in_use][i] = listed;
+    if (kind == LOAD) {
+        memset(tiers[!in_use], 0, CARDS);
+        for (uint32_t card = 0; card < i; card++)
+            tiers[!in_use][card] = (unsigned char)(card % 8 + 1);
+    } else {
+        memcpy(tiers[!in_use], tiers[in_use], CARDS);
+        tiers[!in_use][i] = kind == ADD ? (unsigned char)(i % 8 + 1) : 0;
+    }
 }
 
 /* A change with an interrupt at each instruction, up to the one at which it is given up: then there is no answer. */
-static int step_through(uint32_t i, int adds, unsigned long until, uint32_t *answer)
+static int step_through(uint32_t i, enum kind kind, unsigned long until, uint32_t *answer)
 {
     interrupts = 0;
     give_up_at = until;
-    note(i, adds ? (unsigned char)(i % 8 + 1) : 0);
+    note(i, kind);
     if (sigsetjmp(reset, 1))
         return 0;
     raise(SIGUSR1);
-    *answer = adds ? add(card_of(i), i % 8) : withdraw(card_of(i));
+    *answer = kind == LOAD ? load(input, 2 * i) : kind == ADD ? add(card_of(i), i % 8) : withdraw(card_of(i));
     raise(SIGUSR2);
     return 1;
 }
 
 /* Gives a change up at some of its instructions, other ones for each card, each time with a reset behind it, until it
  * comes to its end or is given up behind the swap. */
-static unsigned change(uint32_t i, int adds)
+static unsigned change(uint32_t i, enum kind kind)
 {
     uint32_t answer = PINORANGE_DONE, before[WORDS];
     unsigned resets = 0;
     sig_atomic_t bank = in_use;
     memcpy(before, banks[bank].words, sizeof before);
-    while (in_use == bank && !step_through(i, adds, 1 + 97 * i + 1801 * resets, &answer)) {
+    while (in_use == bank && !step_through(i, kind, 1 + 97 * i + 1801 * resets, &answer)) {
         resets++;
         expect(resume() == PINORANGE_DONE, "the list after a reset");
         expect(memcmp(before, banks[bank].words, sizeof before) == 0, "a change writes no word of the bank in use");
@@ -198,16 +213,34 @@ static void expect_all(const char *what)
         expect(is_right(&banks[in_use], tiers[in_use], i), what);
 }
 
-/* Adds all cards, withdraws some of them, and adds these again. */
-static unsigned session(void)
+/* Whole lists of some cards and of all, which do not fit; one with a fault; and an empty one. */
+static unsigned loads(void)
 {
     unsigned resets = 0;
+    for (uint32_t i = 0; i < CARDS; i++) {
+        input[2 * i] = card_of(i);
+        input[2 * i + 1] = i % 8;
+    }
+    for (uint32_t i = 3; i <= 2 * R; i++)
+        resets += change(i, LOAD);
+    expect(banks[in_use].words[2] > R, "a list of some cards was laid");
+    resets += change(CARDS, LOAD);
+    expect(load(input, 3) == PINORANGE_NOT_RISING, "a list with a fault");
+    expect_all("a lookup after lists were laid");
+    return resets + change(0, LOAD);
+}
+
+/* Lays lists; then adds all cards, withdraws some of them, and adds these again. */
+static unsigned session(void)
+{
+    unsigned resets;
     left_out = CARDS;
+    resets = loads();
     for (uint32_t i = 0; i < CARDS; i++)
-        resets += change(i, 1);
+        resets += change(i, ADD);
     for (uint32_t i = 0; i < CARDS; i += 4)
         if (tiers[in_use][i])
-            resets += change(i, 0) + change(i, 1);
+            resets += change(i, WITHDRAW) + change(i, ADD);
     expect_all("a lookup after the session");
     return resets;
 }

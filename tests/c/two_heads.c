@@ -2,7 +2,8 @@
  * that was made again, while customers with such cards are filling up; the other never saw any of it. Their lists are
  * compared word by word, as a station console does. Exits with 0 when they are alike, and when a third head with
  * another set differs, a fourth with other tiers, a fifth at another station, though it has the first one's cards and
- * tiers, and a sixth with the earlier issue of a card; and when every sale is closed at the price of its opening. */
+ * tiers, and a sixth with the earlier issue of a card; when a seventh, which was sent the whole list at once, is like
+ * the first; and when every sale is closed at the price of its opening. */
 #include "pinorange.h"
 
 #include <stdio.h>
@@ -140,9 +141,31 @@ static void replace(struct head *h)
     expect("replaced", add(h, number(REMADE), tier_of(REMADE)), PINORANGE_DONE);
 }
 
+/* A head that is sent the whole list, whatever its words were; then one with two issues of a card in it, which is
+ * refused as a whole. The cards' numbers ascend. */
+static void load(struct head *h)
+{
+    uint32_t input[2 * 60];
+    memset(h, 0x5a, sizeof *h);
+    h->counters.done = h->counters.refused = 0;
+    for (uint32_t card = 1; card <= 60; card++) {
+        input[2 * card - 2] = number(card);
+        input[2 * card - 1] = tier_of(card);
+    }
+    for (uint32_t times = 0; times < 2; times++) {
+        uint32_t answer = pinorange_bulk_load(tabulation, PINORANGE_TABULATION_LENGTH, h->words, PINORANGE_WORDS(R, S),
+                                              scratch, PINORANGE_SCRATCH(R, S), &h->counters, R, S, STATION, input,
+                                              2 * 60);
+        expect("the whole list", answer, times ? PINORANGE_OTHER_ISSUE : PINORANGE_DONE);
+        input[2 * REMADE - 4] = earlier(); /* in the place of the card before it */
+    }
+    expect("done", h->counters.done, 1);
+    expect("refused", h->counters.refused, 1);
+}
+
 int main(void)
 {
-    static struct head one, two, three, four, five, six;
+    static struct head one, two, three, four, five, six, seven;
     struct pinorange_sale promotion, regular, later, replaced;
     uint32_t offset = 9, length = 9, moved = 0;
 
@@ -204,6 +227,11 @@ int main(void)
     /* two sales of card 5 are open at head two, and none at head one */
     if (memcmp(one.words, two.words, sizeof one.words) != 0) {
         printf("two heads with the same cards at the same tiers differ\n");
+        failures++;
+    }
+    load(&seven);
+    if (memcmp(one.words, seven.words, sizeof one.words) != 0) {
+        printf("a head that was sent the whole list differs\n");
         failures++;
     }
     if (memcmp(one.words, three.words, sizeof one.words) == 0) {

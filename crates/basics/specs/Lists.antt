@@ -160,6 +160,23 @@ drop-zeros (suc k) (suc s) = let e : suc s - suc k ≡ s - k = omega arith in rw
 
 -- ascending lists
 
+-- ascending, and above n: a test of one member after the other, and what it means
+abbrev pub rises : ℕ → List ℕ → Bool
+rises n [] = true
+rises n (c ∷ S) = ltb n c && rises c S
+
+pub rises-asc : (n : ℕ) (S : List ℕ) → rises n S ≡ true → Asc S × ((d : ℕ) → In d S → n < d)
+rises-asc n [] e = (none, λ d i. elim i [ ])
+rises-asc n (c ∷ S) e =
+    let p = and-true (ltb n c) (rises c S) e in
+    let l = ltb-true n c (p .0) in
+    let r = rises-asc c S (p .1) in
+    (some (r .1) (r .0), λ d i. elim i [ here q ↦ rw q l | there j ↦ omega (arith, r .1 d j) ])
+
+pub asc-rises : (n : ℕ) (S : List ℕ) → Asc S → ((d : ℕ) → In d S → n < d) → rises n S ≡ true
+asc-rises n [] asc low = refl
+asc-rises n (c ∷ S) (some h asc) low = rw (lt-ltb n c (low c (here refl))) (asc-rises c S asc h)
+
 -- the larger members of an ascending list are those that follow
 pub larger-drop : {L : List ℕ} → Asc L → (i : ℕ) → i < length L → keep (ltb (getD L i 0)) L ≡ drop (suc i) L
 larger-drop none i l = absurd (not-suc-le-zero l)

@@ -13,7 +13,7 @@ use lib.ListN.{length, getD, drop}
 use lib.Seq.{drop-cons, drop-length}
 use Rattle.basics.specs.Tests.{test, and-true, or-false}
 use Rattle.basics.specs.Sets.{any, any-false, false-any, Asc, none, some}
-use Rattle.basics.specs.Lists.{getD-in}
+use Rattle.basics.specs.Lists.{getD-in, rises, rises-asc, asc-rises}
 use Rattle.refusals.specs.Refusal.{None, and}
 use Rattle.refusals.specs.Refusal as Refusal
 use Rattle.hashing.specs.Hash.{blank}
@@ -99,42 +99,24 @@ tier-given (c ∷ t ∷ ws) (some h asc) (suc i) l =
     let d = h (getD (input-keys ws) i 0) (getD-in (input-keys ws) i m) in
     rw (ne-eqb (getD (input-keys ws) i 0) c (λ q. omega arith)) (tier-given ws asc i (omega arith))
 
--- "strictly rising": as a test of one key after the other, `last` being the key before
-unfoldable pub rising-from : ℕ → List ℕ → Bool
-rising-from last [] = true
-rising-from last (c ∷ S) = ltb last c && rising-from c S
-
-pub rising-next : (c : ℕ) (S : List ℕ) → rising (c ∷ S) ≡ rising-from c S
-unfolding rising rising-from
+-- "strictly rising": as a test of one key after the other,
+pub rising-next : (c : ℕ) (S : List ℕ) → rising (c ∷ S) ≡ rises c S
+unfolding rising
 rising-next c [] = refl
 rising-next c (d ∷ S) = rw (rising-next d S)
-
-from-asc : (last : ℕ) (S : List ℕ) → rising-from last S ≡ true → Asc S × ((d : ℕ) → In d S → last < d)
-unfolding rising-from
-from-asc last [] e = (none, λ d i. elim i [ ])
-from-asc last (c ∷ S) e =
-    let p = and-true (ltb last c) (rising-from c S) e in
-    let l = ltb-true last c (p .0) in
-    let r = from-asc c S (p .1) in
-    (some (r .1) (r .0), λ d i. elim i [ here q ↦ rw q l | there j ↦ omega (arith, r .1 d j) ])
-
-asc-from : (last : ℕ) (S : List ℕ) → Asc S → ((d : ℕ) → In d S → last < d) → rising-from last S ≡ true
-unfolding rising-from
-asc-from last [] asc low = refl
-asc-from last (c ∷ S) (some h asc) low = rw (lt-ltb last c (low c (here refl))) (asc-from c S asc h)
 
 -- and it means that the keys ascend, equal neighbours excluded
 pub rising-iff : (S : List ℕ) → (rising S ≡ true) ↔ Asc S
 unfolding rising
 rising-iff [] = (λ e. none, λ a. refl)
 rising-iff (c ∷ S) = (
-  λ e. let r = from-asc c S (sym (rising-next c S) ∙ e) in some (r .1) (r .0),
-  λ a. elim a [ some h asc ↦ rising-next c S ∙ asc-from c S asc h ],
+  λ e. let r = rises-asc c S (sym (rising-next c S) ∙ e) in some (r .1) (r .0),
+  λ a. elim a [ some h asc ↦ rising-next c S ∙ asc-rises c S asc h ],
 )
 
 -- keys of which none is blank rise from 0
-pub rising-start : (K : List ℕ) → any blank K ≡ false → rising K ≡ rising-from 0 K
-unfolding rising rising-from
+pub rising-start : (K : List ℕ) → any blank K ≡ false → rising K ≡ rises 0 K
+unfolding rising
 rising-start [] b = refl
 rising-start (c ∷ K) b =
     let l : 0 < c = omega (arith, not-blank-iff c .0 (any-false blank (c ∷ K) b c (here refl))) in
@@ -208,10 +190,8 @@ module _ (p : ℕ → Bool) (K : List ℕ) (i : ℕ) where
 
 module _ (last : ℕ) (K : List ℕ) (i : ℕ) where
   pub from-next : i < length K
-      → rising-from last (drop i K) ≡ (ltb last (getD K i 0) && rising-from (getD K i 0) (drop (i + 1) K))
-  unfolding rising-from
+      → rises last (drop i K) ≡ (ltb last (getD K i 0) && rises (getD K i 0) (drop (i + 1) K))
   from-next l = rw (add-one i, drop-cons K i 0 l)
 
-  pub from-end : i ≡ length K → rising-from last (drop i K) ≡ true
-  unfolding rising-from
+  pub from-end : i ≡ length K → rises last (drop i K) ≡ true
   from-end e = rw (e, drop-length K)

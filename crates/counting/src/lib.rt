@@ -93,6 +93,6 @@ pub fn bulk_load(
         (now (scratch .entry)) ⌝ }
     ensures moved { λ c. ⌜ c .counters ≡ counted counters (c .answer) ⌝ }
 {
-    let answer = bulk_load::bulk_load(tabulation, words, scratch, r, s, station, input);
-    with_counts(answer, counters)
+    let loaded = bulk_load::bulk_load(tabulation, words, scratch, r, s, station, input);
+    with_counts(loaded, counters)
 }

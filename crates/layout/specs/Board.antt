@@ -7,13 +7,13 @@ use mathlib.Core.Path.{_≡_, refl, sym, _∙_, ap}
 use mathlib.Core.Bool.{Bool, true, false, not, cond, _&&_}
 use mathlib.Core.List.{List, [], _∷_, List·Memᴰ as In, List·Memᴰ·head as here, List·Memᴰ·tail as there}
 use native.Mathlib.Omega.{arith}
-use borrow.Author.Tests.{eqb-true, ltb-true, leb-true, not-true, lt-leb, le-leb, lt-ltb, le-ltb}
+use borrow.Author.Tests.{eqb-true, leb-true, not-true, lt-leb, le-leb, lt-ltb, le-ltb}
 use lib.Dec.{T, eqb, ltb, leb}
 use lib.ListN.{length, getD}
 use Rattle.basics.specs.Tests.{le?, and-true, T-true}
 use mathlib.Core.Logic.{inl, inr}
-use Rattle.basics.specs.Sets.{without, Asc, none, some}
-use Rattle.basics.specs.Lists.{same, same-true}
+use Rattle.basics.specs.Sets.{without}
+use Rattle.basics.specs.Lists.{same, same-true, rises, rises-asc}
 use Rattle.cuckoo.specs.Graph.{label, joined, component, onCycle, cyclic, spare, settle, seated, stash, root, sits, occupant, next, slot-key, slot-next}
 use Rattle.cuckoo.specs.Agree.{agree-none, agree-some}
 use Rattle.hashing.specs.Hash.{Family, first-part, entry, hash, blank, tabulation-length}
@@ -155,11 +155,6 @@ abbrev hashed : Family → List ℕ → Bool
 hashed F [] = true
 hashed F (c ∷ S) = eqb (slot-0 F c) (plain-0 (F .slots) c) && eqb (slot-1 F c) (plain-1 (F .slots) c) && hashed F S
 
--- ascending, and above n
-abbrev rises : ℕ → List ℕ → Bool
-rises n [] = true
-rises n (c ∷ S) = ltb n c && rises c S
-
 -- the tiers are 0 to 7
 abbrev small : List Entry → Bool
 small [] = true
@@ -234,14 +229,6 @@ rows-follow = tt
 
 -- what the test means
 
-rises-valid : (n : ℕ) (S : List ℕ) → rises n S ≡ true → Asc S × ((c : ℕ) → In c S → n < c)
-rises-valid n [] e = (none, λ c i. elim i [ ])
-rises-valid n (d ∷ S) e =
-    let p = and-true (ltb n d) (rises d S) e in
-    let l = ltb-true n d (p .0) in
-    let r = rises-valid d S (p .1) in
-    (some (r .1) (r .0), λ c i. elim i [ here q ↦ omega arith | there k ↦ omega (arith, r .1 c k) ])
-
 hashed-known : (r s : ℕ) (S : List ℕ) → hashed (family (board r s)) S ≡ true → Known (board r s) (plain-0 r) (plain-1 r) S
 hashed-known r s [] e = agree-none
 hashed-known r s (c ∷ S) e =
@@ -265,7 +252,7 @@ ready-is r s L e =
     let t = and-true (small L) (one-issue S && (rises 9 S && hashed (family (board r s)) S)) e in
     let o = and-true (one-issue S) (rises 9 S && hashed (family (board r s)) S) (t .1) in
     let p = and-true (rises 9 S) (hashed (family (board r s)) S) (o .1) in
-    let v = rises-valid 9 S (p .0) in
+    let v = rises-asc 9 S (p .0) in
     record {
       valid = record {
         keys = record { asc = v .0; none-blank = λ c i. le-ltb c 10 (v .1 c i) };

@@ -1,16 +1,17 @@
 //! One call of the library beside the same call of the program by another hand: answer, every word, scratch,
-//! tabulation, steps, counters and out-parameters, on memory with guards around every lent slice and every record of a
-//! sale. The crate's safe function is called beside them on copies, and must give the same under its own names. The
-//! answers are counted, call by call.
+//! tabulation, input, steps, counters and out-parameters, on memory with guards around every lent slice and every
+//! record of a sale. The crate's safe function is called beside them on copies, and must give the same under its own
+//! names. The answers are counted, call by call.
 
 use pinorange::Refusal;
 use reference::answer::{number, Found};
 use reference::counters::Counters as Meter;
 use reference::fast::Fast;
 use reference::hash::{MAX_R, MAX_STATION};
-use reference::key::first_part;
+use reference::key::{first_part, is_blank};
 
 use crate::guarded::Guarded;
+use crate::inputs::{Inputs, Lent};
 use crate::issues::Issues;
 use crate::safe::{self, named};
 use crate::{are_sizes, Change, Counters, Sale, HEADER_LENGTH};
@@ -19,6 +20,7 @@ use crate::{are_sizes, Change, Counters, Sale, HEADER_LENGTH};
 #[derive(Clone, Copy, Debug, PartialEq, Eq)]
 pub enum Kind {
     Init,
+    BulkLoad,
     Insert,
     Remove,
     Check,
@@ -46,6 +48,7 @@ impl Kind {
 /// The answers that each call can give, refusals in the order in which they are tried. Specification, "What a call gives back".
 pub const ANSWERS: &[(Kind, &[u32])] = &[
     (Kind::Init, &[0, 2]),
+    (Kind::BulkLoad, &[0, 1, 2, 3, 5, 9, 14, 13, 8]),
     (Kind::Insert, &[0, 1, 2, 3, 4, 5, 9, 13, 10, 6, 8]),
     (Kind::Remove, &[0, 1, 2, 3, 4, 5, 7]),
     (Kind::Check, &[0, 1, 2, 3, 4]),
@@ -58,7 +61,7 @@ pub const ANSWERS: &[(Kind, &[u32])] = &[
 ];
 
 /// The largest number that is an answer.
-const LARGEST: usize = 13;
+const LARGEST: usize = 14;
 
 /// The answer that a station above 255 gets, among others.
 const WRONG_SHAPE: u32 = 2;
@@ -96,6 +99,8 @@ pub struct Beside {
     closed: u64,
     /// What the issues of the keys had to do with it.
     issues: Issues,
+    /// Why bulk loads answered as they did.
+    inputs: Inputs,
 }
 
 impl Beside {
@@ -145,9 +150,9 @@ impl Beside {
 
     /// Prints how often each call gave each answer. Fails where one of these calls never gave an answer that it can
     /// give, or never a 2 for the station alone; where an issue never had a part in an answer that it can have a part
-    /// in; of hashes also where no sum of lowest byte and station wrapped, or each did, of lookups where all found
-    /// their key, or none did, of trails where none was empty, or none longer than one key, and of openings where no
-    /// step was below 0, none 0, or none above.
+    /// in; of bulk loads also where some two causes for a refusal never came together, of hashes where no sum of lowest
+    /// byte and station wrapped, or each did, of lookups where all found their key, or none did, of trails where none
+    /// was empty, or none longer than one key, and of openings where no step was below 0, none 0, or none above.
     pub fn report(&self, kinds: &[Kind]) {
         for (kind, answers) in ANSWERS.iter().filter(|(kind, _)| kinds.contains(kind)) {
             let seen = &self.seen[*kind as usize];
@@ -172,6 +177,7 @@ impl Beside {
     /// What a call that is not refused can tell: of some kinds all that must have come up.
     fn report_done(&self, kind: Kind) {
         match kind {
+            Kind::BulkLoad => self.inputs.report(),
             Kind::Lookup => {
                 let [no, yes] = self.found;
                 println!("{kind:?}: {yes} listed, {no} not listed");
@@ -218,6 +224,66 @@ impl Beside {
         words.copy_from_slice(&expected);
         self.count_station(Kind::Init, are_sizes(r, s, words.len()), station, got);
         self.count(Kind::Init, got)
+    }
+
+    /// A bulk load of r slots, s places and a station.
+    pub fn bulk_load(
+        &mut self,
+        tabulation: &[u16],
+        words: &mut [u32],
+        scratch: &[u32],
+        counters: &mut Counters,
+        laid: [u32; 3],
+        input: &[u32],
+    ) -> u32 {
+        let [r, s, station] = laid;
+        let mut expected = words.to_vec();
+        let mut meter = meter_of(counters);
+        let mut theirs = scratch.to_vec();
+        #[rustfmt::skip]
+        let answer = reference::bulk::bulk_load(
+            &Fast, tabulation, &mut expected, &mut theirs, &mut meter, r, s, station, input,
+        );
+        let safe = safe::bulk_load(tabulation, words, scratch, counters, laid, input);
+        let mut book = Guarded::new(tabulation, GUARD_ENTRY);
+        let mut lent = Guarded::new(words, GUARD);
+        let mut sheet = Guarded::new(scratch, GUARD);
+        let mut list = Guarded::new(input, GUARD);
+        let got =
+            crate::bulk_load(book.lent(), lent.lent(), sheet.lent(), counters, laid, list.lent());
+        let why = || format!("a bulk load of {input:?} as {laid:?} into {} words", words.len());
+        assert_eq!(got, number(answer), "{}", why());
+        assert_eq!(lent.content(), &expected[..], "{}", why());
+        assert!(sheet.content().iter().all(|w| *w == 0), "the scratch is not zero");
+        assert_eq!(book.content(), tabulation, "the tabulation changed");
+        assert_eq!(list.content(), input, "the input changed");
+        assert_eq!(meter_of(counters), meter, "{}", why());
+        let told = (answer.map_err(named), expected.clone(), *counters);
+        assert_eq!(safe, told, "with the safe call: {}", why());
+        words.copy_from_slice(&expected);
+        self.count_loaded(tabulation.len(), words, scratch.len(), laid, input, got)
+    }
+
+    /// Counts a bulk load, by the words that it left.
+    fn count_loaded(
+        &mut self,
+        tabulation: usize,
+        words: &[u32],
+        scratch: usize,
+        laid: [u32; 3],
+        input: &[u32],
+        answer: u32,
+    ) -> u32 {
+        let lent = Lent { tabulation, words: words.len(), scratch, laid, input };
+        let stashed = if answer == 0 { words[3] } else { 0 };
+        self.inputs.answer(&lent, answer, stashed);
+        let keys = input.iter().copied().step_by(2);
+        for key in keys.filter(|key| answer == 5 && is_blank(*key)) {
+            self.issues.refusal(Kind::BulkLoad, &[], key, answer);
+        }
+        let [r, s, station] = laid;
+        self.count_station(Kind::BulkLoad, are_sizes(r, s, words.len()), station, answer);
+        self.count(Kind::BulkLoad, answer)
     }
 
     /// An insert or a remove.

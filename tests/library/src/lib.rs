@@ -3,6 +3,7 @@
 
 pub mod beside;
 pub mod guarded;
+mod inputs;
 mod issues;
 pub mod room;
 mod safe;
@@ -19,6 +20,20 @@ pub use pinorange::{scratch_length, words_length, Counters, Sale, HEADER_LENGTH}
 /// Lays fresh words, at a station.
 pub fn init(words: &mut [u32], r: u32, s: u32, station: u32, counters: &mut Counters) -> u32 {
     unsafe { raw::pinorange_init(words.as_mut_ptr(), words.len(), r, s, station, counters) }
+}
+
+/// Lays a whole list of r slots, s places and a station.
+#[rustfmt::skip]
+pub fn bulk_load(
+    tabulation: &[u16], words: &mut [u32], scratch: &mut [u32], counters: &mut Counters, laid: [u32; 3], input: &[u32],
+) -> u32 {
+    let [r, s, station] = laid;
+    unsafe {
+        raw::pinorange_bulk_load(
+            tabulation.as_ptr(), tabulation.len(), words.as_mut_ptr(), words.len(),
+            scratch.as_mut_ptr(), scratch.len(), counters, r, s, station, input.as_ptr(), input.len(),
+        )
+    }
 }
 
 /// Puts a key in, with its tier.

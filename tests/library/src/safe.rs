@@ -17,6 +17,7 @@ pub fn named(refusal: Theirs) -> Refusal {
         Theirs::NotCanonical => Refusal::NotCanonical,
         Theirs::BlankKey => Refusal::BlankKey,
         Theirs::WrongTier => Refusal::WrongTier,
+        Theirs::NotRising => Refusal::NotRising,
         Theirs::OtherIssue => Refusal::OtherIssue,
         Theirs::OtherTier => Refusal::OtherTier,
         Theirs::Listed => Refusal::KeyPresent,
@@ -33,6 +34,29 @@ pub type Changed = (Result<(), Refusal>, Vec<u32>, Counters);
 pub fn init(words: &[u32], r: u32, s: u32, station: u32, counters: &Counters) -> Changed {
     let (mut lent, mut counters) = (Guarded::new(words, GUARD), *counters);
     let answer = pinorange::init(lent.lent(), r, s, station, &mut counters);
+    (answer, lent.content().to_vec(), counters)
+}
+
+pub fn bulk_load(
+    tabulation: &[u16],
+    words: &[u32],
+    scratch: &[u32],
+    counters: &Counters,
+    [r, s, station]: [u32; 3],
+    input: &[u32],
+) -> Changed {
+    let mut counters = *counters;
+    let mut book = Guarded::new(tabulation, GUARD_ENTRY);
+    let mut lent = Guarded::new(words, GUARD);
+    let mut sheet = Guarded::new(scratch, GUARD);
+    let mut list = Guarded::new(input, GUARD);
+    #[rustfmt::skip]
+    let answer = pinorange::bulk_load(
+        book.lent(), lent.lent(), sheet.lent(), &mut counters, r, s, station, list.lent(),
+    );
+    assert_eq!(book.content(), tabulation, "the tabulation changed");
+    assert_eq!(list.content(), input, "the input changed");
+    assert_zero(&sheet);
     (answer, lent.content().to_vec(), counters)
 }
 

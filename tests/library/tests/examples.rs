@@ -50,8 +50,16 @@ fn sizes_at_their_edges() {
         } else {
             assert!(words.iter().all(|w| *w == 9), "a refused init changed words");
         }
+        // A bulk load takes the same sizes, whatever the words are.
+        let (laid, scratch) = ([r, s, station], vec![4; scratch_length(1_024, 64)]);
+        let book = test_tabulation();
+        for (input, count) in [(&[][..], 0), (&[10, 1], 1)] {
+            let got = beside.bulk_load(&book, &mut words, &scratch, &mut counters, laid, input);
+            assert_eq!(got, answer, "{laid:?} of {length} words");
+            assert!(answer != 0 || words[..5] == [r, s, count, 0, station], "{words:?}");
+        }
     }
-    assert_eq!((counters.done, counters.refused), (6, 20));
+    assert_eq!((counters.done, counters.refused), (3 * 6, 3 * 20));
     beside.report(&[Kind::Init]);
 }
 
@@ -117,6 +125,8 @@ fn the_rows_of_the_test_board() {
             let left: Vec<Member> =
                 members.iter().copied().filter(|(key, _)| Some(*key) != removed).collect();
             let expected = reference::image::image(&tabulation, 4, s, 0, &left);
+            let whole = loaded(4, s, &reference::bulk::input(&left));
+            assert_eq!((0, &words), (whole.0, &whole.1), "in one call: {left:?}");
             assert_eq!(Some(words), expected, "{members:?}");
         }
     }
@@ -125,6 +135,92 @@ fn the_rows_of_the_test_board() {
     for (key, answer) in [(10, 0), (650, 0), (1290, 0), (1930, 8)] {
         assert_eq!(change(Insert(0), &tabulation, &mut words, key), answer);
     }
+    assert_eq!(loaded(4, 1, &[10, 0, 650, 0, 1290, 0, 1930, 0]), (8, vec![9; words_length(4, 1)]));
+}
+
+/// A bulk load on the test board at station 0, over words of nines, which a refused one leaves.
+fn loaded(r: u32, s: u32, input: &[u32]) -> (u32, Vec<u32>) {
+    let (mut words, scratch) = (vec![9; words_length(r, s)], vec![3; scratch_length(r, s)]);
+    let (mut beside, mut counters) = (Beside::new(), Counters::default());
+    let book = test_tabulation();
+    let answer = beside.bulk_load(&book, &mut words, &scratch, &mut counters, [r, s, 0], input);
+    assert_eq!((counters.done, counters.refused), (u32::from(answer == 0), u32::from(answer != 0)));
+    (answer, words)
+}
+
+/// Whole lists in one call, word by word: K5 with tiers, K12, and that of the console's listing.
+#[test]
+fn whole_lists_by_hand() {
+    let k5 = [4, 1, 3, 1, 0, 0, 0, 0, 10, 650, 3];
+    let k5 = [&k5[..], &[0; 6], &[650, 10, 0], &[0; 9], &[1290, 7]].concat();
+    assert_eq!(loaded(4, 1, &[10, 3, 650, 0, 1290, 7]), (0, k5));
+    let k12 = vec![1, 0, 2, 0, 0, 200, u32::MAX, 6, u32::MAX, 200, 2];
+    assert_eq!(loaded(1, 0, &[200, 6, u32::MAX, 2]), (0, k12));
+    let listing = vec![2, 1, 3, 1, 0, 0, 0, 0, 10, 330, 0, 330, 10, 0, 0, 0, 0, 650, 0];
+    assert_eq!(loaded(2, 1, &[10, 0, 330, 0, 650, 0]), (0, listing));
+    assert_eq!(loaded(2, 1, &[10, 0, 330, 0, 650, 0, 970, 0]).0, 8);
+    assert_eq!(loaded(2, 1, &[]), (0, fresh(2, 1, 0)));
+    // The small inputs of the specification.
+    for (answer, inputs) in [
+        (0, &[&[][..], &[10, 7], &[10, 0, 20, 0]][..]),
+        (5, &[&[9], &[10, 8, 9], &[20, 8, 0, 0]]),
+        (9, &[&[10, 8, 20], &[20, 0, 10, 8]]),
+        (14, &[&[10], &[10, 0, 20], &[10, 0, 10, 0], &[20, 0, 10, 0], &[11, 0, 10, 0]]),
+        (13, &[&[10, 3, 19, 3], &[10, 0, 20, 1, 29, 2]]),
+    ] {
+        for input in inputs {
+            assert_eq!(loaded(4, 1, input).0, answer, "{input:?}");
+        }
+    }
+}
+
+/// The refusals of a bulk load, each with causes for those that are tried behind it.
+#[test]
+fn the_refusals_of_a_bulk_load_in_their_order() {
+    let mut beside = Beside::new();
+    let mut counters = Counters::default();
+    let tabulation = test_tabulation();
+    // Keys of one pair of slots, of which three have room: the last two are issues of one card.
+    let issues = &[10, 0, 650, 0, 1290, 0, 1930, 0, 1931, 0];
+    let unsorted = &[650, 0, 10, 0, 1290, 0, 1930, 0, 1931, 0];
+    let equal = &[10, 0, 10, 0, 1290, 0, 1930, 0, 1931, 0];
+    let tier = &[650, 0, 10, 8, 1290, 0, 1930, 0, 1931, 0, 5000];
+    let blank = &[650, 0, 10, 8, 9, 0, 1930, 0, 1931, 0, 5000];
+    let lone = &[650, 0, 10, 8, 1290, 0, 1930, 0, 1931, 0, 0];
+    for (book, [r, s, station], length, scratch, input, answer) in [
+        (&tabulation[1..], [4, 1, 0], 30, 55, &blank[..], 1),
+        (&tabulation[1..], [0, 65, 256], 31, 56, &[], 1),
+        (&tabulation, [4, 1, 0], 30, 55, blank, 2),
+        (&tabulation, [4, 1, 256], 31, 55, lone, 2),
+        (&tabulation, [0, 1, 0], 31, 55, tier, 2),
+        (&tabulation, [4, 65, 0], 31, 55, unsorted, 2),
+        (&tabulation, [1_025, 1, 0], 31, 55, &[], 2),
+        (&tabulation, [4, 1, 0], 31, 55, blank, 3),
+        (&tabulation, [4, 1, 0], 31, 0, &[], 3),
+        (&tabulation, [4, 1, 0], 31, 56, blank, 5),
+        (&tabulation, [4, 1, 0], 31, 56, lone, 5),
+        (&tabulation, [4, 1, 0], 31, 56, &[0], 5),
+        (&tabulation, [4, 1, 0], 31, 56, tier, 9),
+        (&tabulation, [4, 1, 0], 31, 56, &[10, 8, 11], 9),
+        (&tabulation, [4, 1, 0], 31, 56, unsorted, 14),
+        (&tabulation, [4, 1, 0], 31, 56, equal, 14),
+        (&tabulation, [4, 1, 0], 31, 56, &issues[..9], 14),
+        (&tabulation, [4, 1, 0], 31, 56, &[10], 14),
+        (&tabulation, [4, 1, 0], 31, 56, issues, 13),
+        (&tabulation, [4, 1, 0], 31, 56, &issues[4..], 13),
+        (&tabulation, [4, 1, 0], 31, 56, &issues[..8], 8),
+        (&tabulation, [4, 1, 0], 31, 56, &issues[..6], 0),
+        (&tabulation, [4, 2, 0], 33, 64, &issues[..8], 0),
+        (&tabulation, [4, 1, 0], 31, 57, &[], 0),
+    ] {
+        let mut words = vec![7; length];
+        let laid = [r, s, station];
+        let sheet = vec![3; scratch];
+        let got = beside.bulk_load(book, &mut words, &sheet, &mut counters, laid, input);
+        assert_eq!(got, answer, "{input:?} as {laid:?}");
+        assert!(got == 0 || words == vec![7; length], "a refused load changed words");
+    }
+    assert_eq!((counters.done, counters.refused), (3, 21));
 }
 
 /// K9, K10, K11, a cycle with a key that hangs from it, and a tree, slot by slot as the specification writes them; and the words of the console's listing.
@@ -880,6 +976,13 @@ fn huge_headings_and_wrong_lengths() {
                     }
                 }
                 beside.stash(&words);
+                let (laid, mut target) = ([r, s, station], words.clone());
+                let mut counters = Counters { done: u32::MAX, refused: u32::MAX };
+                for input in [&[][..], &[40, 7, 50, 0]] {
+                    let target = &mut target[..];
+                    beside.bulk_load(&tabulation, target, &[1; 40], &mut counters, laid, input);
+                }
+                assert_eq!([counters.done, counters.refused], [u32::MAX; 2], "a count stays");
                 beside.check(&tabulation, &words, &[1; 40]);
                 beside.trail(&tabulation, &words, &[1; 40], 40, &[2; 3]);
                 for (key, start) in [(0, 0), (9, 0), (40, 0), (50, 0), (51, 0), (70, 1)] {

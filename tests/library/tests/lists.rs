@@ -18,8 +18,9 @@ const SHORT: usize = 11;
 const OLD: u32 = 0xDEAD_BEEF;
 
 /// The answers that each call of a list can give, in safe Rust.
-const ANSWERS: [(&str, &[u32]); 8] = [
+const ANSWERS: [(&str, &[u32]); 9] = [
     ("init", &[0, 2]),
+    ("bulk_load", &[0, 2, 3, 5, 9, 14, 13, 8]),
     ("open", &[0, 2, 3, 4]),
     ("insert", &[0, 3, 5, 9, 13, 10, 6, 8]),
     ("remove", &[0, 3, 5, 7]),
@@ -159,7 +160,30 @@ impl Beside<'_> {
     }
 }
 
-/// Lays a list and words beside it, at times with sizes that are refused; then calls on both.
+/// Key and tier by turns: mostly ascending, at times with a fault that a bulk load is refused for.
+fn random_input(rng: &mut Rng, slots: u32) -> Vec<u32> {
+    let mut keys: Vec<u32> =
+        (0..rng.below(2 * slots as usize + 4)).map(|_| random_key(rng, slots)).collect();
+    if !rng.one_in(6) {
+        keys.sort_unstable();
+        keys.dedup();
+    }
+    if !rng.one_in(6) {
+        keys.retain(|key| *key >= 10);
+    }
+    if !rng.one_in(4) {
+        keys.dedup_by_key(|key| *key / 10);
+    }
+    let highest = if rng.one_in(6) { 9 } else { 8 };
+    let mut input: Vec<u32> =
+        keys.into_iter().flat_map(|key| [key, rng.below(highest) as u32]).collect();
+    if rng.one_in(9) {
+        input.pop();
+    }
+    input
+}
+
+/// Lays a list and words beside it, empty or by a bulk load, at times with sizes that are refused; then calls on both.
 fn laid(rng: &mut Rng, tabulation: &[u16; TABULATION_LENGTH], seen: &mut Seen) -> Option<Vec<u32>> {
     let (r, s) = (rng.below(MAX_R + 1) as u32, rng.below(MAX_S + 1) as u32);
     let station = if rng.one_in(9) { 256 } else { random_station(rng) };
@@ -169,11 +193,21 @@ fn laid(rng: &mut Rng, tabulation: &[u16; TABULATION_LENGTH], seen: &mut Seen) -
     let mut counters = Counters { done: start, refused: start };
 
     let (mut theirs, mut plain_counters) = (words.clone(), counters);
-    let answer = library::init(&mut theirs, r, s, station, &mut plain_counters);
-    let laid = List::init(tabulation, &mut words, r, s, station, &mut counters);
-    seen.compare("init", laid.as_ref().map(|_| ()).map_err(|refusal| *refusal), answer, ());
+    let (call, answer, laid) = if rng.one_in(2) {
+        let answer = library::init(&mut theirs, r, s, station, &mut plain_counters);
+        ("init", answer, List::init(tabulation, &mut words, r, s, station, &mut counters))
+    } else {
+        let (mut scratch, mut plain) = scratch(rng);
+        let (input, sizes) = (random_input(rng, r), [r, s, station]);
+        #[rustfmt::skip]
+        let answer = library::bulk_load(tabulation, &mut theirs, &mut plain, &mut plain_counters, sizes, &input);
+        #[rustfmt::skip]
+        let list = List::bulk_load(tabulation, &mut words, r, s, station, &mut scratch, &mut counters, &input);
+        ("bulk_load", answer, list)
+    };
+    seen.compare(call, laid.as_ref().map(|_| ()).map_err(|refusal| *refusal), answer, ());
     let Ok(list) = laid else {
-        assert_eq!((words, counters), (theirs, plain_counters), "a refused init");
+        assert_eq!((words, counters), (theirs, plain_counters), "a refused {call}");
         return None;
     };
     let mut beside = Beside { list, tabulation, words: theirs, counters: plain_counters };

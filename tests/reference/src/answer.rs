@@ -1,14 +1,14 @@
 //! What a call gives back: accepted, one of the refusals of document 01's table (with those that
-//! requests One, Two, Four and Six add to it), or what a lookup found.
+//! requests One, Two, Four, Six and Seven add to it), or what a lookup found.
 //! Every other module names refusals by this enum; the paper's numbers stand only here.
 
 /// Why a call was refused.
 ///
 /// Paper: the table under "What a call gives back". "They are tried in this order, and none is
 /// given otherwise." Request One puts 9 and 10 between 5 and 6, request Two 11 after 7, request
-/// Four 12 after that, request Six 13 just before 10; the variants stand in the order of this
-/// table, in which they are tried. Only opening a sale tries 4 after 7: "Opening checks as look-up
-/// does, then 7, then 4 if the tier found is above 7."
+/// Four 12 after that, request Six 13 just before 10, request Seven 14 after 9 and before 13; the
+/// variants stand in the order of this table, in which they are tried. Only opening a sale tries 4
+/// after 7: "Opening checks as look-up does, then 7, then 4 if the tier found is above 7."
 #[derive(Clone, Copy, Debug, PartialEq, Eq, PartialOrd, Ord, Hash)]
 pub enum Refusal {
     /// Paper: 1, "wrong book": "book not 2,048 long"; request Five: "The book becomes 2,560
@@ -28,7 +28,11 @@ pub enum Refusal {
     BlankKey = 5,
     /// Request One: "9 (tier above 7) after 5".
     WrongTier = 9,
-    /// Request Six: "13 (another issue is listed) just before 10, never together with 10 or 6".
+    /// Request Seven: "14 (odd number of words, or cards not strictly rising) after 9", in the
+    /// input of a bulk load.
+    NotRising = 14,
+    /// Request Six: "13 (another issue is listed) just before 10, never together with 10 or 6". A
+    /// bulk load gives it for two issues in its input, request Seven: "13 (between input cards)".
     OtherIssue = 13,
     /// Request One: "10 (add of a listed card with another tier) just before 6".
     OtherTier = 10,
@@ -43,7 +47,8 @@ pub enum Refusal {
     /// Request Four: "12 (base or a step outside its range, or this card's price below 1) after
     /// that".
     WrongPrice = 12,
-    /// Paper: 8, "full drawer": "the new set's canonical drawer would have more than s cards".
+    /// Paper: 8, "full drawer": "the new set's canonical drawer would have more than s cards". The
+    /// new set of a bulk load is that of its input.
     FullStash = 8,
 }
 
@@ -66,7 +71,8 @@ pub enum Found {
     Absent,
 }
 
-/// What init, insert, remove and check give back; `Ok` is the paper's 0, "done": "accepted".
+/// What init, insert, remove, check and a bulk load give back; `Ok` is the paper's 0, "done":
+/// "accepted".
 pub type Answer = Result<(), Refusal>;
 
 /// The paper's number of an answer: 0 when accepted, else the number of the refusal.

@@ -1,7 +1,8 @@
 //! The calls on a list: init, insert, remove, lookup, check, the stash view and the trail; request
-//! Four's opening of a sale stands in [`crate::sale`]. All are total: tabulation, words, scratch
-//! and trail sheet may have any length and content. Only init is given a station; the others use
-//! the words' own. The engine given says how images and trails are worked out.
+//! Four's opening of a sale stands in [`crate::sale`] and request Seven's bulk load in
+//! [`crate::bulk`]. All are total: tabulation, words, scratch, trail sheet and input may have any
+//! length and content. Only init and a bulk load are given a station; the others use the words'
+//! own. The engine given says how images and trails are worked out.
 
 use crate::answer::{Answer, Found, Refusal};
 use crate::counters::Counters;
@@ -261,8 +262,9 @@ fn trail_of(
     Ok(trail)
 }
 
-/// Ends an insert or remove: new words if accepted, zeros on the scratch, one count more.
-fn finish(
+/// Ends an insert, remove or bulk load: new words if accepted, zeros on the scratch, one count
+/// more.
+pub(crate) fn finish(
     new_words: Result<Vec<u32>, Refusal>,
     words: &mut [u32],
     scratch: &mut [u32],

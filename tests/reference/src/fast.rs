@@ -1,6 +1,6 @@
-//! The canonical image and trails another way, for lists of any allowed size: a spanning forest
-//! instead of listed cycles, and peeling instead of trying. The image is near n log n; the tests
-//! hold it and the trails against the slow definitions.
+//! The canonical image, bulk loads and trails another way, for lists of any allowed size: a
+//! spanning forest instead of listed cycles, and peeling instead of trying. The image is near n log
+//! n; the tests hold all three against the slow definitions.
 
 use crate::answer::{Found, Refusal};
 use crate::hash::{HALF_LEN, STRETCH_LEN, TABULATION_LEN};
@@ -9,7 +9,7 @@ use crate::key::{first_part, is_blank};
 use crate::layout::{Shape, HEADER_LEN, PLACE_LEN, SLOT_LEN};
 use crate::set::{Member, MAX_TIER};
 
-/// The engine that works by [`image`] and [`trail`] of this module.
+/// The engine that works by [`image`], [`bulk_image`] and [`trail`] of this module.
 #[derive(Clone, Copy, Debug, Default)]
 pub struct Fast;
 
@@ -23,6 +23,17 @@ impl Engine for Fast {
         members: &[Member],
     ) -> Option<Vec<u32>> {
         image(tabulation, r, s, station, members)
+    }
+
+    fn bulk_image(
+        &self,
+        tabulation: &[u16],
+        r: u32,
+        s: u32,
+        station: u32,
+        members: &[Member],
+    ) -> Option<Vec<u32>> {
+        bulk_image(tabulation, r, s, station, members)
     }
 
     fn trail(
@@ -40,8 +51,29 @@ impl Engine for Fast {
 
 /// The words of the canonical image of a set; the same as [`crate::image::image`].
 ///
-/// Paper: "The canonical image".
+/// Paper: "The canonical image". That is what a bulk load of the members leaves once they are
+/// sorted; request Seven: "The image equals, word by word, that of adding the same cards with their
+/// tiers to a list laid alike".
 pub fn image(
+    tabulation: &[u16],
+    r: u32,
+    s: u32,
+    station: u32,
+    members: &[Member],
+) -> Option<Vec<u32>> {
+    let mut members = members.to_vec();
+    members.sort_unstable();
+    members.dedup();
+    bulk_image(tabulation, r, s, station, &members)
+}
+
+/// The words that a bulk load leaves, with members that are ascending already; the same as
+/// [`crate::bulk::image`].
+///
+/// Request Seven: "Going up, a card that joins two separate groups is seated. Of the cards that
+/// close a loop, the smallest in each finished group is seated and the others go to the drawer.
+/// Seats follow document 01."
+pub fn bulk_image(
     tabulation: &[u16],
     r: u32,
     s: u32,
@@ -50,14 +82,11 @@ pub fn image(
 ) -> Option<Vec<u32>> {
     let shape = Shape::new(r, s, station).ok()?;
     let tabulation: &[u16; TABULATION_LEN] = tabulation.try_into().ok()?;
-    let mut members = members.to_vec();
-    members.sort_unstable();
-    members.dedup();
-    let (keys, tiers): (Vec<u32>, Vec<u32>) = members.into_iter().unzip();
+    let (keys, tiers): (Vec<u32>, Vec<u32>) = members.iter().copied().unzip();
     // In ascending order the issues of a first part stand side by side, as do the tiers of a key.
-    let repeated = keys.windows(2).any(|pair| first_part(pair[0]) == first_part(pair[1]));
+    let rising = keys.windows(2).all(|pair| first_part(pair[0]) < first_part(pair[1]));
     let blank = keys.first().is_some_and(|&smallest| is_blank(smallest));
-    if blank || repeated || tiers.iter().any(|&tier| tier > MAX_TIER) {
+    if blank || !rising || tiers.iter().any(|&tier| tier > MAX_TIER) {
         return None;
     }
     let ends: Vec<[u32; 2]> = keys.iter().map(|&key| ends(tabulation, r, station, key)).collect();
@@ -186,7 +215,7 @@ impl Parts {
     /// edge on a cycle again and again. It deletes in descending order, and in the end it has
     /// deleted just the keys that close a cycle when keys are joined up in ascending order. It
     /// stops one key short of the tree. So in each component all closing keys go to the stash, but
-    /// for the smallest.
+    /// for the smallest. That is how request Seven puts it for a whole list.
     fn new(slots: usize, ends: &[[u32; 2]]) -> Parts {
         let mut sets = DisjointSets::new(slots);
         let closing: Vec<usize> = (0..ends.len()).filter(|&i| !sets.union(ends[i])).collect();

@@ -5,19 +5,32 @@
 use std::collections::{BTreeMap, BTreeSet};
 
 use crate::answer::Refusal;
+use crate::bulk;
 use crate::graph::{components, edges, simple_cycles, Edge};
 use crate::layout::{Contents, Entry, Shape, Slot};
 use crate::set::{set, Member, Set};
 use crate::trail::trail;
 
-/// A way to work out canonical images and trails. [`Slow`] is the definition, [`crate::fast::Fast`]
-/// another way; the calls, the reference model and the console take either.
+/// A way to work out canonical images, bulk loads and trails. [`Slow`] is the definition,
+/// [`crate::fast::Fast`] another way; the calls, the reference model and the console take either.
 pub trait Engine {
     /// The words of the canonical image of a set at a station, its members (key, tier) given in any
     /// order (a repeated one counts once). `None` when there is none: the stash would need more
     /// than `s` places, or the tabulation, `r`, `s`, `station`, a key or a tier is one that no list
     /// has, or a key stands with two tiers, or a first part with two issues.
     fn image(
+        &self,
+        tabulation: &[u16],
+        r: u32,
+        s: u32,
+        station: u32,
+        members: &[Member],
+    ) -> Option<Vec<u32>>;
+
+    /// The words that a bulk load of these members (key, tier) leaves at a station, by request
+    /// Seven's rule for the stash. `None` where [`Engine::image`] gives none, and when the keys do
+    /// not rise strictly.
+    fn bulk_image(
         &self,
         tabulation: &[u16],
         r: u32,
@@ -52,6 +65,17 @@ impl<E: Engine + ?Sized> Engine for &E {
         (**self).image(tabulation, r, s, station, members)
     }
 
+    fn bulk_image(
+        &self,
+        tabulation: &[u16],
+        r: u32,
+        s: u32,
+        station: u32,
+        members: &[Member],
+    ) -> Option<Vec<u32>> {
+        (**self).bulk_image(tabulation, r, s, station, members)
+    }
+
     fn trail(
         &self,
         tabulation: &[u16],
@@ -65,7 +89,7 @@ impl<E: Engine + ?Sized> Engine for &E {
     }
 }
 
-/// The engine that works by the definitions: [`image`] and [`trail`].
+/// The engine that works by the definitions: [`image`], [`bulk::image`] and [`trail`].
 #[derive(Clone, Copy, Debug, Default)]
 pub struct Slow;
 
@@ -79,6 +103,17 @@ impl Engine for Slow {
         members: &[Member],
     ) -> Option<Vec<u32>> {
         image(tabulation, r, s, station, members)
+    }
+
+    fn bulk_image(
+        &self,
+        tabulation: &[u16],
+        r: u32,
+        s: u32,
+        station: u32,
+        members: &[Member],
+    ) -> Option<Vec<u32>> {
+        bulk::image(tabulation, r, s, station, members)
     }
 
     fn trail(
@@ -207,7 +242,7 @@ fn try_assignments(
 }
 
 /// The filled slots of a component with at most one cycle, with their next numbers and tiers.
-fn entries(kept: &[Edge], tiers: &Set) -> BTreeMap<Slot, Entry> {
+pub(crate) fn entries(kept: &[Edge], tiers: &Set) -> BTreeMap<Slot, Entry> {
     let next = next_keys(kept.iter().map(|edge| edge.key));
     assignment(kept)
         .into_iter()

@@ -1,9 +1,10 @@
 //! The program by another hand: an independent implementation of document 01 ("the forecourt card
 //! list") and of document 02's requests One (a tier for each key), Two (the trail of a key), Four
-//! (a sale stays with the price at nozzle lift), Five (stations spread their keys differently) and
-//! Six (a reissued key is the same key), written from the papers alone and used as the yardstick
-//! for the product. (Request Three changes no answer.) It holds a plain and slow version
-//! ([`image`], [`trail`]) and a fast one ([`fast`]) behind the same calls ([`calls`]).
+//! (a sale stays with the price at nozzle lift), Five (stations spread their keys differently), Six
+//! (a reissued key is the same key) and Seven (head office sends the whole list), written from the
+//! papers alone and used as the yardstick for the product. (Request Three changes no answer.) It
+//! holds a plain and slow version ([`image`], [`bulk`], [`trail`]) and a fast one ([`fast`])
+//! behind the same calls ([`calls`]).
 //!
 //! The code uses the field's terms: a card is a key, a rack a table, a pocket a slot, the drawer
 //! the stash, the spread book the tabulation, a place a hash, a group a component, a loop a cycle,
@@ -11,18 +12,20 @@
 //! register the reference model; a seated card is a stored key; a tier stays a tier, a trail with
 //! its root and its trail sheet stays that, and so does a sale with its base, its steps and its
 //! price. A station number is a station, and the stretches of the tabulation stay stretches. The
-//! last digit of a key is its issue, and the digits before it are its first part. Formats, commands
-//! and printed output stay as the paper writes them.
+//! last digit of a key is its issue, and the digits before it are its first part. Laying a whole
+//! list in one call is a bulk load, and what head office sends is its input. Formats, commands and
+//! printed output stay as the paper writes them.
 //!
 //! Where to start: [`mod@key`] parts a key into first part and issue, [`set`] says what is listed,
 //! [`image`] is the definition of the canonical image, [`trail`] that of a key's trail, [`calls`]
-//! the calls over them, [`sale`] opens and closes a sale, [`model`] is the reference model for
-//! whole sequences of calls, [`console`] the console program.
+//! the calls over them, [`bulk`] lays a whole list, [`sale`] opens and closes a sale, [`model`]
+//! is the reference model for whole sequences of calls, [`console`] the console program.
 
 #![forbid(unsafe_code)]
 #![warn(missing_docs)]
 
 pub mod answer;
+pub mod bulk;
 pub mod calls;
 pub mod console;
 pub mod counters;

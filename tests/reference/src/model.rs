@@ -3,6 +3,7 @@
 //! does.
 
 use crate::answer::{Answer, Found, Refusal};
+use crate::bulk;
 use crate::hash::TABULATION_LEN;
 use crate::image::Engine;
 use crate::key::is_blank;
@@ -84,7 +85,8 @@ pub enum Call {
         /// The record.
         sale: Sale,
     },
-    /// Paper: "any other call on it may stand there if it is refused".
+    /// Paper: "any other call on it may stand there if it is refused". So may an init and a bulk
+    /// load; accepted, they start a sequence, see [`Model::new`] and [`Model::bulk_loaded`].
     Other {
         /// The refusal the call gave.
         refusal: Refusal,
@@ -114,7 +116,8 @@ pub enum Reply {
 /// Paper: "The register has the sequence's book [..]; of the list it knows only what lay was given.
 /// Its state is a set of cards, empty at first." What init was given is r, s and, with request
 /// Five, the station. Request One: ""set" means cards with their tiers everywhere". Request Six:
-/// "a set has at most one issue of each such first part"; 13 keeps the state such a set.
+/// "a set has at most one issue of each such first part"; 13 keeps the state such a set. A sequence
+/// may also start with an accepted bulk load of request Seven; its first state is then that set.
 #[derive(Clone, Debug)]
 pub struct Model<E> {
     engine: E,
@@ -138,13 +141,33 @@ impl<E: Engine> Model<E> {
         Ok(Model { engine, tabulation: tabulation.to_vec(), shape, set: Set::new() })
     }
 
+    /// The model at the start of a sequence that an accepted bulk load starts, or why no sequence
+    /// starts so: what [`Model::new`] needs, and an input that a bulk load accepts.
+    ///
+    /// Request Seven: "The image equals, word by word, that of adding the same cards with their
+    /// tiers to a list laid alike". So it is the image of the set that says whether 8 is due.
+    pub fn bulk_loaded(
+        engine: E,
+        tabulation: &[u16],
+        r: u32,
+        s: u32,
+        station: u32,
+        input: &[u32],
+    ) -> Result<Self, Refusal> {
+        let mut model = Model::new(engine, tabulation, r, s, station)?;
+        let set: Set = bulk::members(input)?.into_iter().collect();
+        model.image(&set).ok_or(Refusal::FullStash)?;
+        model.set = set;
+        Ok(model)
+    }
+
     /// The set: the tier of each key.
     pub fn set(&self) -> &Set {
         &self.set
     }
 
     /// The words that a list with this set has. "With no call at all the words are the image of the
-    /// empty set."
+    /// empty set", or that of the bulk load's set.
     pub fn words(&self) -> Vec<u32> {
         self.image(&self.set).expect("the set is kept such that it has an image")
     }

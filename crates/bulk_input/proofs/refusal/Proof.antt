@@ -1,12 +1,14 @@
 -- `bulk_input::refusal` meets its contract: the tests in their order, each told by its function.
 use mathlib.Core.Path.{_≡_, sym, _∙_}
-use mathlib.Core.Bool.{true, false}
+use mathlib.Core.Bool.{true, false, not, cond}
 use borrow.Author.Tests.{eq-eqb, ne-eqb, not-true, not-false}
 use lib.Dec.{ltb}
 use Rattle.basics.specs.Sets.{any}
 use Rattle.hashing.specs.Hash.{blank}
 use Rattle.layout.specs.Entries.{max-tier}
-use Rattle.bulk.specs.Bulk.{input-keys, input-tiers, odd-length, rising}
+use Rattle.layout.specs.Layout.{one-issue}
+use Rattle.refusals.specs.Refusal.{done, other-issue, first-refusal}
+use Rattle.bulk.specs.Bulk.{input-keys, input-tiers, odd-length, rising, input-refusals}
 use Rattle.bulk.specs.Input.{tested-valid}
 use borrow.Author.Needs.{needs}
 use Rattle.bulk_input.proofs.refusal.Statement.{statement}
@@ -60,29 +62,19 @@ rise e = sym (e .before .rises .ensures) ∙ not-false _ (e .if4 .left)
 one-issue-requires : tie.Need-one-issue-requires
 one-issue-requires c κs = tested-valid _ (no-blank (low (evens c .before))) (rise c)
 
+-- then 13 is left
+abbrev start : tie.Else4 → tie.Start
+start e = low (evens e .before) .before .before .before
+
+left : (e : tie.Else4) → let g = start e .args .input .now in
+    first-refusal (input-refusals g) ≡ cond (not (one-issue (input-keys g))) other-issue done
+left e = let v = evens e in rw (no-blank (low (v .before)), no-high (v .before), even v, rise e)
+
 returns-5 : tie.Need-returns-5
-returns-5 c =
-    let e = c .before .before in
-    let v = evens e in
-    rw (
-      no-blank (low (v .before)),
-      no-high (v .before),
-      even v,
-      rise e,
-      sym (c .before .one-issue .ensures) ∙ not-true _ (c .if5 .taken),
-    )
+returns-5 c = sym (left (c .before .before) ∙ (rw (sym (c .before .one-issue .ensures) ∙ not-true _ (c .if5 .taken))))
 
 returns-6 : tie.Need-returns-6
-returns-6 c =
-    let e = c .before .before in
-    let v = evens e in
-    rw (
-      no-blank (low (v .before)),
-      no-high (v .before),
-      even v,
-      rise e,
-      sym (c .before .one-issue .ensures) ∙ not-false _ (c .if5 .left),
-    )
+returns-6 c = sym (left (c .before .before) ∙ (rw (sym (c .before .one-issue .ensures) ∙ not-false _ (c .if5 .left))))
 
 pub refusal-spec : {M : Type 1} → statement M
 refusal-spec =

@@ -7,14 +7,15 @@ use borrow.Author.Needs.{needs}
 use borrow.Author.Tests.{lt-ltb, le-ltb}
 use lib.Dec.{ltb}
 use lib.ListN.{drop, length, getD}
+use Rattle.basics.specs.Lists.{rises}
 use Rattle.bulk.specs.Bulk.{input-keys, rising}
-use Rattle.bulk.specs.Input.{input-count, input-key, rising-from, rising-start, from-next, from-end}
+use Rattle.bulk.specs.Input.{input-count, input-key, rising-start, from-next, from-end}
 use Rattle.bulk_input.proofs.rises.Statement.{statement}
 use Rattle.bulk_input.proofs.rises.Tie as tie
 
 abbrev Inv-loop : tie.InvT-loop
 Inv-loop input n last₀ i₀ last i =
-    (i ≤ n) × ((2 * n ≤ length input + 1) × (rising (input-keys input) ≡ rising-from last (drop i (input-keys input))))
+    (i ≤ n) × ((2 * n ≤ length input + 1) × (rising (input-keys input) ≡ rises last (drop i (input-keys input))))
 
 abbrev μ-loop : tie.MeasureT-loop
 μ-loop input n last₀ i₀ last i = n - i
@@ -44,7 +45,7 @@ start l = l .before .before .before
 -- this key, and those after it
 next : (f : tie.In-loop Inv-loop μ-loop) → let l = f .before in let g = start l .args .input .now in
     let x = getD g (2 * l .loop .i) 0 in
-    rising (input-keys g) ≡ (ltb (l .loop .last) x && rising-from x (drop (l .loop .i + 1) (input-keys g)))
+    rising (input-keys g) ≡ (ltb (l .loop .last) x && rises x (drop (l .loop .i + 1) (input-keys g)))
 next f =
     let l = f .before in
     let g = start l .args .input .now in

@@ -1,5 +1,6 @@
 //! A dictionary in the middle of a sequence of calls, beside the register that must answer the same: one random call of
-//! any kind, lent memory that is now and then wrong, sales that stay open, and calls on a damaged copy of the words.
+//! any kind, lent memory that is now and then wrong, sales that stay open, bulk loads, with which a sequence starts
+//! anew where they are accepted, and calls on a damaged copy of the words.
 
 use library::beside::{record_of, sale_of, Beside};
 use library::Change::{Insert, Remove};
@@ -9,13 +10,25 @@ use reference::fast::Fast;
 use reference::key::issues;
 use reference::model::{Call, Model, Reply};
 use reference::rng::Rng;
-use reference::samples::{random_issue, random_keys, random_station};
+use reference::samples::{random_issue, random_keys, random_station, random_tiers};
 use reference::set::{members, Member};
 
 use crate::common::{
-    any_station, any_tier, narrow_tabulation, random_prices, random_words, trail_length,
-    trail_sheet, WRONG_STATIONS,
+    any_laid, any_station, any_tier, narrow_tabulation, random_prices, random_words, spoil,
+    trail_length, trail_sheet, WRONG_STATIONS,
 };
+
+/// What a bulk load may be refused with.
+const BULK_REFUSALS: [Refusal; 8] = [
+    Refusal::WrongTabulation,
+    Refusal::WrongShape,
+    Refusal::ShortScratch,
+    Refusal::BlankKey,
+    Refusal::WrongTier,
+    Refusal::NotRising,
+    Refusal::OtherIssue,
+    Refusal::FullStash,
+];
 
 /// A dictionary in the middle of a sequence of calls, with the register that must answer the same.
 pub struct Board {
@@ -184,6 +197,40 @@ impl Board {
             }
             Reply::Open(_) | Reply::Close(_) => unreachable!("{call:?} is no call of a sale"),
         }
+    }
+
+    /// A bulk load over the words as they are, of some of the board's keys, now and then at another station, with a
+    /// fault, or with wrong memory. Accepted, it starts a sequence anew, and the register with its set; refused, it is
+    /// a call of another kind.
+    pub fn bulk_load(&mut self, rng: &mut Rng, beside: &mut Beside) {
+        let (book, scratch, _) = self.lent(rng);
+        let mut input = self.input(rng);
+        if rng.one_in(3) {
+            spoil(rng, &mut input);
+        }
+        let station = if rng.one_in(2) { self.station } else { random_station(rng) };
+        let laid = any_laid(rng, [self.r, self.s, station]);
+        let counters = &mut self.counters;
+        let answer = beside.bulk_load(&book, &mut self.words, &scratch, counters, laid, &input);
+        if answer == 0 {
+            let [r, s, station] = laid;
+            let register = Model::bulk_loaded(Fast, &self.tabulation, r, s, station, &input);
+            (self.register, self.station) = (register.expect("a load that is accepted"), station);
+        } else {
+            let refusal = BULK_REFUSALS.into_iter().find(|one| one.number() == answer);
+            let call = Call::Other { refusal: refusal.expect("a refusal of a bulk load") };
+            assert_eq!(self.expected(&call, &[]), answer);
+        }
+        assert_eq!(self.words, self.register.words(), "not the image of the register's set");
+    }
+
+    /// Some of the board's keys, of any issue and tier, as an input.
+    fn input(&self, rng: &mut Rng) -> Vec<u32> {
+        let some = rng.below(self.keys.len() + 1);
+        let chosen = self.keys.iter().filter(|_| rng.below(self.keys.len()) < some);
+        let keys: Vec<u32> = chosen.copied().collect();
+        let keys: Vec<u32> = keys.into_iter().map(|key| random_issue(rng, key)).collect();
+        reference::bulk::input(&random_tiers(rng, &keys))
     }
 
     /// An opening, which the register answers, too. The last few sales stay open, and the one before them is closed.

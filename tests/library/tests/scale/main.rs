@@ -4,6 +4,7 @@
 //! nothing is timed. Run with `-- --show-output` to see how many calls, sets and damages were tried.
 
 mod board;
+mod bulk;
 mod common;
 mod damage;
 mod histories;

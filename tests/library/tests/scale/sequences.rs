@@ -16,7 +16,8 @@ use crate::common::{
     trail_length, trail_sheet, BASE, STEPS,
 };
 
-/// Hundreds of thousands of calls, in sequences of 60 on one board.
+/// Hundreds of thousands of calls, in sequences of 60 on one board, which an init starts, and each accepted bulk load
+/// anew.
 #[test]
 fn sequences_on_small_boards() {
     let mut rng = Rng::new(41);
@@ -25,6 +26,9 @@ fn sequences_on_small_boards() {
     for _ in 0..8_000 {
         let mut board = Board::random(&mut rng, &mut beside);
         for _ in 0..60 {
+            if rng.one_in(60) {
+                board.bulk_load(&mut rng, &mut beside);
+            }
             match rng.below(16) {
                 0 | 1 => board.call_damaged(&mut rng, &mut beside),
                 2 | 3 => board.open(&mut rng, &mut beside),
@@ -46,6 +50,7 @@ fn sequences_on_small_boards() {
     for refusal in [9, 13, 10, 6] {
         assert!(beside.given(Kind::Insert, refusal) > 5_000, "{refusal} is rare");
     }
+    came_up(&beside, Kind::BulkLoad, &[0, 1, 2, 3, 5, 9, 14, 13, 8]);
     assert!(beside.given(Kind::Trail, 0) > 5_000 && beside.given(Kind::Trail, 11) > 2_000);
     assert!(beside.given(Kind::Open, 0) > 5_000 && beside.given(Kind::Open, 12) > 2_000);
     println!("sales closed with the key as at the opening, at another tier, gone: {closed:?}");

@@ -4,6 +4,7 @@
 use std::collections::BTreeMap;
 
 use reference::answer::{Answer, Refusal};
+use reference::bulk;
 use reference::calls;
 use reference::counters::Counters;
 use reference::fast::Fast;
@@ -86,6 +87,13 @@ impl<'a> Harness<'a> {
         })
     }
 
+    /// A bulk load onto the list's words, whatever they hold.
+    pub fn bulk_load(&mut self, r: u32, s: u32, station: u32, input: &[u32]) -> Answer {
+        self.counted(|engine, tabulation, words, scratch, counters| {
+            bulk::bulk_load(&engine, tabulation, words, scratch, counters, r, s, station, input)
+        })
+    }
+
     pub fn check(&mut self) -> Answer {
         let mut scratch = vec![5; self.scratch_len];
         let answer = calls::check(&self.engine, &self.tabulation, &self.words, &mut scratch);
@@ -120,7 +128,21 @@ impl<'a> Harness<'a> {
         sale::open(&self.tabulation, &self.words, key, base, steps)
     }
 
+    /// An insert or remove.
     fn change(
+        &mut self,
+        call: impl Fn(&dyn Engine, &[u16], &mut [u32], &mut [u32], &mut Counters) -> Answer,
+    ) -> Answer {
+        let words_before = self.words.clone();
+        let answer = self.counted(call);
+        if answer.is_ok() {
+            assert_ne!(self.words, words_before, "an accepted change shows in the words");
+        }
+        answer
+    }
+
+    /// A call that the counters count.
+    fn counted(
         &mut self,
         call: impl Fn(&dyn Engine, &[u16], &mut [u32], &mut [u32], &mut Counters) -> Answer,
     ) -> Answer {
@@ -131,8 +153,6 @@ impl<'a> Harness<'a> {
         assert!(scratch.iter().all(|&word| word == 0), "the scratch ends as zeros");
         if answer.is_err() {
             assert_eq!(self.words, words_before, "a refusal leaves the words");
-        } else {
-            assert_ne!(self.words, words_before, "an accepted change shows in the words");
         }
         let moved = [
             self.counters.done - counters_before.done,

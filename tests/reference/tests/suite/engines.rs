@@ -1,9 +1,10 @@
-//! The fast engine against the slow one on small boards, and both against the rules of the image
-//! checked a third way; then full-size lists.
+//! The fast engine against the slow one on small boards, by the image and by bulk loads, and both
+//! against the rules of the image checked a third way; then full-size lists.
 
 use std::collections::{BTreeMap, BTreeSet};
 
 use reference::answer::Found;
+use reference::bulk::input;
 use reference::calls::{check, lookup};
 use reference::fast::{self, Fast};
 use reference::graph::{components, edges, simple_cycles, Edge};
@@ -30,6 +31,10 @@ fn compare(
     let image = Slow.image(tabulation, r, s, station, members);
     let fast = Fast.image(tabulation, r, s, station, members);
     assert_eq!(image, fast, "r {r}, s {s}, station {station}, {members:?}");
+    for engine in [&Slow as &dyn Engine, &Fast] {
+        let bulk = engine.bulk_image(tabulation, r, s, station, members);
+        assert_eq!(image, bulk, "bulk load: r {r}, s {s}, station {station}, {members:?}");
+    }
     tally.add("boards");
     if members.iter().any(|&(_, tier)| tier != 0) {
         tally.add("with tiers");
@@ -152,6 +157,8 @@ fn engines_give_no_image_where_no_list_is() {
         ] {
             let image = engine.image(&tabulation[..len], r, s, station, members);
             assert_eq!(image, None, "station {station}, {members:?}");
+            let image = engine.bulk_image(&tabulation[..len], r, s, station, members);
+            assert_eq!(image, None, "bulk load: station {station}, {members:?}");
         }
         let ordered = engine.image(&tabulation, 1, 1, 255, &[(19, 7), (20, 0), (30, 6)]);
         assert!(ordered.is_some());
@@ -160,6 +167,16 @@ fn engines_give_no_image_where_no_list_is() {
             ordered,
             "any order, each member once"
         );
+        for (members, image) in [
+            (&[(19, 7), (20, 0), (30, 6)][..], ordered),
+            (&[(20, 0), (19, 7), (30, 6)], None),
+            (&[(19, 7), (30, 6), (20, 0)], None),
+            (&[(19, 7), (19, 7), (20, 0), (30, 6)], None),
+            (&[(19, 7), (20, 0), (30, 6), (30, 6)], None),
+        ] {
+            let bulk = engine.bulk_image(&tabulation, 1, 1, 255, members);
+            assert_eq!(bulk, image, "in rising order alone, {members:?}");
+        }
     }
 }
 
@@ -301,6 +318,11 @@ fn full_size_lists_hold_together() {
         assert_eq!(image.as_ref(), Some(&list.words));
         let mut scratch = vec![3; 12 * 1_024 + 8 * 64];
         assert_eq!(check(&Fast, tabulation, &list.words, &mut scratch), Ok(()));
+        // One bulk load of the same keys over a list with something else.
+        let mut bulk = Harness::new(&Fast, tabulation, 1_024, 64, station);
+        bulk.words.fill(u32::MAX);
+        assert_eq!(bulk.bulk_load(1_024, 64, station, &input(&listed)), Ok(()));
+        assert_eq!(bulk.words, list.words);
         // Take out every second key, and the list is that of the others put in afresh.
         let mut leaving: Vec<Member> = listed.iter().copied().step_by(2).collect();
         rng.shuffle(&mut leaving);

@@ -1,10 +1,12 @@
-//! Document 01's "Cards on a test board": K1 to K12, each as the image of its set and as the result
-//! of inserts in every order, with both engines. Request One: "Document 01's board has tier 0
-//! throughout." Request Five: "The test board runs with station 0". Request Six: "The test board
-//! [..] run[s] with every card multiplied by ten, but for the edge 4,294,967,295." Then some of the
-//! boards with other tiers, T2 to T12, and with other issues, I2 to I12.
+//! Document 01's "Cards on a test board": K1 to K12, each as the image of its set, as the result of
+//! inserts in every order and as laid by one bulk load, with both engines. Request One: "Document
+//! 01's board has tier 0 throughout." Request Five: "The test board runs with station 0". Request
+//! Six: "The test board [..] run[s] with every card multiplied by ten, but for the edge
+//! 4,294,967,295." Then some of the boards with other tiers, T2 to T12, and with other issues, I2
+//! to I12.
 
 use reference::answer::Refusal;
+use reference::bulk::input;
 use reference::samples::test_tabulation;
 use reference::set::Member;
 
@@ -333,6 +335,41 @@ fn boards_come_from_inserts_in_every_order() {
         }
     }
     tally.report("K boards by inserts", &["orders"]);
+}
+
+/// Request Seven: "The image equals, word by word, that of adding the same cards with their tiers
+/// to a list laid alike". Each board is laid over all boards of its length, itself included.
+#[test]
+fn boards_are_laid_by_one_bulk_load() {
+    for (name, engine) in engines() {
+        for board in BOARDS {
+            let mut list = Harness::new(engine, &test_tabulation(), board.r, board.s, 0);
+            let len = list.words.len();
+            for before in BOARDS.into_iter().filter(|before| before.words().len() == len) {
+                list.words = before.words();
+                let answer = list.bulk_load(board.r, board.s, 0, &input(board.members));
+                let boards = format!("{} over {}, {name}", board.name, before.name);
+                assert_eq!(answer, Ok(()), "{boards}");
+                assert_eq!(list.words, board.words(), "{boards}");
+            }
+            assert_eq!(list.check(), Ok(()));
+        }
+        // K6 with s = 1, and K12 with a third key before, between and after the two.
+        let mut list = Harness::new(engine, &test_tabulation(), 4, 1, 0);
+        for board in [K6_TWO_PLACES, T6_TWO_PLACES] {
+            let answer = list.bulk_load(4, 1, 0, &input(board.members));
+            assert_eq!(answer, Err(Refusal::FullStash), "{}, but s = 1, {name}", board.name);
+        }
+        let mut list = Harness::new(engine, &test_tabulation(), 1, 0, 0);
+        for board in [K12, T12] {
+            for third in [10, 1_000, 2_010, u32::MAX] {
+                let mut members = [board.members, &[(third, 0)]].concat();
+                members.sort_unstable();
+                let answer = list.bulk_load(1, 0, 0, &input(&members));
+                assert_eq!(answer, Err(Refusal::FullStash), "{} and {third}, {name}", board.name);
+            }
+        }
+    }
 }
 
 /// A list that was filled with a board's keys.

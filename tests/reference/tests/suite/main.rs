@@ -1,8 +1,9 @@
 //! The tests of the reference implementation, as one binary: document 01's boards and listings, its
-//! rules and those of requests One, Two, Four, Five and Six on random boards, and the fast engine
+//! rules and those of requests One, Two and Four to Seven on random boards, and the fast engine
 //! against the slow one. Fixed seeds; nothing is timed. Run with `-- --nocapture` to see how many
 //! boards, sequences and lines were tried.
 
+mod bulk;
 mod common;
 mod console;
 mod damage;

@@ -16,7 +16,7 @@ use reference::set::set;
 use crate::common::{other_issues, Tally};
 
 /// Whether the edges can all be placed, by trying every way.
-fn placeable(rest: &[Edge], taken: &BTreeSet<Place>, s: u32) -> bool {
+pub fn placeable(rest: &[Edge], taken: &BTreeSet<Place>, s: u32) -> bool {
     let Some((edge, rest)) = rest.split_first() else {
         return true;
     };

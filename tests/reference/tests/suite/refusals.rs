@@ -1,15 +1,18 @@
 //! The order of refusals. An input is built with each combination of defects, and the first in the
 //! paper's order must be the answer. Some pairs cannot both apply by their nature: a blank key is
 //! in no set (5 with 6, 7, 8, 10 or 13), a listed key leaves the set as it is (6 or 10 with 8), and
-//! no other issue of it is listed (6 or 10 with 13). Opening a sale has an order of its own.
+//! no other issue of it is listed (6 or 10 with 13). Opening a sale has an order of its own. The
+//! input of a bulk load can have all its defects at once.
 
 use reference::answer::{number, Answer, Found};
+use reference::bulk::{self, bulk_load};
 use reference::calls::{check, insert, lookup, remove, stash, stash_answer, trail};
 use reference::counters::Counters;
 use reference::fast;
 use reference::image::Engine;
 use reference::sale::{open, Sale};
 use reference::samples::test_tabulation;
+use reference::set::Member;
 
 use crate::common::{engines, hand_words, Tally};
 
@@ -275,6 +278,113 @@ fn opening_a_sale_refuses_in_order() {
         }
     }
     let wanted = ["open 0", "open 1", "open 2", "open 4", "open 5", "open 7", "open 12"];
+    tally.report("order of refusals", &wanted);
+}
+
+/// The r, s and station for a bulk load and the length of its words: those of K5, or with defect 2
+/// one of them wrong and the others as they should be.
+fn input_target(defects: Defects, way: usize) -> (u32, u32, u32, usize) {
+    if !defects.has(2) {
+        return (4, 1, 5, 31);
+    }
+    match way {
+        0 => (4, 1, 5, 30),
+        1 => (4, 1, 5, 32),
+        2 => (4, 1, 5, 0),
+        3 => (0, 1, 5, 7),
+        4 => (4, 65, 5, 5 + 6 * 4 + 2 * 65),
+        5 => (1_025, 1, 5, 5 + 6 * 1_025 + 2),
+        6 => (4, 1, 256, 31),
+        _ => (4, 1, u32::MAX, 31),
+    }
+}
+
+/// The input of a bulk load: the members of K5 in rising order, and further ones that bring the
+/// defects; each defect stands beside the others and at several positions.
+fn bulk_input(defects: Defects, way: usize) -> Vec<u32> {
+    let mut members = vec![(14, 3), (650, 0), (1_295, 6)];
+    if defects.has(8) {
+        let crowding: [&[Member]; 3] = [&[(1_939, 0)], &[(55, 7)], &[(330, 0), (1_979, 0)]];
+        members.extend_from_slice(crowding[way % 3]);
+    }
+    if defects.has(13) {
+        members.push((OTHER_ISSUES[way], way as u32));
+    }
+    members.sort_unstable();
+    if defects.has(9) {
+        let at = [0, members.len() - 1, 1][way % 3];
+        members[at].1 = [8, u32::MAX, 10][way % 3];
+    }
+    if defects.has(14) {
+        let last = members.len() - 1;
+        match way {
+            0 => members.insert(0, (members[0].0, 0)),
+            1 => members.push((members[last].0, 7)),
+            2 => members.swap(0, 1),
+            3 => members.swap(last - 1, last),
+            4 => members.rotate_left(1),
+            // Odd numbers of words are below.
+            _ => {}
+        }
+    }
+    if defects.has(5) {
+        let blank = (way + 2) as u32;
+        let at = [0, members.len(), 1][way % 3];
+        members.insert(at, (blank, 3));
+    }
+    let mut input = bulk::input(&members);
+    if defects.has(14) && way >= 5 {
+        input.push([u32::MAX, 14, 10][way - 5]);
+    }
+    input
+}
+
+#[test]
+fn bulk_load_refuses_in_order() {
+    // Request Seven: "Checks are 1, 2 for the target's r, s, station and length, and 3; then 5, 9,
+    // 14 and 13 (between input cards), each over the whole input [..]; then 8."
+    const POSSIBLE: &[u32] = &[1, 2, 3, 5, 9, 14, 13, 8];
+    let mut tally = Tally::default();
+    for (name, engine) in engines() {
+        for defects in Defects::all(POSSIBLE) {
+            for way in 0..WRONG_SHAPES {
+                let (r, s, station, len) = input_target(defects, way);
+                let (tabulation, mut scratch) =
+                    (input_tabulation(defects, way), input_scratch(defects));
+                let (mut words, input) = (vec![77; len], bulk_input(defects, way));
+                let mut counters = Counters { done: 10, refused: 20 };
+                let answer = bulk_load(
+                    &engine,
+                    &tabulation,
+                    &mut words,
+                    &mut scratch,
+                    &mut counters,
+                    r,
+                    s,
+                    station,
+                    &input,
+                );
+                let given = format!("{name}, {:b}, way {way}, {input:?}", defects.0);
+                assert_eq!(number(answer), defects.first(POSSIBLE), "{given}");
+                assert!(scratch.iter().all(|&word| word == 0), "{given}");
+                assert_eq!(words, if answer.is_ok() { k5() } else { vec![77; len] }, "{given}");
+                let refused = u32::from(answer.is_err());
+                assert_eq!(counters, Counters { done: 11 - refused, refused: 20 + refused });
+                tally.add(format!("bulk load {}", number(answer)));
+            }
+        }
+    }
+    let wanted = [
+        "bulk load 0",
+        "bulk load 1",
+        "bulk load 2",
+        "bulk load 3",
+        "bulk load 5",
+        "bulk load 8",
+        "bulk load 9",
+        "bulk load 13",
+        "bulk load 14",
+    ];
     tally.report("order of refusals", &wanted);
 }
 

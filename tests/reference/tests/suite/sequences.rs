@@ -1,8 +1,9 @@
 //! Random sequences of calls on borrowed words against the reference model: every answer, the words
-//! after every call, the scratch, the trail sheet, the counters and the sales that stay open. Then
-//! calls on arbitrary borrowed memory.
+//! after every call, the scratch, the trail sheet, the counters and the sales that stay open. They
+//! start with an init or a bulk load. Then calls on arbitrary borrowed memory.
 
 use reference::answer::{number, Answer, Found, Refusal};
+use reference::bulk::{self, bulk_load};
 use reference::calls::{check, init, insert, lookup, remove, stash, stash_answer, trail};
 use reference::counters::Counters;
 use reference::fast::{self, Fast};
@@ -11,9 +12,9 @@ use reference::model::{Call, Model, Reply};
 use reference::rng::Rng;
 use reference::sale::{close, open, Sale};
 use reference::samples::{
-    random_issue, random_keys, random_station, random_tabulation, random_tiers,
+    random_issue, random_keys, random_station, random_tabulation, random_tier, random_tiers,
 };
-use reference::set::Set;
+use reference::set::{Member, Set};
 
 use crate::common::{engines, hand_price, other_issues, random_prices, small_key, Tally};
 
@@ -26,6 +27,23 @@ fn input_tier(rng: &mut Rng) -> u32 {
         2 => rng.below(8) as u32,
         _ => rng.pick(&[0, 1, 7]),
     }
+}
+
+/// The input of a bulk load, mostly a right one, over the keys that the other calls have.
+fn bulk_input(rng: &mut Rng) -> Vec<u32> {
+    let mut keys: Vec<u32> = (0..rng.below(6)).map(|_| small_key(rng, 7)).collect();
+    keys.sort_unstable();
+    if !rng.one_in(5) {
+        keys.retain(|&key| key >= 10);
+        keys.dedup_by_key(|key| *key / 10);
+    }
+    let tier = |rng: &mut Rng| if rng.one_in(20) { input_tier(rng) } else { random_tier(rng) };
+    let members: Vec<Member> = keys.into_iter().map(|key| (key, tier(rng))).collect();
+    let mut input = bulk::input(&members);
+    if rng.one_in(15) {
+        input.push(small_key(rng, 7));
+    }
+    input
 }
 
 /// What a trail call gives, with its keys; checks what it leaves on the trail sheet.
@@ -160,6 +178,50 @@ impl<'a> Sequence<'a> {
         (call, reply)
     }
 
+    /// An r and an s for a bulk load, mostly with words as long as those that are there.
+    fn input_shape(&self, rng: &mut Rng) -> (u32, u32) {
+        match rng.below(8) {
+            0 if self.r > 1 => (self.r - 1, self.s + 3),
+            1 if self.s >= 3 => (self.r + 1, self.s - 3),
+            2 => (self.r, self.s + 1),
+            _ => (self.r, self.s),
+        }
+    }
+
+    /// Makes a random bulk load on the words. Accepted, it starts the next sequence, perhaps with
+    /// another shape or tabulation; refused, it stands in this one as a call of another kind.
+    fn bulk_load(&mut self, rng: &mut Rng) -> Answer {
+        let ((r, s), input) = (self.input_shape(rng), bulk_input(rng));
+        let station = if rng.one_in(15) { 256 } else { random_station(rng) };
+        let tabulation =
+            if rng.one_in(2) { random_tabulation(rng, 4) } else { self.input_tabulation(rng) };
+        let scratch_len = (12 * r + 8 * s) as usize + rng.below(3);
+        let mut scratch = vec![9; if rng.one_in(10) { scratch_len / 2 } else { scratch_len }];
+        let answer = bulk_load(
+            &self.engine,
+            &tabulation,
+            &mut self.words,
+            &mut scratch,
+            &mut self.counters,
+            r,
+            s,
+            station,
+            &input,
+        );
+        assert!(scratch.iter().all(|&word| word == 0), "the scratch ends as zeros");
+        match answer {
+            Ok(()) => {
+                self.model = Model::bulk_loaded(Slow, &tabulation, r, s, station, &input).unwrap();
+                (self.tabulation, self.r, self.s, self.station) = (tabulation, r, s, station);
+            }
+            Err(refusal) => {
+                let reply = self.model.feed(&Call::Other { refusal });
+                assert_eq!(reply, Reply::Answer(answer));
+            }
+        }
+        answer
+    }
+
     /// Opens a sale with random prices and keeps it; mostly for a listed key instead of this one.
     fn open(&mut self, rng: &mut Rng, tabulation: &[u16], key: u32) -> (Call, Reply) {
         let listed: Vec<u32> = self.model.set().keys().copied().collect();
@@ -251,8 +313,16 @@ fn sequences_answer_as_the_reference_model() {
     for (name, engine) in engines() {
         for _ in 0..if name == "slow" { 150 } else { 1_000 } {
             let mut sequence = Sequence::start(engine, &mut rng);
-            for _ in 0..rng.below(60) {
-                let counters = sequence.counters;
+            for step in 0..rng.below(60) {
+                let mut counters = sequence.counters;
+                if step == 0 && rng.one_in(2) || rng.one_in(15) {
+                    let answer = sequence.bulk_load(&mut rng);
+                    counters.count(answer);
+                    assert_eq!(sequence.words, sequence.model.words(), "{name}, a bulk load");
+                    assert_eq!(sequence.counters, counters, "{name}, a bulk load");
+                    tally.add(format!("bulk load {}", number(answer)));
+                    continue;
+                }
                 let (call, reply) = sequence.call(&mut rng);
                 assert_eq!(sequence.model.feed(&call), reply, "{name}, {call:?}");
                 assert_eq!(sequence.words, sequence.model.words(), "{name}, {call:?}");
@@ -312,6 +382,15 @@ fn sequences_answer_as_the_reference_model() {
         "close, key gone",
         "close, no sale",
         "other 2",
+        "bulk load 0",
+        "bulk load 1",
+        "bulk load 2",
+        "bulk load 3",
+        "bulk load 5",
+        "bulk load 8",
+        "bulk load 9",
+        "bulk load 13",
+        "bulk load 14",
     ];
     tally.report("sequences", &wanted);
 }

@@ -1,10 +1,12 @@
-//! What the tests draw at random: tabulations that crowd their keys, words, keys, tiers, stations, and sheets for
-//! trails; tiers, stations and sheets are now and then such as a call refuses.
+//! What the tests draw at random: tabulations that crowd their keys, words, keys, tiers, stations, sheets for trails,
+//! and faults of the input of a bulk load; tiers, stations and sheets are now and then such as a call refuses.
 
 use reference::hash::TABULATION_LEN;
 use reference::key::{first_part, issues};
 use reference::rng::Rng;
 use reference::samples::{random_station, random_tabulation};
+
+use super::Laid;
 
 /// A tabulation of the extremes of 16 bits alone.
 pub fn extreme_tabulation(rng: &mut Rng) -> Vec<u16> {
@@ -69,6 +71,38 @@ pub fn any_station(rng: &mut Rng) -> u32 {
         rng.pick(&WRONG_STATIONS)
     } else {
         random_station(rng)
+    }
+}
+
+/// An input for a bulk load with one fault more, of a kind for each refusal: a key below 10, a tier above 7, a key that
+/// is not larger than the one before it, another issue of a key, or a word less, or more. Where there is no key to spoil
+/// it stays as it is.
+pub fn spoil(rng: &mut Rng, input: &mut Vec<u32>) {
+    let pairs = input.len() / 2;
+    let at = if pairs == 0 { 0 } else { 2 * rng.below(pairs) };
+    match rng.below(8) {
+        0 if pairs > 0 => input[at] = rng.below(10) as u32,
+        1 if pairs > 0 => input[at + 1] = rng.pick(&[8, 9, 15, 16, 256, 1 << 31, u32::MAX]),
+        2 if pairs > 1 => input.swap(at, (at + 2) % (2 * pairs)),
+        3 if pairs > 0 => drop(input.splice(at..at, [input[at], rng.below(8) as u32])),
+        4 | 5 if pairs > 0 => {
+            let higher = issues(input[at]).rfind(|issue| *issue > input[at]);
+            let tier = rng.below(8) as u32;
+            input.splice(at + 2..at + 2, higher.into_iter().flat_map(|key| [key, tier]));
+        }
+        6 => drop(input.pop()),
+        7 => input.push(if rng.one_in(2) { rng.below(10) as u32 } else { u32::MAX }),
+        _ => {}
+    }
+}
+
+/// The r, s and station of a bulk load: mostly these, now and then with one that is outside its range, or another r.
+pub fn any_laid(rng: &mut Rng, [r, s, station]: Laid) -> Laid {
+    match rng.below(24) {
+        0 => [rng.pick(&[0, 1_025, u32::MAX, r + 1]), s, station],
+        1 => [r, rng.pick(&[65, 66, u32::MAX]), station],
+        2 => [r, s, rng.pick(&WRONG_STATIONS)],
+        _ => [r, s, station],
     }
 }
 
