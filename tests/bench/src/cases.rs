@@ -40,10 +40,23 @@ impl Board {
         Board { members, extra, words: words.expect("they fit") }
     }
 
+    /// The set with the extra key, ascending.
+    pub fn with_extra(&self) -> Vec<Member> {
+        let mut members = self.members.clone();
+        members.push(self.extra);
+        members.sort_unstable();
+        members
+    }
+
     /// The keys that are in it, ascending.
     pub fn keys(&self) -> Vec<u32> {
         self.members.iter().map(|(key, _)| *key).collect()
     }
+}
+
+/// The input of a bulk load: key and tier by turns.
+pub fn input_of(members: &[Member]) -> Vec<u32> {
+    members.iter().flat_map(|(key, tier)| [*key, *tier]).collect()
 }
 
 /// How many keys a dictionary has, and how they meet.
@@ -125,8 +138,8 @@ pub fn an_issue(part: u32) -> u32 {
 }
 
 /// `count` random keys that fit, one issue of each first part, in the order in which they were found.
-fn fitting_keys(rng: &mut Rng, tabulation: &[u16], r: u32, count: usize) -> Vec<u32> {
-    let mut room = Room::new(2 * r as usize, PLACES as usize);
+pub fn fitting_keys(rng: &mut Rng, tabulation: &[u16], [r, s]: [u32; 2], count: usize) -> Vec<u32> {
+    let mut room = Room::new(2 * r as usize, s as usize);
     let mut seen = BTreeSet::new();
     let mut keys = Vec::new();
     while keys.len() < count {
@@ -154,7 +167,7 @@ pub const fn full(r: u32) -> usize {
 fn house(r: u32, count: usize, sets: u64) -> Sets {
     let set = |seed: u64| {
         let mut rng = Rng::new(u64::from(r) << 32 | (count as u64) << 8 | seed);
-        fitting_keys(&mut rng, &HOUSE, r, count + 1)
+        fitting_keys(&mut rng, &HOUSE, [r, PLACES], count + 1)
     };
     (HOUSE.to_vec(), (0..sets).map(set).collect())
 }

@@ -16,6 +16,8 @@ pub const HEADER: usize = 5;
 /// Where the two counts stand in them, which change with the set, and where the station.
 const COUNTS: Range<usize> = 2..4;
 pub const STATION_AT: usize = 4;
+/// What a dictionary is laid with: r, s and station.
+pub type Laid = [u32; 3];
 /// Words of a slot: key, next, tier.
 pub const SLOT: usize = 3;
 /// Words of a stash place: key, tier.
@@ -64,15 +66,27 @@ impl Hashing<'_> {
     }
 }
 
-/// r, s and the station, if the words have the shape that their heading tells.
+/// What the words were laid with, as their heading tells it. They have one.
 #[inline]
-fn shape(words: &[u32]) -> Option<(u32, u32, u8)> {
-    let &[r, s, _, _, station, ..] = words else { return None };
+pub fn laid(words: &[u32]) -> Laid {
+    [words[0], words[1], words[STATION_AT]]
+}
+
+/// r, s and the station, if they are in their ranges and so many words go with them.
+#[inline]
+fn sizes([r, s, station]: Laid, length: usize) -> Option<(u32, u32, u8)> {
     let station = u8::try_from(station).ok()?;
     let fits = (1..=1_024).contains(&r)
         && s <= 64
-        && words.len() == HEADER + 2 * SLOT * r as usize + PLACE * s as usize;
+        && length == HEADER + 2 * SLOT * r as usize + PLACE * s as usize;
     fits.then_some((r, s, station))
+}
+
+/// The same, if the words have the shape that their heading tells.
+#[inline]
+fn shape(words: &[u32]) -> Option<(u32, u32, u8)> {
+    let &[r, s, _, _, station, ..] = words else { return None };
+    sizes([r, s, station], words.len())
 }
 
 /// The words of the slots, three each, and those of the stash, two a place.
@@ -94,16 +108,17 @@ pub fn matches(
         && in_stash.chunks_exact(PLACE).zip(places).all(|(words, place)| words == place)
 }
 
-/// Writes an image to the words.
+/// Writes an image over all of the words.
 pub fn write(
     words: &mut [u32],
+    [r, s, station]: Laid,
     heading: [usize; 2],
     slots: impl Iterator<Item = [u32; SLOT]>,
     places: impl Iterator<Item = [u32; PLACE]>,
 ) {
-    words[COUNTS].copy_from_slice(&heading.map(|count| count as u32));
-    let r = words[0] as usize;
-    let (in_slots, in_stash) = words[HEADER..].split_at_mut(2 * SLOT * r);
+    let [keys, stashed] = heading.map(|count| count as u32);
+    words[..HEADER].copy_from_slice(&[r, s, keys, stashed, station]);
+    let (in_slots, in_stash) = words[HEADER..].split_at_mut(2 * SLOT * r as usize);
     in_slots
         .chunks_exact_mut(SLOT)
         .zip(slots)
@@ -176,6 +191,52 @@ pub fn early<'a>(
     Ok((Hashing { tabulation, r, station }, s))
 }
 
+/// The keys of an input: words that alternate key and tier, a lone last one being a key.
+pub fn keys_of(input: &[u32]) -> impl Iterator<Item = u32> + '_ {
+    input.iter().copied().step_by(2)
+}
+
+/// What refuses an input, whatever it is for: 5, 9, 14 or 13, each tried over all of it before the next. Where the keys
+/// rise, their first parts do, but for two issues of one.
+fn sound(input: &[u32]) -> Result<(), u32> {
+    let rises = |one: &u32, two: &u32| one < two;
+    if keys_of(input).any(is_blank) {
+        return Err(5);
+    }
+    if input.iter().skip(1).step_by(2).any(|tier| MAX_TIER < *tier) {
+        return Err(9);
+    }
+    if input.len() % 2 == 1 || !keys_of(input).is_sorted_by(rises) {
+        return Err(14);
+    }
+    if !keys_of(input).map(first_part).is_sorted_by(rises) {
+        return Err(13);
+    }
+    Ok(())
+}
+
+/// What a bulk load starts with: all that refuses it but a stash that is too small, or how keys are hashed and how many
+/// there are. More than there are slots and places never fit, and only fewer have room in scratch.
+pub fn tested<'a>(
+    tabulation: &'a [u16],
+    words: &[u32],
+    scratch: &[u32],
+    laid: Laid,
+    input: &[u32],
+) -> Result<(Hashing<'a>, usize), u32> {
+    let tabulation = <&Tabulation>::try_from(tabulation).map_err(|_| 1u32)?;
+    let (r, s, station) = sizes(laid, words.len()).ok_or(2u32)?;
+    if scratch.len() < 12 * r as usize + 8 * s as usize {
+        return Err(3);
+    }
+    sound(input)?;
+    let n = input.len() / 2;
+    if n > (2 * r + s) as usize {
+        return Err(8);
+    }
+    Ok((Hashing { tabulation, r, station }, n))
+}
+
 /// Whether another issue of a key is a neighbour of the place where the key belongs.
 fn other_issue_beside(keys: &[u32], at: usize, key: u32) -> bool {
     let neighbours = &keys[at.saturating_sub(1)..keys.len().min(at + 1)];
@@ -221,10 +282,11 @@ pub fn count(counters: &mut Counters, answer: Result<(), u32>) -> u32 {
     answer.err().unwrap_or(0)
 }
 
-/// The calls of a twin that has `insert_words`, `remove_words` and `check_words`. They have symbols of their own, by which a counter of instructions knows them.
+/// The calls of a twin that has `insert_words`, `remove_words`, `check_words` and `bulk_load_words`. They have symbols
+/// of their own, by which a counter of instructions knows them.
 #[macro_export]
 macro_rules! calls {
-    ($insert:literal, $remove:literal, $check:literal) => {
+    ($insert:literal, $remove:literal, $check:literal, $bulk_load:literal) => {
         #[inline(never)]
         #[export_name = $insert]
         pub fn insert(
@@ -260,6 +322,21 @@ macro_rules! calls {
             let answer = check_words(tabulation, words, scratch);
             scratch.fill(0);
             answer.err().unwrap_or(0)
+        }
+
+        #[inline(never)]
+        #[export_name = $bulk_load]
+        pub fn bulk_load(
+            tabulation: &[u16],
+            words: &mut [u32],
+            scratch: &mut [u32],
+            counters: &mut library::Counters,
+            laid: $crate::common::Laid,
+            input: &[u32],
+        ) -> u32 {
+            let answer = bulk_load_words(tabulation, words, scratch, laid, input);
+            scratch.fill(0);
+            $crate::common::count(counters, answer)
         }
     };
 }

@@ -4,9 +4,10 @@ use std::collections::{BTreeMap, BTreeSet};
 
 use library::Counters;
 use reference::rng::Rng;
-use reference::samples::{random_station, random_tabulation, random_tier};
+use reference::samples::{random_station, random_tabulation, random_tier, random_tiers};
 
-use crate::common::{HEADER, PLACE, SLOT, STATION_AT};
+use crate::cases::input_of;
+use crate::common::{first_part, laid, Laid, HEADER, PLACE, SLOT, STATION_AT};
 use crate::issues::{another_issue, seat_beside};
 use crate::partners::{Call, Partner, PARTNERS};
 
@@ -14,7 +15,7 @@ use crate::partners::{Call, Partner, PARTNERS};
 const CALLS: usize = 100;
 
 /// How many answers each call can give: all of them must come.
-const ANSWERS: [usize; 4] = [11, 7, 5, 4];
+const ANSWERS: [usize; 5] = [11, 7, 5, 9, 4];
 
 /// All that a call is lent.
 #[derive(Clone, Debug, PartialEq)]
@@ -28,15 +29,17 @@ struct Lent {
 }
 
 /// A call and its arguments.
-#[derive(Clone, Copy, Debug)]
+#[derive(Debug)]
 struct Asked {
     call: Call,
     key: u32,
     tier: u32,
+    laid: Laid,
+    input: Vec<u32>,
 }
 
 /// Makes the call, and gives its answer.
-fn ask(partner: &Partner, lent: &mut Lent, asked: Asked) -> u32 {
+fn ask(partner: &Partner, lent: &mut Lent, asked: &Asked) -> u32 {
     let Lent { tabulation, words, scratch, counters, listed, tier } = lent;
     match asked.call {
         Call::Insert => {
@@ -44,6 +47,9 @@ fn ask(partner: &Partner, lent: &mut Lent, asked: Asked) -> u32 {
         }
         Call::Remove => (partner.remove)(tabulation, words, scratch, counters, asked.key),
         Call::Check => (partner.check)(tabulation, words, scratch),
+        Call::BulkLoad => {
+            (partner.bulk_load)(tabulation, words, scratch, counters, asked.laid, &asked.input)
+        }
         Call::Lookup => (partner.lookup)(tabulation, words, asked.key, listed, tier),
     }
 }
@@ -124,7 +130,7 @@ fn lend(rng: &mut Rng, board: &Board) -> (Lent, bool) {
     let mut tabulation = board.tabulation.clone();
     let mut words = board.words.clone();
     let asked_for = library::scratch_length(words[0], words[1]);
-    let length = asked_for + rng.below(4) - usize::from(rng.one_in(50));
+    let length = asked_for + rng.pick(&[0, 1, 3, 11, 12]) - usize::from(rng.one_in(50));
     let own = !rng.one_in(3);
     if !own {
         (0..=rng.below(2)).for_each(|_| tamper(rng, &mut words, &board.keys));
@@ -141,12 +147,58 @@ fn lend(rng: &mut Rng, board: &Board) -> (Lent, bool) {
     (Lent { tabulation, words, scratch, counters, listed: 77, tier: 78 }, own)
 }
 
+/// What a bulk load is given for r, s and station: mostly the sizes of the board, or others of the same length, some of
+/// them out of their ranges.
+fn random_laid(rng: &mut Rng, words: &[u32]) -> Laid {
+    let [r, s, _] = laid(words);
+    match rng.below(20) {
+        0 => [r + 1, s, 0],
+        1 => [r, s, rng.pick(&[256, u32::MAX])],
+        2 | 3 => [r - 1, s + 3, random_station(rng)],
+        4 | 5 if s > 2 => [r + 1, s - 3, random_station(rng)],
+        _ => [r, s, random_station(rng)],
+    }
+}
+
+/// One thing that is wrong with an input, or that may be.
+fn spoil(rng: &mut Rng, input: &mut Vec<u32>) {
+    let keys = input.len() / 2;
+    let lone = rng.pick(&[0, 9, 10, u32::MAX]);
+    if keys == 0 || rng.one_in(5) {
+        return input.push(lone);
+    }
+    let (one, two) = (2 * rng.below(keys), 2 * rng.below(keys));
+    match rng.below(4) {
+        0 => input[one] = rng.below(11) as u32,
+        1 => input[one + 1] = rng.pick(&[7, 8, u32::MAX]),
+        2 => input[one] = input[two],
+        _ => input.truncate(input.len() - 1),
+    }
+}
+
+/// The input of a bulk load: some of the keys, ascending, mostly one issue of each first part and with nothing wrong.
+fn random_input(rng: &mut Rng, keys: &[u32]) -> Vec<u32> {
+    let most = rng.below(keys.len() + 1);
+    let mut some: Vec<u32> =
+        keys.iter().copied().filter(|_| rng.below(keys.len()) < most).collect();
+    if !rng.one_in(10) {
+        some.dedup_by_key(|key| first_part(*key));
+    }
+    let mut input = input_of(&random_tiers(rng, &some));
+    if rng.one_in(4) {
+        (0..=rng.below(2)).for_each(|_| spoil(rng, &mut input));
+    }
+    input
+}
+
 fn random_call(rng: &mut Rng, board: &Board) -> Asked {
     use Call::*;
     Asked {
-        call: rng.pick(&[Insert, Insert, Insert, Remove, Remove, Check, Lookup]),
+        call: rng.pick(&[Insert, Insert, Insert, Remove, Remove, Check, BulkLoad, Lookup]),
         key: if rng.one_in(30) { rng.below(10) as u32 } else { rng.pick(&board.keys) },
         tier: if rng.one_in(30) { 8 } else { random_tier(rng) },
+        laid: random_laid(rng, &board.words),
+        input: random_input(rng, &board.keys),
     }
 }
 
@@ -161,7 +213,7 @@ pub fn run(calls: usize) {
             let asked = random_call(&mut rng, &board);
             let [ours, others @ ..] = PARTNERS.each_ref().map(|partner| {
                 let mut lent = lent.clone();
-                (ask(partner, &mut lent, asked), lent)
+                (ask(partner, &mut lent, &asked), lent)
             });
             for (other, partner) in others.iter().zip(&PARTNERS[1..]) {
                 assert!(ours == *other, "{} differs: {asked:?} on {lent:?}", partner.name);
@@ -180,7 +232,7 @@ pub fn run(calls: usize) {
         let of_call = seen.iter().filter(|((seen, _), _)| *seen == call);
         let answers: Vec<String> =
             of_call.map(|((_, answer), times)| format!("{answer} × {times}")).collect();
-        println!("{}: {}", call.name(), answers.join(", "));
+        println!("{}: {}", call.title(), answers.join(", "));
         assert_eq!(
             answers.len(),
             ANSWERS[call as usize],

@@ -3,7 +3,7 @@
 use crate::cases::{Case, Load, LOADS};
 use crate::partners::Call;
 use crate::tables::{head, row, Measured, ASKED};
-use crate::timing::CHANGES;
+use crate::timing::{CHANGES, TIMED};
 
 /// A number, and where it was found.
 type Found = (f64, String);
@@ -13,16 +13,16 @@ fn light(load: Load) -> bool {
     matches!(load, Load::Percent(percent) if percent <= 49)
 }
 
-/// A number of insert, remove and check on each of some cases.
-fn of_changes(
+/// A number of insert, remove, check and bulk load on each of some cases.
+fn of_builds(
     measured: &Measured,
     wanted: impl Fn(&Case) -> bool,
-    number: impl Fn(usize, usize) -> f64,
+    number: impl Fn(usize, Call) -> f64,
 ) -> Vec<Found> {
     let cases = measured.cases.iter().enumerate().filter(|(_, case)| wanted(case));
-    let calls = cases.flat_map(|(i, case)| (0..CHANGES.len()).map(move |call| (i, case, call)));
-    let found = |(i, case, call): (usize, &Case, usize)| {
-        (number(i, call), format!("{}, {}", CHANGES[call].name(), case.name()))
+    let calls = cases.flat_map(|(i, case)| TIMED.map(|call| (i, case, call)));
+    let found = |(i, case, call): (usize, &Case, Call)| {
+        (number(i, call), format!("{}, {}", call.title(), case.name()))
     };
     calls.map(found).collect()
 }
@@ -40,6 +40,11 @@ fn lookups_by_time(measured: &Measured) -> Vec<Found> {
         }
     }
     all
+}
+
+fn bulk_loads_to_inserts(measured: &Measured) -> Vec<Found> {
+    let ratio = |case: usize| measured.instructions.bulk_load_to_insert(case);
+    measured.cases.iter().enumerate().map(|(i, case)| (ratio(i), case.name())).collect()
 }
 
 /// The growth of each call at light loads: 0 by instructions, 1 by time.
@@ -63,17 +68,18 @@ fn print_goal(goal: &str, most: f64, found: Vec<Found>) {
 #[rustfmt::skip]
 pub fn print(measured: &Measured) {
     let instructions = |who: usize| {
-        move |case: usize, call: usize| measured.instructions.ratio(case, who, CHANGES[call])
+        move |case: usize, call: Call| measured.instructions.ratio(case, who, call)
     };
-    let time = |case: usize, call: usize| measured.changes[case].ratios[2][call];
-    let changes = |light_wanted: bool| of_changes(measured, |case| light(case.load) == light_wanted, instructions(1));
+    let time = |case: usize, call: Call| measured.changes[case].ratios[2][call as usize];
+    let builds = |light_wanted: bool| of_builds(measured, |case| light(case.load) == light_wanted, instructions(1));
     head(&["goal", "at most", "worst found", "where", "met"]);
-    print_goal("to the plain twin, 12 to 49 %, instructions", 0.5, changes(true));
-    print_goal("to the plain twin, other cases, instructions", 0.65, changes(false));
-    print_goal("to the ranks twin, instructions", 1.1, of_changes(measured, |_| true, instructions(2)));
-    print_goal("to the ranks twin, time", 1.25, of_changes(measured, |_| true, time));
+    print_goal("to the plain twin, 12 to 49 %, instructions", 0.5, builds(true));
+    print_goal("to the plain twin, other cases, instructions", 0.65, builds(false));
+    print_goal("to the ranks twin, instructions", 1.1, of_builds(measured, |_| true, instructions(2)));
+    print_goal("to the ranks twin, time", 1.25, of_builds(measured, |_| true, time));
     print_goal("lookup to the twins, instructions", 1.1, lookups_by_instructions(measured));
     print_goal("lookup to the twins, time", 1.1, lookups_by_time(measured));
+    print_goal("bulk load to an insert into the same set, instructions", 0.6, bulk_loads_to_inserts(measured));
     print_goal("from r = 128 to r = 1,024, 12 to 49 %, instructions", 12.0, growth(measured, 0));
     print_goal("from r = 128 to r = 1,024, 12 to 49 %, time", 12.0, growth(measured, 1));
 }

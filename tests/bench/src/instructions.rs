@@ -2,9 +2,9 @@
 
 use std::collections::BTreeMap;
 
-use crate::cases::{numbered, CASES};
+use crate::cases::{input_of, numbered, CASES, PLACES, STATION};
 use crate::partners::{symbol, Call, PARTNERS};
-use crate::timing::{change, others};
+use crate::timing::{bulk_load, change, others};
 use crate::trails::{self, shortest_and_typical};
 
 /// Prints what is to be counted, a line each: case, partner, call, and the symbol to watch. The twins have one lookup, so it is counted once, and no trail.
@@ -26,8 +26,9 @@ fn partner_named(name: &str) -> usize {
     who.unwrap_or_else(|| panic!("no such partner: {name}"))
 }
 
-/// One call on the first board of a case (lookup: of each of its keys and as many others). The words come from the reference, so that no other call of the partner
-/// runs.
+/// One call on the first board of a case (lookup: of each of its keys and as many others; bulk load: of the set that an
+/// insert leads to). The words come from the reference, so that no other call of the partner runs, and so does what an
+/// insert and a bulk load must leave.
 pub fn one(case: &str, partner: &str, call: &str) {
     let case = numbered(case.parse().expect("the number of a case"), 1);
     if let Some(key) = trails::key_named(call) {
@@ -37,17 +38,29 @@ pub fn one(case: &str, partner: &str, call: &str) {
     let (board, book) = (&case.boards[0], &case.tabulation);
     let mut words = board.words.clone();
     let mut scratch = case.scratch();
-    let answer = if call == Call::Lookup {
-        let (mut listed, mut tier) = (0, 0);
-        let asked = board.keys().into_iter().chain(others(board));
-        let lookup = |key: u32| (partner.lookup)(book, &words, key, &mut listed, &mut tier);
-        asked.map(lookup).max().unwrap_or(0)
-    } else {
-        let middle = board.members[board.members.len() / 2];
-        let member = if call == Call::Insert { board.extra } else { middle };
-        change(partner, call, book, member, &mut words, &mut scratch)
+    let answer = match call {
+        Call::Lookup => {
+            let (mut listed, mut tier) = (0, 0);
+            let asked = board.keys().into_iter().chain(others(board));
+            let lookup = |key: u32| (partner.lookup)(book, &words, key, &mut listed, &mut tier);
+            asked.map(lookup).max().unwrap_or(0)
+        }
+        Call::BulkLoad => {
+            let input = input_of(&board.with_extra());
+            bulk_load(partner, book, &input, &mut words, &mut scratch)
+        }
+        _ => {
+            let middle = board.members[board.members.len() / 2];
+            let member = if call == Call::Insert { board.extra } else { middle };
+            change(partner, call, book, member, &mut words, &mut scratch)
+        }
     };
     assert_eq!(answer, 0);
+    if matches!(call, Call::Insert | Call::BulkLoad) {
+        let set = board.with_extra();
+        let image = reference::fast::image(book, case.r, PLACES, STATION, &set);
+        assert!(Some(words) == image, "{} does not lead to the set", call.name());
+    }
 }
 
 /// What was counted.
@@ -88,5 +101,10 @@ impl Instructions {
     /// Those of the library to those of another partner.
     pub fn ratio(&self, case: usize, partner: usize, call: Call) -> f64 {
         self.of(case, 0, call) as f64 / self.of(case, partner, call) as f64
+    }
+
+    /// Those of a bulk load by the library to those of an insert that leads to the same set.
+    pub fn bulk_load_to_insert(&self, case: usize) -> f64 {
+        self.of(case, 0, Call::BulkLoad) as f64 / self.of(case, 0, Call::Insert) as f64
     }
 }

@@ -1,13 +1,14 @@
-//! Issues of one first part: every partner must refuse another issue of a listed key (13), and words in which two
-//! issues stand (4), however neatly they are seated.
+//! Issues of one first part: every partner must refuse another issue of a listed key, and an input with two issues of
+//! one (13), and words in which two issues stand (4), however neatly they are seated. And a bulk load must lead to the
+//! words that an insert leads to.
 
 use reference::hash::TABULATION_LEN;
 use reference::set::Member;
 
-use crate::cases::{numbered, CASES};
+use crate::cases::{input_of, numbered, Board, CASES};
 use crate::common::{first_part, HEADER, SLOT};
-use crate::partners::{Call, PARTNERS};
-use crate::timing::{change, CHANGES};
+use crate::partners::{Call, Partner, PARTNERS};
+use crate::timing::{bulk_load, change, CHANGES};
 
 /// Where the number of keys stands in the words.
 const KEY_COUNT: usize = 2;
@@ -39,19 +40,47 @@ pub fn seat_beside(words: &mut [u32], second: impl Fn(u32) -> u32) -> bool {
     true
 }
 
-/// Every partner gives this answer to a call, leaves the same words (refused, those that it was lent), and clears its
-/// scratch.
-fn all_give(answer: u32, tabulation: &[u16], words: &[u32], call: Call, member: Member) {
+/// Every partner gives this answer to what is asked, leaves the same words (refused, those that it was lent), and
+/// clears its scratch. The words that are left.
+fn all_answer(
+    answer: u32,
+    words: &[u32],
+    what: &str,
+    ask: impl Fn(&Partner, &mut [u32], &mut [u32]) -> u32,
+) -> Vec<u32> {
     let left = PARTNERS.each_ref().map(|partner| {
         let mut left = words.to_vec();
         let mut scratch = vec![u32::MAX; library::scratch_length(words[0], words[1])];
-        let given = change(partner, call, tabulation, member, &mut left, &mut scratch);
-        assert_eq!(given, answer, "{} of {member:?} by {}", call.name(), partner.name);
+        let given = ask(partner, &mut left, &mut scratch);
+        assert_eq!(given, answer, "{what} by {}", partner.name);
         assert!(scratch.iter().all(|word| *word == 0), "scratch is not zero: {}", partner.name);
         left
     });
     let wanted = if answer == 0 { &left[0] } else { words };
-    assert!(left.iter().all(|left| left == wanted), "words of {} of {member:?}", call.name());
+    assert!(left.iter().all(|left| left == wanted), "words of {what}");
+    wanted.to_vec()
+}
+
+/// To a call on one key, or on none.
+fn all_give(
+    answer: u32,
+    tabulation: &[u16],
+    words: &[u32],
+    call: Call,
+    member: Member,
+) -> Vec<u32> {
+    let what = format!("{} of {member:?}", call.name());
+    all_answer(answer, words, &what, |partner, words, scratch| {
+        change(partner, call, tabulation, member, words, scratch)
+    })
+}
+
+/// To a bulk load.
+fn all_load(answer: u32, tabulation: &[u16], words: &[u32], members: &[Member]) -> Vec<u32> {
+    let input = input_of(members);
+    all_answer(answer, words, "a bulk load", |partner, words, scratch| {
+        bulk_load(partner, tabulation, &input, words, scratch)
+    })
 }
 
 /// Words written by hand, of a lone key or of two that share their slots. Each list that is refused has one beside it
@@ -72,6 +101,21 @@ fn by_hand() {
     for (key, answer) in [(9, 5), (119, 0), (120, 10), (121, 13), (129, 13), (130, 0)] {
         all_give(answer, &book, &lone(120), Call::Insert, (key, 0));
     }
+    for (keys, answer) in [([119, 120], 0), ([120, 120], 14), ([120, 129], 13), ([120, 130], 0)] {
+        all_load(answer, &book, &lone(240), &keys.map(|key| (key, 0)));
+    }
+}
+
+/// A bulk load of the set with the extra key leads to the words that its insert leads to. With another issue of a key
+/// the input is refused.
+fn loads(book: &[u16], board: &Board, other: Member) {
+    let inserted = all_give(0, book, &board.words, Call::Insert, board.extra);
+    let loaded = all_load(0, book, &board.words, &board.with_extra());
+    assert!(loaded == inserted, "a bulk load does not lead to the words of an insert");
+    let mut doubled = board.members.clone();
+    doubled.push(other);
+    doubled.sort_unstable();
+    all_load(13, book, &board.words, &doubled);
 }
 
 /// On the first board of each case, and by hand.
@@ -86,6 +130,7 @@ pub fn run() {
             let other = (another_issue(key), board.extra.1);
             all_give(13, book, &board.words, Call::Insert, other);
             all_give(7, book, &board.words, Call::Remove, other);
+            loads(book, board, other);
             others += 1;
         }
         let mut words = board.words.clone();
@@ -98,4 +143,5 @@ pub fn run() {
     }
     assert!(doubled > 0, "no case has a lone key");
     println!("All partners refuse {others} other issues of listed keys (13), and {doubled} lists with two issues (4).");
+    println!("A bulk load leads to the words of an insert in all {CASES} cases.");
 }

@@ -1,11 +1,13 @@
 //! The benchmark: the library beside two twins in Rust. `tests/bench/run` uses it, in this order: `compare N` has all
 //! partners refuse issues of one first part, and makes N random calls that they must answer alike; `counts` prints what
 //! a build does, in a build with the feature of that name; `wanted` lists the calls whose instructions are to be
-//! counted, trails of the library among them, and `one CASE PARTNER CALL` makes one of them; `tables FILE` takes what
-//! was counted from a file, takes times, and prints the tables; `picture FILE` draws times against keys. For the dearest
-//! calls `worst-wanted` lists what is to be counted, `one SIZE worst NUMBER` makes one of them, and `worst FILE` prints
-//! the most that was counted for each call.
+//! counted, trails of the library among them, and `one CASE PARTNER CALL` makes one of them; `tables FILE BULK` takes
+//! what was counted from files, takes times, and prints the tables; `picture FILE` draws times against keys. For bulk
+//! loads beside inserts `bulk-wanted` lists what is to be counted, into the file BULK, and `one LIST bulk CALL` makes
+//! one of them. For the dearest calls `worst-wanted` lists what is to be counted, `one SIZE worst NUMBER` makes one of
+//! them, and `worst FILE` prints the most that was counted for each call.
 
+mod bulk;
 mod cases;
 mod common;
 mod compare;
@@ -22,6 +24,7 @@ mod timing;
 mod trails;
 mod worst;
 
+use bulk::Counted;
 use instructions::Instructions;
 
 fn main() {
@@ -34,11 +37,13 @@ fn main() {
         }
         ["counts"] => tables::print_counts(),
         ["wanted"] => instructions::print_wanted(),
+        ["bulk-wanted"] => bulk::print_wanted(),
         ["worst-wanted"] => worst::print_wanted(),
         ["worst", file] => worst::print(file),
         ["one", r, worst::NAME, number] => worst::one(r, number),
+        ["one", list, bulk::NAME, way] => bulk::one(list, way),
         ["one", case, partner, call] => instructions::one(case, partner, call),
-        ["tables", file] => tables::print(Instructions::read(file)),
+        ["tables", file, bulk] => tables::print(Instructions::read(file), Counted::read(bulk)),
         ["picture", file] => picture::draw(file),
         _ => panic!("see the top of main.rs"),
     }

@@ -6,6 +6,7 @@ use crate::{common, plain, ranks};
 
 type Insert = fn(&[u16], &mut [u32], &mut [u32], &mut Counters, u32, u32) -> u32;
 type Remove = fn(&[u16], &mut [u32], &mut [u32], &mut Counters, u32) -> u32;
+type BulkLoad = fn(&[u16], &mut [u32], &mut [u32], &mut Counters, [u32; 3], &[u32]) -> u32;
 
 /// The calls of one partner.
 pub struct Partner {
@@ -13,6 +14,8 @@ pub struct Partner {
     pub insert: Insert,
     pub remove: Remove,
     pub check: fn(&[u16], &[u32], &mut [u32]) -> u32,
+    /// With r, s and station, and the input.
+    pub bulk_load: BulkLoad,
     pub lookup: fn(&[u16], &[u32], u32, &mut u32, &mut u32) -> u32,
 }
 
@@ -23,6 +26,7 @@ pub const PARTNERS: [Partner; 3] = [
         insert: library::insert,
         remove: library::remove,
         check: library::check,
+        bulk_load: library::bulk_load,
         lookup: library::lookup,
     },
     Partner {
@@ -30,6 +34,7 @@ pub const PARTNERS: [Partner; 3] = [
         insert: plain::insert,
         remove: plain::remove,
         check: plain::check,
+        bulk_load: plain::bulk_load,
         lookup: common::lookup,
     },
     Partner {
@@ -37,6 +42,7 @@ pub const PARTNERS: [Partner; 3] = [
         insert: ranks::insert,
         remove: ranks::remove,
         check: ranks::check,
+        bulk_load: ranks::bulk_load,
         lookup: common::lookup,
     },
 ];
@@ -47,14 +53,21 @@ pub enum Call {
     Insert,
     Remove,
     Check,
+    BulkLoad,
     Lookup,
 }
 
 impl Call {
-    pub const ALL: [Call; 4] = [Call::Insert, Call::Remove, Call::Check, Call::Lookup];
+    pub const ALL: [Call; 5] =
+        [Call::Insert, Call::Remove, Call::Check, Call::BulkLoad, Call::Lookup];
 
     pub fn name(self) -> &'static str {
-        ["insert", "remove", "check", "lookup"][self as usize]
+        ["insert", "remove", "check", "bulk_load", "lookup"][self as usize]
+    }
+
+    /// Its name in a table.
+    pub fn title(self) -> String {
+        self.name().replace('_', " ")
     }
 
     pub fn named(name: &str) -> Call {

@@ -1,12 +1,13 @@
-//! The plain twin, one of the two partners of the benchmark: insert, remove and check as a Rust engineer would write them without the ranks of `ranks.rs`, with
-//! the same promise as the library (answers, words, scratch and counters of the specification), in lent scratch and
-//! without allocation: collect, sort, look for two issues, build, find the tiers, compare; change, build, find the
-//! tiers, write. A key is hashed wherever its slots are needed. Where std has something faster than plain code, as its
-//! sort, it is used. Every call that is timed is compared with the library's.
+//! The plain twin, one of the two partners of the benchmark: insert, remove, check and bulk load as a Rust engineer
+//! would write them without the ranks of `ranks.rs`, with the same promise as the library (answers, words, scratch and
+//! counters of the specification), in lent scratch and without allocation: collect, sort, look for two issues, build,
+//! find the tiers, compare; change, build, find the tiers, write. A bulk load tests its input, builds, finds the tiers
+//! there, and writes. A key is hashed wherever its slots are needed. Where std has something faster than plain code, as
+//! its sort, it is used. Every call that is timed is compared with the library's.
 
 use crate::common::{
-    columns, early, first_part, is_blank, matches, place_to_insert, place_to_remove, tier_in,
-    write, Hashing, MAX_TIER, PLACE, SLOT,
+    columns, early, first_part, is_blank, keys_of, laid, matches, place_to_insert, place_to_remove,
+    tested, tier_in, write, Hashing, Laid, MAX_TIER, PLACE, SLOT,
 };
 
 /// Scratch in its parts: keys (2r + s), held, next and sets (2r each), stash (s), and the tiers of what is held (2r) and stashed (s).
@@ -236,6 +237,15 @@ fn collect(words: &[u32], r: u32, keys: &mut [u32]) -> usize {
     kept
 }
 
+/// The tier of a key in an input, whose keys rise. Key 0 is none.
+fn given_tier(input: &[u32], key: u32) -> u32 {
+    if key == 0 {
+        return 0;
+    }
+    let (members, _) = input.as_chunks::<2>();
+    members.binary_search_by_key(&key, |member| member[0]).map_or(0, |at| members[at][1])
+}
+
 impl Parts<'_> {
     /// The words of each slot.
     fn slots(&self) -> impl Iterator<Item = [u32; SLOT]> + '_ {
@@ -275,7 +285,8 @@ fn load<'a>(
     }
 }
 
-/// The new set's keys stand at the front of scratch; the new member's tier is given, those of the others stand in the words.
+/// The new set's keys stand at the front of scratch; the new member's tier is given, those of the others stand in the
+/// words.
 fn renew(
     hashing: Hashing,
     words: &mut [u32],
@@ -287,7 +298,7 @@ fn renew(
     let mut build = Build { hashing, parts: &mut parts };
     let stashed = build.build(n).ok_or(8u32)?;
     build.place_tiers(words, new);
-    write(words, [n, stashed], parts.slots(), parts.places());
+    write(words, laid(words), [n, stashed], parts.slots(), parts.places());
     Ok(())
 }
 
@@ -322,4 +333,23 @@ fn check_words(tabulation: &[u16], words: &[u32], scratch: &mut [u32]) -> Result
     load(tabulation, words, scratch).map(|_| ())
 }
 
-crate::calls!("plain_insert", "plain_remove", "plain_check");
+fn bulk_load_words(
+    tabulation: &[u16],
+    words: &mut [u32],
+    scratch: &mut [u32],
+    laid: Laid,
+    input: &[u32],
+) -> Result<(), u32> {
+    let (hashing, n) = tested(tabulation, words, scratch, laid, input)?;
+    let mut parts = split(scratch, laid[0], laid[1]);
+    parts.keys.iter_mut().zip(keys_of(input)).for_each(|(key, given)| *key = given);
+    let stashed = Build { hashing, parts: &mut parts }.build(n).ok_or(8u32)?;
+    let Parts { held, stash, tiers, beside, .. } = &mut parts;
+    for (keys, tiers) in [(held, tiers), (stash, beside)] {
+        tiers.iter_mut().zip(keys.iter()).for_each(|(tier, key)| *tier = given_tier(input, *key));
+    }
+    write(words, laid, [n, stashed], parts.slots(), parts.places());
+    Ok(())
+}
+
+crate::calls!("plain_insert", "plain_remove", "plain_check", "plain_bulk_load");

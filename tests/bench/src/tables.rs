@@ -1,5 +1,6 @@
 //! The tables of docs/BENCHMARKS.md.
 
+use crate::bulk::Counted;
 use crate::cases::{grouped, numbered, Board, Case, CASES, LOADS, SETS, SIZES};
 use crate::goals;
 use crate::instructions::Instructions;
@@ -62,10 +63,37 @@ impl Measured {
         }
     }
 
+    /// Rows of bulk loads: what the library takes, that to its insert into the same set, and that to each twin.
+    fn print_bulk_rows(&self, title: &str, ours: &str, cells: impl Fn(usize) -> [String; 4]) {
+        head(&[title, "keys laid", ours, "to insert", "to plain", "to ranks"]);
+        for (number, case) in self.cases.iter().enumerate() {
+            let name = [case.name(), grouped(case.keys() as u64 + 1)];
+            row(name.into_iter().chain(cells(number)));
+        }
+    }
+
+    fn print_bulk_instructions(&self) {
+        self.print_bulk_rows("instructions", "bulk load", |case| {
+            let call = Call::BulkLoad;
+            let ratio = |who: usize| format!("{:.2}", self.instructions.ratio(case, who, call));
+            let to_insert = format!("{:.2}", self.instructions.bulk_load_to_insert(case));
+            [grouped(self.instructions.of(case, 0, call)), to_insert, ratio(1), ratio(2)]
+        });
+    }
+
+    fn print_bulk_times(&self) {
+        self.print_bulk_rows("time", "bulk load µs", |case| {
+            let Changes { nanoseconds: [ours, ..], ratios } = &self.changes[case];
+            let [insert, load] = [Call::Insert, Call::BulkLoad].map(|call| ours[call as usize]);
+            let ratio = |who: usize| format!("{:.2}", ratios[who][Call::BulkLoad as usize]);
+            let to_insert = format!("{:.2}", load / insert);
+            [format!("{:.1}", load / 1_000.0), to_insert, ratio(1), ratio(2)]
+        });
+    }
+
     /// What a trail takes beside a check of the same words.
     fn print_trails(&self) {
-        let columns =
-            "instructions|keys|check|shortest trail|its keys|typical trail|its keys";
+        let columns = "instructions|keys|check|shortest trail|its keys|typical trail|its keys";
         head(&columns.split('|').collect::<Vec<_>>());
         for (number, case) in self.cases.iter().enumerate() {
             let check = grouped(self.instructions.of(number, 0, Call::Check));
@@ -118,14 +146,17 @@ impl Measured {
 }
 
 /// Measures the times, and prints all tables.
-pub fn print(instructions: Instructions) {
+pub fn print(instructions: Instructions, bulk: Counted) {
     let cases: Vec<Case> = (0..CASES).map(|number| numbered(number, SETS)).collect();
     let times = cases.iter().map(|case| changes(case, ROUNDS)).collect();
     let lookups = cases.iter().map(|case| both_lookups(case, 20 * ROUNDS)).collect();
     let measured = Measured { cases, instructions, changes: times, lookups };
     measured.print_instructions();
+    measured.print_bulk_instructions();
+    bulk.print();
     measured.print_trails();
     measured.print_times();
+    measured.print_bulk_times();
     measured.print_growth();
     goals::print(&measured);
 }
@@ -146,7 +177,8 @@ fn tallies(case: &Case) -> Vec<Tally> {
 /// 2,048 slots. The moves while linking are at most n log2 n ("Two-way chaining with reassignment"): a rank moves when its set is the smaller one of two.
 pub fn print_counts() {
     assert!(cfg!(feature = "counts"), "this build does not count");
-    let columns = "counts|keys n|n log2 n|steps|linking|most steps|longest way|moves|linking|most moves";
+    let columns =
+        "counts|keys n|n log2 n|steps|linking|most steps|longest way|moves|linking|most moves";
     head(&columns.split('|').collect::<Vec<_>>());
     for case in (0..CASES).map(|number| numbered(number, SETS)) {
         let tallies = tallies(&case);

@@ -7,25 +7,29 @@ use std::time::Instant;
 use library::Counters;
 use reference::set::Member;
 
-use crate::cases::{Board, Case};
-use crate::common::is_blank;
+use crate::cases::{input_of, Board, Case};
+use crate::common::{is_blank, laid};
 use crate::partners::{Call, Partner, PARTNERS};
 
 /// How many turns each board of a row has in a table.
 pub const ROUNDS: usize = 100;
 
-/// The calls that work through the whole list.
+/// The calls that read the whole list.
 pub const CHANGES: [Call; 3] = [Call::Insert, Call::Remove, Call::Check];
 
-/// What is found of insert, remove and check on a case: each partner's nanoseconds, of each board the shortest, and the mean over the boards; and the library's time
-/// to each twin's, the median over all turns in which their calls followed each other at once, so that a processor that changes its speed does not change the ratio.
+/// The calls that build one, in the order in which a round makes them.
+pub const TIMED: [Call; 4] = [Call::Insert, Call::BulkLoad, Call::Remove, Call::Check];
+
+/// What is found of these calls on a case, by the number of the call: each partner's nanoseconds, of each board the
+/// shortest, and the mean over the boards; and the library's time to each twin's, the median over all turns in which
+/// their calls followed each other at once, so that a processor that changes its speed does not change the ratio.
 pub struct Changes {
-    pub nanoseconds: [[f64; CHANGES.len()]; PARTNERS.len()],
-    pub ratios: [[f64; CHANGES.len()]; PARTNERS.len()],
+    pub nanoseconds: [[f64; TIMED.len()]; PARTNERS.len()],
+    pub ratios: [[f64; TIMED.len()]; PARTNERS.len()],
 }
 
 /// The time of a call, in nanoseconds. The call must be accepted.
-fn time(call: impl FnOnce() -> u32) -> f64 {
+pub fn time(call: impl FnOnce() -> u32) -> f64 {
     let start = Instant::now();
     let answer = call();
     let time = start.elapsed().as_nanos() as f64;
@@ -60,24 +64,43 @@ pub fn change(
     }
 }
 
-/// In each round the extra key goes into every board, then out of every board, then every board is checked. The boards are taken in turn for each call, so that
-/// a call does not find what the one before it did with the same set; on each board the partners follow each other, in turn each of them first.
+/// A bulk load of a partner over words, with the r, s and station that they have.
+pub fn bulk_load(
+    partner: &Partner,
+    tabulation: &[u16],
+    input: &[u32],
+    words: &mut [u32],
+    scratch: &mut [u32],
+) -> u32 {
+    let laid = laid(words);
+    (partner.bulk_load)(tabulation, words, scratch, &mut Counters::default(), laid, input)
+}
+
+/// In each round the extra key goes into every board, then the set with it is laid by a bulk load, then the key goes
+/// out of every board, then every board is checked. The boards are taken in turn for each call, so that a call does not
+/// find what the one before it did with the same set; on each board the partners follow each other, in turn each of
+/// them first.
 pub fn changes(case: &Case, rounds: usize) -> Changes {
     let mut scratch = case.scratch();
     let words: Vec<Vec<u32>> = case.boards.iter().map(|board| board.words.clone()).collect();
     let mut words = PARTNERS.map(|_| words.clone());
-    let mut best = vec![[[f64::MAX; CHANGES.len()]; PARTNERS.len()]; case.boards.len()];
-    let mut ratios = [const { [const { Vec::new() }; CHANGES.len()] }; PARTNERS.len()];
+    let inputs: Vec<Vec<u32>> =
+        case.boards.iter().map(|board| input_of(&board.with_extra())).collect();
+    let mut best = vec![[[f64::MAX; TIMED.len()]; PARTNERS.len()]; case.boards.len()];
+    let mut ratios = [const { [const { Vec::new() }; TIMED.len()] }; PARTNERS.len()];
     for round in 0..rounds {
-        for (number, call) in CHANGES.into_iter().enumerate() {
+        for call in TIMED {
+            let number = call as usize;
             for (i, board) in case.boards.iter().enumerate() {
                 let mut times = [0.0; PARTNERS.len()];
                 for turn in 0..PARTNERS.len() {
                     let who = (round + turn) % PARTNERS.len();
                     let (words, book) = (&mut words[who][i], &case.tabulation);
                     let partner = &PARTNERS[who];
-                    times[who] =
-                        time(|| change(partner, call, book, board.extra, words, &mut scratch));
+                    times[who] = time(|| match call {
+                        Call::BulkLoad => bulk_load(partner, book, &inputs[i], words, &mut scratch),
+                        _ => change(partner, call, book, board.extra, words, &mut scratch),
+                    });
                 }
                 let same = words.iter().all(|theirs| theirs[i] == words[0][i]);
                 assert!(same, "the partners differ: {}", case.name());
@@ -90,7 +113,7 @@ pub fn changes(case: &Case, rounds: usize) -> Changes {
     }
     let shortest = |who: usize, number: usize| mean(best.iter().map(|best| best[who][number]));
     Changes {
-        nanoseconds: [0, 1, 2].map(|who| [0, 1, 2].map(|number| shortest(who, number))),
+        nanoseconds: [0, 1, 2].map(|who| [0, 1, 2, 3].map(|number| shortest(who, number))),
         ratios: ratios.map(|ratios| ratios.map(median)),
     }
 }

@@ -61,11 +61,24 @@ const fn on(kind: Kind, call: Call, answer: u32, text: &'static str) -> Candidat
 /// 825, and with a full stash 860; of a stashed key 930. A lookup, of 549: a key in table 1 101. A sale, of 617: 4 or 7
 /// where the whole stash is searched 563, 7 else 238. The stash view refused with 4: 26, of 28. Not counted, by the
 /// code: 1, 2 and 3, which come before the list is read, and 5, 9, 10 and 6 of the calls with scratch, which come after
-/// that and before a second build, as 13 and 7 do.
+/// that and before a second build, as 13 and 7 do. Of a bulk load 5, 9, 14 and 13 come before a build, and take as long
+/// as its input is, as 8 does of more keys than there are slots and places: here it has 2r + 65 keys at most.
 #[rustfmt::skip]
 const ROWS: &[Row] = &[
     Row { name: "init", candidates: &[
         on(Kind::Full, Call::Init, 0, "every accepted call"),
+    ] },
+    Row { name: "bulk load, accepted", candidates: &[
+        on(Kind::Full, Call::BulkLoad, 0, "cycle through all slots, stash full"),
+        on(Kind::Halves, Call::BulkLoad, 0, "the same, joined by halves"),
+        on(Kind::Pendant, Call::BulkLoad, 0, "cycle but one, the smallest key in the last slot"),
+        on(Kind::Of(Load::Moves), Call::BulkLoadMore, 0, "`moves`"),
+        on(Kind::Of(Load::Full), Call::BulkLoadMore, 0, "`full`"),
+        on(Kind::Of(Load::OnePlace), Call::BulkLoadMore, 0, "`one place`"),
+    ] },
+    Row { name: "bulk load, refused", candidates: &[
+        on(Kind::NoRoom, Call::BulkLoadMore, 8, "8, cycle but one, the smallest key in the cycle"),
+        on(Kind::Full, Call::BulkLoadMore, 8, "8, a key more than slots and places"),
     ] },
     Row { name: "insert, accepted", candidates: &[
         on(Kind::PendantComes, Call::Insert(Key::Extra), 0,
@@ -177,8 +190,7 @@ fn read(path: &str) -> BTreeMap<(u32, usize), u64> {
 pub fn print(path: &str) {
     let counts = read(path);
     let sizes = SIZES.map(|r| format!("r = {}", grouped(r)));
-    let title =
-        format!("call, s = {PLACES}");
+    let title = format!("call, s = {PLACES}");
     let case = format!("where, at {}", sizes[SIZES.len() - 1]);
     head(&[&title, &sizes[0], &sizes[1], &sizes[2], &sizes[3], &case]);
     let mut first = 0;

@@ -22,7 +22,7 @@ use crate::set::{set, Member, MAX_TIER};
 /// the target's r, s, station and length, and 3; then 5, 9, 14 and 13 (between input cards), each
 /// over the whole input, a lone last word being a card; then 8." As for init, what the words held
 /// before has no say. The scratch "is zero over its full length after every call that borrows it".
-// As insert, and what init is given.
+// What insert borrows and what init is given come together here.
 #[allow(clippy::too_many_arguments)]
 pub fn bulk_load(
     engine: &impl Engine,

@@ -3,9 +3,10 @@
 
 use library::{Counters, Sale};
 use reference::hash::{hashes, TABULATION_LEN};
+use reference::set::Member;
 
 use super::lists::List;
-use crate::cases::{PLACES, STATION};
+use crate::cases::{input_of, PLACES, STATION};
 use crate::common::{HEADER, SLOT};
 
 /// A key to ask for.
@@ -47,6 +48,10 @@ impl Key {
 #[derive(Clone, Copy)]
 pub enum Call {
     Init,
+    /// Of the keys of the list.
+    BulkLoad,
+    /// Of these and the extra one.
+    BulkLoadMore,
     Insert(Key),
     Remove(Key),
     Check,
@@ -80,11 +85,21 @@ fn trail(list: &List, scratch: &mut [u32], key: Key, less: usize) -> u32 {
     answer
 }
 
+/// A bulk load over the words of the list.
+fn bulk_load(list: &List, members: &[Member]) -> u32 {
+    let (input, laid) = (input_of(members), [list.r, PLACES, STATION]);
+    let mut words = list.board.words.clone();
+    let mut scratch = vec![u32::MAX; library::scratch_length(list.r, PLACES)];
+    let mut counters = Counters::default();
+    library::bulk_load(&list.tabulation, &mut words, &mut scratch, &mut counters, laid, &input)
+}
+
 impl Call {
     /// The symbol to watch.
     pub fn symbol(self) -> &'static str {
         match self {
             Call::Init => "pinorange_init",
+            Call::BulkLoad | Call::BulkLoadMore => "pinorange_bulk_load",
             Call::Insert(_) => "pinorange_insert",
             Call::Remove(_) => "pinorange_remove",
             Call::Check => "pinorange_check",
@@ -107,6 +122,8 @@ impl Call {
         let mut sale = Sale { key: 0, tier: 0, price: 1_749 };
         match self {
             Call::Init => library::init(&mut words, r, PLACES, STATION, &mut counters),
+            Call::BulkLoad => bulk_load(list, &list.board.members),
+            Call::BulkLoadMore => bulk_load(list, &list.board.with_extra()),
             Call::Insert(key) => {
                 let (key, tier) = (key.of(list), list.board.extra.1);
                 library::insert(book, &mut words, &mut scratch, &mut counters, key, tier)

@@ -265,9 +265,10 @@ fn too_many_keys_are_8_at_any_length() {
             assert_eq!(loaded, Err(Refusal::FullStash), "r {r}, s {s}, {count}");
         }
     }
-    for count in [2_113, 20_000] {
-        let loaded = load(&HOUSE, 1_024, 64, 3, &input(&counted_members(count)));
-        assert_eq!(loaded, Err(Refusal::FullStash), "{count}");
+    let mut largest = Harness::new(&Fast, &HOUSE, 1_024, 64, 3);
+    for count in [2_113, 20_000, 200_000] {
+        let answer = largest.bulk_load(1_024, 64, 3, &input(&counted_members(count)));
+        assert_eq!(answer, Err(Refusal::FullStash), "{count}");
     }
     assert_eq!(answer_on_board(&input(&K5)), 0);
     assert_eq!(answer_on_board(&input(&K6)), 8, "four keys for eight slots");
