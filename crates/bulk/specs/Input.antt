@@ -3,15 +3,15 @@
 use Prim.Native.Nat.{ℕ, zero, suc, _+_, _*_, _/_, _%_, _≤_, _<_}
 use mathlib.Core.Path.{_≡_, refl, sym, _∙_, ap}
 use mathlib.Core.Bool.{Bool, true, false, not, _&&_, _||_, true≢false}
-use mathlib.Core.Logic.{inl, inr, _↔_}
+use mathlib.Core.Logic.{_↔_}
 use mathlib.Core.List.{List, [], _∷_, List·Memᴰ as In, List·Memᴰ·head as here, List·Memᴰ·tail as there}
 use native.Mathlib.Numerals.{add-one}
 use native.Mathlib.Omega.{arith}
-use borrow.Author.Tests.{eqb-true, eq-eqb, ne-eqb, ltb-true, ltb-false, lt-ltb, le-ltb, not-false}
-use lib.Dec.{eqb, ltb}
+use borrow.Author.Tests.{eq-eqb, ne-eqb, ltb-false, lt-ltb, le-ltb, not-false}
+use lib.Dec.{ltb}
 use lib.ListN.{length, getD, drop}
 use lib.Seq.{drop-cons, drop-length}
-use Rattle.basics.specs.Tests.{test, and-true, or-false}
+use Rattle.basics.specs.Tests.{or-false}
 use Rattle.basics.specs.Sets.{any, any-false, false-any, Asc, none, some}
 use Rattle.basics.specs.Lists.{getD-in, rises, rises-asc, asc-rises}
 use Rattle.refusals.specs.Refusal.{None, and}
@@ -19,7 +19,7 @@ use Rattle.refusals.specs.Refusal as Refusal
 use Rattle.hashing.specs.Hash.{blank}
 use Rattle.hashing.specs.Issues.{not-blank-iff}
 use Rattle.layout.specs.Entries.{Entry, max-tier, keys-of, tier-of}
-use Rattle.layout.specs.Layout.{ValidKeys, ValidSet, OneIssue, one-issue}
+use Rattle.layout.specs.Layout.{ValidKeys, ValidSet, OneIssue}
 use Rattle.layout.specs.Issues.{one-issue-iff}
 use Rattle.bulk.specs.Bulk.{input-keys, input-tiers, input-set, odd-length, rising, input-refusals}
 

@@ -3,7 +3,7 @@
 -- gives, and 8 means that no placement of the set exists. Assumes nothing.
 use Prim.Native.Nat.{ℕ, _+_, _*_, _≤_, _<_}
 use mathlib.Core.Path.{_≡_, refl, sym, _∙_, ap}
-use mathlib.Core.Bool.{Bool, true, false, not, cond, _&&_, _||_, true≢false}
+use mathlib.Core.Bool.{Bool, true, false, not, cond, _&&_, _||_}
 use mathlib.Core.Logic.{inl, inr, _↔_}
 use mathlib.Core.List.{List, [], _∷_, _++_, List·Memᴰ as In}
 use native.Mathlib.Omega.{arith}
@@ -11,27 +11,26 @@ use borrow.Author.Tests.{eqb-true, eq-eqb, ne-eqb, ltb-false, le-ltb, not-false}
 use lib.Dec.{eqb, ltb}
 use lib.ListN.{length, replicate}
 use Rattle.basics.specs.Tests.{test}
-use Rattle.basics.specs.Sets.{any, true-any}
-use Rattle.refusals.specs.Refusal.{done, wrong-tabulation, wrong-shape, short-scratch, blank-key, stash-full, wrong-tier}
+use Rattle.basics.specs.Sets.{any}
+use Rattle.refusals.specs.Refusal.{done, blank-key, stash-full, wrong-tier}
 use Rattle.refusals.specs.Refusal.{other-issue, not-rising, first-refusal, None, none, and, first-refusal-in}
-use Rattle.refusals.specs.Refusal.{front-applies, front-passes, front-none}
+use Rattle.refusals.specs.Refusal.{front-applies, front-passes, front-none, last-turned}
 use Rattle.cuckoo.specs.Placement.{Placement}
 use Rattle.cuckoo.specs.Rising.{rising-stash, rising-stashes}
 use Rattle.hashing.specs.Hash.{tabulation-length, blank}
 use Rattle.hashing.specs.Slots.{slot-0, slot-1}
-use Rattle.layout.specs.Entries.{Entry, max-tier, keys-of, tier-of}
-use Rattle.layout.specs.Layout.{Params, ValidKeys, ValidSet, family, params-in-range, words-length, scratch-length}
-use Rattle.layout.specs.Layout.{fits, image, place-words, stash-of}
+use Rattle.layout.specs.Entries.{Entry, max-tier, tier-of}
+use Rattle.layout.specs.Layout.{Params, one-issue, family, params-in-range, words-length, scratch-length}
+use Rattle.layout.specs.Layout.{fits, image, place-words}
 use Rattle.layout.specs.Shape.{ranged}
 use Rattle.layout.specs.Fresh.{target-sizes}
-use Rattle.layout.specs.Fitting.{full-placement, fits-length}
+use Rattle.layout.specs.Fitting.{full-answer, crowded-unfit}
 use Rattle.layout.specs.Answers.{lookup-values, view-of}
 use Rattle.layout.specs.Look.{image-view}
-use Rattle.outcome.specs.Outcome.{Outcome}
 use Rattle.outcome.specs.Demands.{Harmless}
 use Rattle.outcome.specs.Held.{Holds, held-entry}
-use Rattle.bulk.specs.Bulk.{input-keys, input-tiers, input-set, odd-length, rising, target-refusals, input-refusals}
-use Rattle.bulk.specs.Bulk.{room-refusals, bulk-refusal, bulk-outcome}
+use Rattle.bulk.specs.Bulk.{input-keys, input-tiers, input-set, odd-length, rising, target-refusals}
+use Rattle.bulk.specs.Bulk.{input-refusals, room-refusals, bulk-refusal, bulk-outcome}
 use Rattle.bulk.specs.Input.{SoundInput, none-sound, sound-none, sound-set, even-keys, input-of, input-of-keys}
 use Rattle.bulk.specs.Input.{input-of-set, input-of-sound}
 
@@ -55,7 +54,8 @@ none-layable P n m (and a (and b (and c none))) =
 
 pub layable-none : (P : Params) (n m : ℕ) → Layable P n m → None (target-refusals P n m)
 layable-none P n m h =
-    let t : (params-in-range (P .slots) (P .places) (P .station) && eqb n (words-length (P .slots) (P .places))) ≡ true =
+    let sized = eqb n (words-length (P .slots) (P .places)) in
+    let t : (params-in-range (P .slots) (P .places) (P .station) && sized) ≡ true =
     rw (h .range) (eq-eqb _ _ (h .size)) in
     and (ap not (eq-eqb _ _ (h .full-length))) (and (ap not t) (and (le-ltb _ _ (h .room)) none))
 
@@ -120,7 +120,9 @@ module _ (P : Params) (input : List ℕ) (n m : ℕ) where
 
     passed : bulk-refusal P input n m ≡ behind
     unfolding bulk-refusal
-    passed = front-passes (target-refusals P n m) (input-refusals input ++ room-refusals P input) (layable-none P n m target)
+    passed =
+        front-passes (target-refusals P n m) (input-refusals input ++ room-refusals P input)
+        (layable-none P n m target)
 
     -- 5, 9, 14 and 13, where one of them applies
     pub bulk-input : (first-refusal (input-refusals input) ≡ done → ⊥)
@@ -139,41 +141,27 @@ module _ (P : Params) (input : List ℕ) (n m : ℕ) where
             → bulk-refusal P input n m ≡ not-rising
         bulk-rising o = passed ∙ (rw (b, t, o))
 
+        pub bulk-issue : (odd-length input || not (rising (input-keys input))) ≡ false
+            → one-issue (input-keys input) ≡ false → bulk-refusal P input n m ≡ other-issue
+        bulk-issue o i = passed ∙ (rw (b, t, o, i))
+
     -- then only 8 is left,
     module _ (sound : SoundInput input) where
       pub bulk-fits : bulk-refusal P input n m ≡ cond (fits P (input-keys input)) done stash-full
       bulk-fits =
           passed ∙ front-passes (input-refusals input) (room-refusals P input) (sound-none input sound)
-          ∙ turned (fits P (input-keys input))
-        where
-          turned : (f : Bool) → cond (not f) stash-full done ≡ cond f done stash-full
-          turned true = refl
-          turned false = refl
+          ∙ last-turned stash-full (fits P (input-keys input))
 
       -- which is given exactly when no placement of the set exists,
       pub bulk-full : (bulk-refusal P input n m ≡ stash-full)
           ↔ (Placement (slot-0 (family P)) (slot-1 (family P)) (P .places) (input-keys input) → ⊥)
-      bulk-full =
-          let F = full-placement P (sound .valid) in (
-            λ e. F .0 (elim (test (fits P (input-keys input))) [
-              | inl f ↦ absurd (let z = rw f at (sym bulk-fits ∙ e) in omega arith)
-              | inr f ↦ f
-            ]),
-            λ h. let f = F .1 h in bulk-fits ∙ (rw f),
-          )
+      bulk-full = full-answer P (sound .valid) bulk-fits
 
       -- and so for more keys than there are slots and places, however many there are.
-      module _ (l : 2 * P .slots + P .places < length (input-keys input)) where
-        pub crowded-unfit : fits P (input-keys input) ≡ false
-        crowded-unfit = elim (test (fits P (input-keys input))) [
-          | inl f ↦
-              let some = ranged (P .slots) (P .places) (P .station) (target .range) .0 .has-slots in
-              absurd (omega (arith, fits-length P (sound .valid .asc) some f))
-          | inr f ↦ f
-        ]
-
-        pub bulk-crowded : bulk-refusal P input n m ≡ stash-full
-        bulk-crowded = bulk-fits ∙ (rw crowded-unfit)
+      pub bulk-crowded : 2 * P .slots + P .places < length (input-keys input) → bulk-refusal P input n m ≡ stash-full
+      bulk-crowded l =
+          let some = ranged (P .slots) (P .places) (P .station) (target .range) .0 .has-slots in
+          bulk-fits ∙ (rw (crowded-unfit P (sound .valid .asc) some (omega arith)))
 
   -- An answer of 0: none of the refusals applies.
   pub bulk-passed : bulk-refusal P input n m ≡ done
@@ -214,8 +202,8 @@ module _ (P : Params) (input ws scratch : List ℕ) (e : bulk-outcome P input ws
 
   -- "the others go to the drawer": the stash view shows the keys that the request's own rule sends there, ascending,
   -- each with its tier.
-  pub bulk-view : view-of us
-      ≡ place-words (tier-of (input-set input)) (rising-stash (slot-0 (family P)) (slot-1 (family P)) (input-keys input))
+  pub bulk-view : view-of us ≡ place-words (tier-of (input-set input))
+      (rising-stash (slot-0 (family P)) (slot-1 (family P)) (input-keys input))
   bulk-view =
       let H = bulk-accepted in
       ap view-of (H .is .is) ∙ image-view P (input-set input) (H .is .fit) (H .range)
@@ -228,7 +216,8 @@ module _ (P : Params) (input ws scratch : List ℕ) (e : bulk-outcome P input ws
 pub bulk-holds : {P : Params} {L : List Entry} {ws : List ℕ} → Holds P L ws → length (P .tabulation) ≡ tabulation-length
     → (target scratch : List ℕ) → length target ≡ words-length (P .slots) (P .places)
     → scratch-length (P .slots) (P .places) ≤ length scratch
-    → (bulk-outcome P (input-of L) target scratch .answer ≡ done) × (bulk-outcome P (input-of L) target scratch .words ≡ ws)
+    → (bulk-outcome P (input-of L) target scratch .answer ≡ done)
+    × (bulk-outcome P (input-of L) target scratch .words ≡ ws)
 bulk-holds {P} {L} {ws} h full-length target scratch size room =
     let Y : Layable P (length target) (length scratch) =
     record { full-length = full-length; range = h .range; size = size; room = room } in

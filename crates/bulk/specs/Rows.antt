@@ -1,14 +1,13 @@
 -- Bulk load at work: every row of document 01's board laid in one call, each card multiplied by ten; and small inputs
 -- with what is refused of them, by computation. Assumes nothing.
 use Prim.Native.Nat.{ℕ, _≤_}
-use mathlib.Core.Path.{_≡_, refl, sym, _∙_}
+use mathlib.Core.Path.{_≡_, sym, _∙_}
 use mathlib.Core.Bool.{Bool, true, _&&_}
 use mathlib.Core.List.{List, [], _∷_, List·Memᴰ as In}
 use lib.Dec.{T, eqb}
 use lib.ListN.{length}
 use Rattle.refusals.specs.Refusal.{done, stash-full, first-refusal}
 use Rattle.hashing.specs.Hash.{blank}
-use Rattle.layout.specs.Entries.{Entry}
 use Rattle.layout.specs.Layout.{another-issue, one-issue, params-in-range, words-length, scratch-length}
 use Rattle.layout.specs.Board.{Row, RowHolds, rows, board, board-length, board-rows}
 use Rattle.outcome.specs.Held.{Holds}

@@ -1,14 +1,12 @@
 -- The set that an input is, brought to scratch: its keys, then their edges. And from there to the outcome, by what the
 -- tests told and by what is committed. Assumes nothing.
-use Prim.Native.Nat.{ℕ, _+_, _*_, _/_, _≤_, _<_}
+use Prim.Native.Nat.{ℕ, _+_, _*_, _≤_, _<_}
 use mathlib.Core.Path.{_≡_, refl, sym, _∙_, ap}
-use mathlib.Core.Bool.{Bool, true, false, not, cond, _&&_, _||_}
+use mathlib.Core.Bool.{Bool}
 use mathlib.Core.Logic.{inl, inr}
 use mathlib.Core.List.{List, [], _∷_, _++_}
 use native.Mathlib.Omega.{arith}
-use borrow.Author.Tests.{ne-eqb}
-use lib.Dec.{eqb, ltb}
-use lib.ListN.{length, getD, set, take, drop}
+use lib.ListN.{length, getD, set, take}
 use lib.Seq.{paste, take-add}
 use Rattle.basics.specs.Tests.{test}
 use Rattle.basics.specs.Lists.{getD-in}
@@ -16,20 +14,21 @@ use Rattle.basics.specs.Parts.{pasted-front, pasted-all}
 use Rattle.refusals.specs.Refusal.{done, stash-full, first-refusal, front-none}
 use Rattle.hashing.specs.Hash.{Hashing, tables}
 use Rattle.layout.specs.declared.Header.{Header}
-use Rattle.layout.specs.Entries.{Entry, max-tier, keys-of, tier-of, tiered, tiered-self}
-use Rattle.layout.specs.Layout.{Params, family, with-keys, fits, image}
+use Rattle.layout.specs.Entries.{max-tier, tier-of, tiered, tiered-self}
+use Rattle.layout.specs.Layout.{Params, with-keys, fits}
 use Rattle.layout.specs.Answers.{fresh-header}
 use Rattle.layout.specs.Shape.{Sized, ranged}
+use Rattle.layout.specs.Fitting.{crowded-unfit}
 use Rattle.build.specs.Scratch.{edges-at, used}
 use Rattle.scratch_set.specs.Edges.{edge-with, edge-of, Lined, EdgesTo, edges-start, edges-turn, edges-lined}
 use Rattle.scratch_set.specs.Edges.{lined-buildable}
 use Rattle.gateway.specs.Committing.{new-answer, new-words, Committable, Committed}
-use Rattle.outcome.specs.Outcome.{Outcome}
 use Rattle.bulk.specs.Bulk.{params-for, input-keys, input-tiers, input-set, target-refusals}
 use Rattle.bulk.specs.Bulk.{input-refusals, bulk-refusal, bulk-outcome}
-use Rattle.bulk.specs.Input.{SoundInput, none-sound, even-size, even-keys, tier-count, input-key, input-tier, tier-given}
-use Rattle.bulk.specs.Laws.{Layable, none-layable, bulk-answer, bulk-refused, bulk-target, bulk-input, bulk-fits, crowded-unfit}
-use Rattle.bulk.specs.Laws.{bulk-done}
+use Rattle.bulk.specs.Input.{SoundInput, none-sound, even-size, even-keys, tier-count, input-key, input-tier}
+use Rattle.bulk.specs.Input.{tier-given}
+use Rattle.bulk.specs.Laws.{Layable, none-layable, bulk-answer, bulk-done, bulk-refused, bulk-target, bulk-input}
+use Rattle.bulk.specs.Laws.{bulk-fits}
 
 -- the input can be brought to scratch
 pub record Fillable (tabulation input scratch : List ℕ) (r s station n : ℕ) : Type 0 where
@@ -61,13 +60,15 @@ pub keys-brought : (K before after : List ℕ) {n : ℕ} → after ≡ paste bef
 keys-brought K before after {n} T e l z =
     let a : n + 1 ≡ 1 + n = omega arith in
     rw (a, take-add 1 n after, pasted-all before 1 K n T (omega arith) (omega arith) e)
-    (ap (λ (xs : List ℕ). xs ++ K) (pasted-front before 1 K n T (omega arith) (omega arith) 1 (omega arith) ∙ word-0 before l z))
+    (ap (λ (xs : List ℕ). xs ++ K)
+    (pasted-front before 1 K n T (omega arith) (omega arith) 1 (omega arith) ∙ word-0 before l z))
   where
     word-0 : (xs : List ℕ) → n < length xs → getD xs 0 0 ≡ 0 → take 1 xs ≡ 0 ∷ []
     word-0 [] m q = absurd (omega arith)
     word-0 (x ∷ xs) m q = rw q
 
-module _ {tabulation input scratch : List ℕ} {r s station n : ℕ} (h : Fillable tabulation input scratch r s station n) where
+module _ {tabulation input scratch : List ℕ} {r s station n : ℕ}
+    (h : Fillable tabulation input scratch r s station n) where
   pub fill-size : length input ≡ 2 * n
   fill-size = omega (arith, h .count, even-size input (h .sound .even))
 
@@ -110,7 +111,7 @@ module _ {tabulation input : List ℕ} (ws scratch : List ℕ) {r s station : �
 
   pub load-crowded : 2 * r + s < length K → (stash-full ≡ new-answer P K) × (ws ≡ new-words P (input-set input) ws)
   load-crowded l =
-      let f = crowded-unfit P input (length ws) (length scratch) Y S l in
+      let f = crowded-unfit P (S .valid .asc) (load-sized .0 .has-slots) (omega arith) in
       (rw f, rw (even-keys input (S .even), f))
 
   pub load-fillable : {n : ℕ} → n ≡ length K → n ≤ 2 * r + s → Fillable tabulation input scratch r s station n
@@ -130,7 +131,8 @@ module _ {tabulation input : List ℕ} (ws scratch : List ℕ) {r s station : �
 
   -- its set stands in scratch, and is committed under the heading of a fresh list with its number of keys
   module _ {n : ℕ} (e : n ≡ length K) (l : n ≤ 2 * r + s) {mid : List ℕ} (same : length mid ≡ length scratch)
-      (D : InputLined tabulation r s station input mid) {h : Header} (q : h ≡ with-keys (fresh-header r s station) n) where
+      (D : InputLined tabulation r s station input mid) {h : Header}
+      (q : h ≡ with-keys (fresh-header r s station) n) where
     pub load-committable : Committable h ws mid
     load-committable = rw (q, e) (record {
       sizes = load-sized .0;
@@ -155,7 +157,8 @@ module _ (P : Params) (input ws scratch : List ℕ) where
   abbrev tests : List (ℕ × Bool)
   tests = target-refusals P (length ws) (length scratch)
 
-  refused : {n : ℕ} → n ≡ bulk-refusal P input (length ws) (length scratch) → (n ≡ 0 → ⊥) → BulkLoaded P input ws scratch n ws
+  refused : {n : ℕ} → n ≡ bulk-refusal P input (length ws) (length scratch) → (n ≡ 0 → ⊥)
+      → BulkLoaded P input ws scratch n ws
   refused e z =
       let a = e ∙ sym (bulk-answer P input ws scratch) in
       (a, sym (bulk-refused P input ws scratch (λ q. z (a ∙ q))))
@@ -168,15 +171,16 @@ module _ (P : Params) (input ws scratch : List ℕ) where
   early-layable e z = none-layable P (length ws) (length scratch) (front-none tests [] (sym e ∙ z) refl)
 
   -- 5, 9, 14 or 13;
-  pub loaded-input : {m n : ℕ} → m ≡ first-refusal tests → m ≡ 0 → n ≡ first-refusal (input-refusals input) → (n ≡ 0 → ⊥)
-      → BulkLoaded P input ws scratch n ws
+  pub loaded-input : {m n : ℕ} → m ≡ first-refusal tests → m ≡ 0
+      → n ≡ first-refusal (input-refusals input) → (n ≡ 0 → ⊥) → BulkLoaded P input ws scratch n ws
   loaded-input d y e z =
       refused (e ∙ sym (bulk-input P input (length ws) (length scratch) (early-layable d y) (λ q. z (e ∙ q)))) z
 
   -- 8, or the image.
   pub loaded-set : {l m n : ℕ} {us : List ℕ} → l ≡ first-refusal tests → l ≡ 0
       → m ≡ first-refusal (input-refusals input) → m ≡ 0
-      → (n ≡ new-answer P (input-keys input)) × (us ≡ new-words P (input-set input) ws) → BulkLoaded P input ws scratch n us
+      → (n ≡ new-answer P (input-keys input)) × (us ≡ new-words P (input-set input) ws)
+      → BulkLoaded P input ws scratch n us
   loaded-set {n = n} {us} d y e z h =
       let S = input-sound input e z in
       let a = bulk-answer P input ws scratch

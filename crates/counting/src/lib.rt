@@ -1,5 +1,5 @@
-// Init, bulk load, insert and remove with the counters, by value: counts in and counts out, for callers that hold them so. The
-// calls that hold the counters by reference are in `pinorange`.
+// Init, bulk load, insert and remove with the counters, by value: counts in and counts out, for callers that hold them
+// so. The calls that hold the counters by reference are in `pinorange`.
 ghost use mathlib.Core.Path.{_≡_};
 ghost use lib.ListN.{length};
 ghost use Rattle.counters.specs.Counters.{counted};

@@ -1,8 +1,8 @@
 -- Head office's rule (document 02, "Seven") on an ascending list of keys, as definitions that compute; and the theorem
 -- that it seats and stashes what document 01's rule does, which takes the largest away: both are Kruskal's algorithm.
 -- Assumes nothing.
-use Prim.Native.Nat.{ℕ, _≤_}
-use mathlib.Core.Path.{_≡_, refl, sym, _∙_, ap}
+use Prim.Native.Nat.{ℕ}
+use mathlib.Core.Path.{_≡_, sym, _∙_, ap}
 use mathlib.Core.Bool.{Bool, true, false, not, _||_, true≢false}
 use mathlib.Core.Logic.{inl, inr, _↔_}
 use mathlib.Core.List.{List, List·Memᴰ as In}
@@ -30,7 +30,8 @@ module _ (a b : ℕ → ℕ) where
   unfoldable pub loop-closers : List ℕ → ℕ → List ℕ
   loop-closers S v = keep (λ c. not (joins-groups S c)) (component a b S v)
 
-  -- A card that joins groups "is seated. Of the cards that close a loop, the smallest in each finished group is seated",
+  -- A card that joins groups "is seated. Of the cards that close a loop, the smallest in each finished group is
+  -- seated",
   unfoldable pub rises-seated : List ℕ → ℕ → Bool
   rises-seated S c = joins-groups S c || eqb c (first (loop-closers S (a c)))
 

@@ -13,7 +13,7 @@ use lib.Seq.{getD-take}
 use Rattle.basics.specs.Sets.{member, member-in, in-member, without, out-in, Asc}
 use Rattle.ordered.specs.Place.{bound-le, bound-found, length-with, length-without}
 use Rattle.ordered.specs.Keys.{lower-bound, with-key}
-use Rattle.refusals.specs.Refusal.{done, blank-key, key-present, key-absent, stash-full, wrong-tier, other-tier}
+use Rattle.refusals.specs.Refusal.{done, blank-key, key-present, key-absent, stash-full, wrong-tier, other-tier, last-turned}
 use Rattle.refusals.specs.Refusal.{other-issue, first-refusal}
 use Rattle.hashing.specs.Hash.{Hashing, blank, tables}
 use Rattle.layout.specs.declared.Header.{Header}
@@ -64,11 +64,7 @@ Decided kind tabulation ws key =
 abbrev pub AfterLoad : Change → List ℕ → List ℕ → ℕ → (ℕ → List ℕ → Type 0)
 AfterLoad kind tabulation ws key = Resolved (later-refusals kind tabulation ws key) kind tabulation ws key
 
--- The laws. 8 where it does not fit, and else done
-answer-turned : (f : Bool) → cond f done stash-full ≡ cond (not f) stash-full done
-answer-turned true = refl
-answer-turned false = refl
-
+-- The laws. The words stay where the set does not fit, which is 8.
 words-turned : (f : Bool) (us ws : List ℕ) → cond f us ws ≡ cond (eqb (cond (not f) stash-full done) done) us ws
 words-turned true us ws = refl
 words-turned false us ws = refl
@@ -294,7 +290,7 @@ module _ {tabulation ws scratch : List ℕ} {h : Header} {n key : ℕ} (Z : Sett
               (not (fits P (with-key key K))) stash-full done =
               rw (small-test, keys-are, new, absent) in
               changed-committed (Insert tier) R one-more put (
-                answer-turned (fits P (with-key key K)) ∙ sym e,
+                sym (last-turned stash-full (fits P (with-key key K))) ∙ sym e,
                 ap (λ (f : Bool). cond f (image P L) ws) g ∙ words-turned (fits P (with-key key K)) (image P L) ws
                     ∙ ap (λ (n : ℕ). cond (eqb n done) (image P L) ws) (sym e),
               )

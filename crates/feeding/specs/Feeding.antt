@@ -244,20 +244,3 @@ module _ (a b : ℕ → ℕ) (s : ℕ) where
   pub any-order : (xs ys : List ℕ) → (In 0 xs → ⊥) → Sub xs ys → Sub ys xs
       → length (feed a b s xs) ≡ length (feed a b s ys)
   any-order xs ys z p q = feed-length xs z ∙ rw (set-of-same p q) (sym (feed-length ys (λ i. z (q 0 i))))
-
-  -- One order for all makes the sets equal, not only their sizes: fed ascending, lists with the same members list the
-  -- same.
-  pub ascending-order : (xs ys : List ℕ) → Sub xs ys → Sub ys xs → feed a b s (set-of xs) ≡ feed a b s (set-of ys)
-  ascending-order xs ys p q = rw (set-of-same p q)
-
--- Which keys are listed does depend on the order: three keys with the same two slots, no place aside.
-abbrev zero-end : ℕ → ℕ
-zero-end c = 0
-
-abbrev one-end : ℕ → ℕ
-one-end c = 1
-
-pub not-the-same : (feed zero-end one-end 0 (1 ∷ 2 ∷ 3 ∷ []) ≡ 1 ∷ 2 ∷ [])
-    × (feed zero-end one-end 0 (3 ∷ 2 ∷ 1 ∷ []) ≡ 2 ∷ 3 ∷ [])
-unfolding feed feed-on fed with-key below above stash seated settle spare cyclic onCycle component joined label without
-not-the-same = (refl, refl)

@@ -11,6 +11,7 @@ use lib.Dec.{eqb}
 use lib.ListN.{length}
 use Rattle.basics.specs.Tests.{test}
 use Rattle.basics.specs.Sets.{without, Sub, Asc, some, out-in, asc-out}
+use Rattle.refusals.specs.Refusal.{done, stash-full}
 use Rattle.cuckoo.specs.Seating.{from-a}
 use Rattle.cuckoo.specs.Cycles.{Cycle, keys, cycle-of-two}
 use Rattle.cuckoo.specs.Placement.{Place, slot, MaySit, table-0, table-1, Placement, fits-placed, placed-fits, fits-bound, subset-fits}
@@ -39,6 +40,17 @@ module _ (P : Params) {S : List ℕ} (valid : ValidKeys S) where
     λ n. elim (test (fits P S)) [ inl e ↦ absurd (n (fits-placement .0 e)) | inr e ↦ e ],
   )
 
+  -- So an answer that is 0 where the set fits, and 8 where not, is 8 exactly if no placement exists.
+  pub full-answer : {n : ℕ} → n ≡ cond (fits P S) done stash-full
+      → (n ≡ stash-full) ↔ (Placement (slot-0 (family P)) (slot-1 (family P)) (P .places) S → ⊥)
+  full-answer e = (
+    λ q. full-placement .0 (elim (test (fits P S)) [
+      | inl f ↦ absurd (let z = rw f at (sym e ∙ q) in omega arith)
+      | inr f ↦ f
+    ]),
+    λ h. let f = full-placement .1 h in e ∙ (rw f),
+  )
+
   -- A part of a set that fits, fits,
   pub part-fits : {R : List ℕ} → Asc R → Sub R S → fits P S ≡ true → fits P R ≡ true
   part-fits {R} asc sub e =
@@ -53,6 +65,14 @@ pub fits-length : (P : Params) {S : List ℕ} → Asc S → 0 < P .slots → fit
 fits-length P {S} asc has-slots e =
     fits-bound (slot-0 (family P)) (slot-1 (family P)) asc (P .slots + P .slots)
     (λ c i. omega (arith, slot-0-lt (family P) has-slots c)) (λ c i. slot-1-lt (family P) has-slots c) (fits-le P S e)
+
+-- and one with more keys does not fit
+pub crowded-unfit : (P : Params) {S : List ℕ} → Asc S → 0 < P .slots → P .slots + P .slots + P .places < length S
+    → fits P S ≡ false
+crowded-unfit P {S} asc has-slots l = elim (test (fits P S)) [
+  | inl f ↦ absurd (omega (arith, fits-length P asc has-slots f))
+  | inr f ↦ f
+]
 
 -- "Two cards with the same two places form a loop of two": so would two issues of one first part.
 pub issues-cycle : (P : Params) {S : List ℕ} (c d : ℕ) → In c S → In d S → first-part c ≡ first-part d → (c ≡ d → ⊥)

@@ -15,7 +15,7 @@ use Rattle.basics.specs.Sets.{Asc, without, member, member-in, in-member, out-i
 use Rattle.cuckoo.specs.Placement.{Placement}
 use Rattle.ordered.specs.Keys.{with-key}
 use Rattle.ordered.specs.Place.{with-cases, with-here, with-there, asc-with, with-same, without-with, length-with}
-use Rattle.refusals.specs.Refusal.{done, short-scratch, blank-key, key-present, key-absent, stash-full, wrong-tier, other-tier, other-issue, first-refusal, none, and, front-none}
+use Rattle.refusals.specs.Refusal.{done, short-scratch, blank-key, key-present, key-absent, stash-full, wrong-tier, other-tier, other-issue, first-refusal, none, and, front-none, last-turned}
 use Rattle.hashing.specs.Hash.{tabulation-length, first-part, blank}
 use Rattle.hashing.specs.Issues.{not-blank-iff}
 use Rattle.hashing.specs.Slots.{slot-0, slot-1}
@@ -28,7 +28,7 @@ use Rattle.layout.specs.Reissued.{reissued-fits, instead-reissues, instead-is}
 use Rattle.layout.specs.Canonical.{canonical, ImageOf, canonical-true, image-canonical, image-of-params, image-of-set}
 use Rattle.layout.specs.Answers.{lookup-values, looked-up}
 use Rattle.layout.specs.Look.{looked-entry, image-lookup-values}
-use Rattle.layout.specs.Fitting.{without-valid, without-fits, fits-length, fits-placement, full-placement}
+use Rattle.layout.specs.Fitting.{without-valid, without-fits, fits-placement, full-answer, crowded-unfit}
 use Rattle.outcome.specs.declared.Change.{Change}
 use Rattle.outcome.specs.declared.Change.the-variants.{Insert, Remove}
 use Rattle.layout.specs.Ready.{first-refusals, Ready}
@@ -156,12 +156,9 @@ changed-back tier key L asc m =
 -- A set that has as many keys as there are slots and places does not fit with one more.
 pub one-too-many : (P : Params) (key : ℕ) {S : List ℕ} → 0 < P .slots → ValidKeys S → blank key ≡ false → member key S ≡ false
     → P .slots + P .slots + P .places ≤ length S → fits P (with-key key S) ≡ false
-one-too-many P key {S} some valid b m l = elim (test (fits P (with-key key S))) [
-  | inl e ↦
-      let bound = fits-length P (with-valid key b valid .asc) some e in
-      absurd (omega (arith, length-with key S (valid .asc) (λ i. true≢false (sym (in-member i) ∙ m))))
-  | inr e ↦ e
-]
+one-too-many P key {S} some valid b m l =
+    crowded-unfit P (with-valid key b valid .asc) some
+    (omega (arith, length-with key S (valid .asc) (λ i. true≢false (sym (in-member i) ∙ m))))
 
 -- what is known where no refusal of the set is given, or 8
 module _ (P : Params) (key : ℕ) (L : List Entry) where
@@ -258,13 +255,8 @@ module _ {P : Params} {L : List Entry} {ws : List ℕ} (h : Holds P L ws) (full-
           pub held-full : (change-outcome (Insert tier) (P .tabulation) ws scratch key .answer ≡ stash-full)
               ↔ (Placement (slot-0 (family P)) (slot-1 (family P)) (P .places) (with-key key (keys-of L)) → ⊥)
           held-full =
-              let F = full-placement P (with-valid key b (h .is .valid .keys)) in (
-                λ e. F .0 (elim (test (fits P (with-key key (keys-of L)))) [
-                  | inl f ↦ absurd (let z = rw f at (sym held-new ∙ e) in omega arith)
-                  | inr f ↦ f
-                ]),
-                λ n. let f = F .1 n in held-new ∙ (rw f),
-              )
+              full-answer P (with-valid key b (h .is .valid .keys))
+              (held-new ∙ last-turned stash-full (fits P (with-key key (keys-of L))))
 
           -- and accepted exactly when there is one.
           pub held-insert : (change-outcome (Insert tier) (P .tabulation) ws scratch key .answer ≡ done)

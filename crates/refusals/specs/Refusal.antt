@@ -2,7 +2,7 @@
 -- its refusals as pairs of a number and a test; what it answers is the first of them that applies. Assumes nothing.
 use Prim.Native.Nat.{ℕ}
 use mathlib.Core.Path.{_≡_, refl, sym, _∙_}
-use mathlib.Core.Bool.{Bool, true, false, cond, true≢false}
+use mathlib.Core.Bool.{Bool, true, false, not, cond, true≢false}
 use mathlib.Core.Logic.{inl, inr}
 use mathlib.Core.List.{List, [], _∷_, _++_, map, List·Memᴰ as In, List·Memᴰ·head as here, List·Memᴰ·tail as there}
 use Rattle.basics.specs.Tests.{test}
@@ -86,6 +86,11 @@ first-applies n rs e = rw e
 -- and one of the others, if it does not
 pub first-passes : {t : Bool} (n : ℕ) (rs : List (ℕ × Bool)) → t ≡ false → first-refusal ((n, t) ∷ rs) ≡ first-refusal rs
 first-passes n rs e = rw e
+
+-- and of a last one that applies where a test fails, done or its number
+pub last-turned : (n : ℕ) (f : Bool) → cond (not f) n done ≡ cond f done n
+last-turned n true = refl
+last-turned n false = refl
 
 -- what is answered is 0 or the number of one of the refusals, "and none is given otherwise"
 abbrev pub numbers : List (ℕ × Bool) → List ℕ

@@ -16,7 +16,9 @@ length-for-requires : tie.Need-length-for-requires
 length-for-requires c κs = ranged _ _ _ (sym (c .before .are-params .ensures) ∙ not-false _ (c .if1 .left)) .0
 
 returns-2 : tie.Need-returns-2
-returns-2 c = let e = c .before in rw (c .length-for .ensures, sym (e .before .are-params .ensures) ∙ not-false _ (e .if1 .left))
+returns-2 c =
+    let e = c .before in
+    rw (c .length-for .ensures, sym (e .before .are-params .ensures) ∙ not-false _ (e .if1 .left))
 
 pub is-target-spec : {M : Type 1} → statement M
 is-target-spec = tie.close (tie.spec are-params-requires returns length-for-requires returns-2)

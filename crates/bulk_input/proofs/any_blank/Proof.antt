@@ -1,9 +1,9 @@
 -- `bulk_input::any_blank` meets its contract: what is left to test are the keys that are left.
-use Prim.Native.Nat.{_≤_, _-_, _+_, _*_, _<_}
-use mathlib.Core.Path.{_≡_, refl, sym, _∙_, ap}
+use Prim.Native.Nat.{_≤_, _-_, _+_, _*_}
+use mathlib.Core.Path.{_≡_, refl, sym, _∙_}
 use native.Mathlib.Omega.{arith}
 use borrow.Author.Needs.{needs}
-use lib.ListN.{drop, length, getD}
+use lib.ListN.{drop, length}
 use mathlib.Core.Bool.{_||_}
 use Rattle.basics.specs.Sets.{any}
 use Rattle.hashing.specs.Hash.{blank}
@@ -13,7 +13,8 @@ use Rattle.bulk_input.proofs.any_blank.Statement.{statement}
 use Rattle.bulk_input.proofs.any_blank.Tie as tie
 
 abbrev Inv-loop : tie.InvT-loop
-Inv-loop input n i₀ i = (i ≤ n) × ((2 * n ≤ length input + 1) × (any blank (input-keys input) ≡ any blank (drop i (input-keys input))))
+Inv-loop input n i₀ i =
+    (i ≤ n) × ((2 * n ≤ length input + 1) × (any blank (input-keys input) ≡ any blank (drop i (input-keys input))))
 
 abbrev μ-loop : tie.MeasureT-loop
 μ-loop input n i₀ i = n - i
@@ -41,7 +42,8 @@ abbrev start : tie.At-loop Inv-loop μ-loop → tie.Start Inv-loop μ-loop
 start l = l .before .before .before
 
 -- this key, and those after it
-next : (f : tie.After-is-blank Inv-loop μ-loop) → let l = f .before .before .before in let K = input-keys (start l .args .input .now) in
+next : (f : tie.After-is-blank Inv-loop μ-loop) → let l = f .before .before .before in
+    let K = input-keys (start l .args .input .now) in
     any blank K ≡ (f .is-blank .result || any blank (drop (l .loop .i + 1) K))
 next f =
     let l = f .before .before .before in

@@ -1,6 +1,6 @@
 -- `bulk_input::any_high` meets its contract: what is left to test are the tiers that are left.
-use Prim.Native.Nat.{_≤_, _-_, _+_, _*_, _<_}
-use mathlib.Core.Path.{_≡_, refl, sym, _∙_, ap}
+use Prim.Native.Nat.{_≤_, _-_, _+_, _*_}
+use mathlib.Core.Path.{_≡_, refl, sym, _∙_}
 use native.Mathlib.Omega.{arith}
 use borrow.Author.Needs.{needs}
 use lib.ListN.{drop, length, getD}
@@ -15,7 +15,9 @@ use Rattle.bulk_input.proofs.any_high.Statement.{statement}
 use Rattle.bulk_input.proofs.any_high.Tie as tie
 
 abbrev Inv-loop : tie.InvT-loop
-Inv-loop input n i₀ i = (i ≤ n) × ((n ≡ length (input-tiers input)) × ((2 * n ≤ length input) × (any (ltb max-tier) (input-tiers input) ≡ any (ltb max-tier) (drop i (input-tiers input)))))
+Inv-loop input n i₀ i =
+    (i ≤ n) × ((n ≡ length (input-tiers input)) × ((2 * n ≤ length input)
+    × (any (ltb max-tier) (input-tiers input) ≡ any (ltb max-tier) (drop i (input-tiers input)))))
 
 abbrev μ-loop : tie.MeasureT-loop
 μ-loop input n i₀ i = n - i
@@ -41,7 +43,8 @@ start l = l .before
 
 -- this tier, and those after it
 next : (f : tie.In-loop Inv-loop μ-loop) → let l = f .before in let g = start l .args .input .now in
-    any (ltb max-tier) (input-tiers g) ≡ (ltb max-tier (getD g (2 * l .loop .i + 1) 0) || any (ltb max-tier) (drop (l .loop .i + 1) (input-tiers g)))
+    any (ltb max-tier) (input-tiers g)
+    ≡ (ltb max-tier (getD g (2 * l .loop .i + 1) 0) || any (ltb max-tier) (drop (l .loop .i + 1) (input-tiers g)))
 next f =
     let l = f .before in
     let g = start l .args .input .now in
@@ -58,7 +61,8 @@ loop-less : tie.Need-loop-less Inv-loop μ-loop
 loop-less c = search needs
 
 loop-again : tie.Need-loop-again Inv-loop μ-loop
-loop-again c = (search needs, (search needs, (search needs, next (c .before .before) ∙ (rw (le-ltb _ _ (c .if1 .left))))))
+loop-again c =
+    (search needs, (search needs, (search needs, next (c .before .before) ∙ (rw (le-ltb _ _ (c .if1 .left))))))
 
 returns-2 : tie.Need-returns-2 Inv-loop μ-loop
 returns-2 c =

@@ -1,9 +1,9 @@
 -- `bulk_input::one_issue` meets its contract: what is left to compare are the neighbours that are left.
-use Prim.Native.Nat.{_≤_, _-_, _+_, _*_, _<_}
+use Prim.Native.Nat.{_≤_, _-_, _+_, _*_}
 use mathlib.Core.Path.{_≡_, refl, sym, _∙_, ap}
 use native.Mathlib.Omega.{arith}
 use borrow.Author.Needs.{needs}
-use lib.ListN.{drop, length, getD}
+use lib.ListN.{drop, length}
 use mathlib.Core.Bool.{not, _&&_}
 use borrow.Author.Tests.{eq-eqb, ne-eqb}
 use lib.Dec.{eqb}
@@ -15,7 +15,9 @@ use Rattle.bulk_input.proofs.one_issue.Statement.{statement}
 use Rattle.bulk_input.proofs.one_issue.Tie as tie
 
 abbrev Inv-loop : tie.InvT-loop
-Inv-loop input n last₀ i₀ last i = (i ≤ n) × ((2 * n ≤ length input + 1) × (parts-apart 0 (input-keys input) ≡ parts-apart last (drop i (input-keys input))))
+Inv-loop input n last₀ i₀ last i =
+    (i ≤ n) × ((2 * n ≤ length input + 1)
+    × (parts-apart 0 (input-keys input) ≡ parts-apart last (drop i (input-keys input))))
 
 abbrev μ-loop : tie.MeasureT-loop
 μ-loop input n last₀ i₀ last i = n - i
@@ -47,7 +49,8 @@ turn f = f .before .before .before
 
 -- this key, and those after it
 next : (f : tie.After-first-part Inv-loop μ-loop) → let l = turn f in let K = input-keys (start l .args .input .now) in
-    parts-apart 0 K ≡ (not (eqb (f .first-part .result) (l .loop .last)) && parts-apart (f .first-part .result) (drop (l .loop .i + 1) K))
+    parts-apart 0 K
+    ≡ (not (eqb (f .first-part .result) (l .loop .last)) && parts-apart (f .first-part .result) (drop (l .loop .i + 1) K))
 next f =
     let l = turn f in
     let g = start l .args .input .now in
@@ -73,7 +76,8 @@ returns-2 : tie.Need-returns-2 Inv-loop μ-loop
 returns-2 c =
     let l = c .before in
     let K = input-keys (start l .args .input .now) in
-    sym (sym (apart-one-issue (start l .pre)) ∙ l .loop .inv .1 .1 ∙ apart-end (l .loop .last) K (l .loop .i) (omega arith))
+    sym (sym (apart-one-issue (start l .pre)) ∙ l .loop .inv .1 .1
+    ∙ apart-end (l .loop .last) K (l .loop .i) (omega arith))
 
 pub one-issue-spec : {M : Type 1} → statement M
 one-issue-spec =

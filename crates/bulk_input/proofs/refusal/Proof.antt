@@ -50,7 +50,8 @@ even e = ne-eqb _ _ (e .if3 .left)
 returns-4 : tie.Need-returns-4
 returns-4 c =
     let e = c .before .before in
-    rw (no-blank (low (e .before)), no-high (e .before), even e, sym (c .before .rises .ensures) ∙ not-true _ (c .if4 .taken))
+    let falls = sym (c .before .rises .ensures) ∙ not-true _ (c .if4 .taken) in
+    rw (no-blank (low (e .before)), no-high (e .before), even e, falls)
 
 -- and the keys rise
 abbrev evens : tie.Else4 → tie.Else3

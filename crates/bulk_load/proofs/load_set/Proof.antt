@@ -1,4 +1,5 @@
--- `bulk_load::load_set` meets its contract: more keys than can be placed, or the set is brought to scratch and committed.
+-- `bulk_load::load_set` meets its contract: more keys than can be placed, or the set is brought to scratch and
+-- committed.
 use Prim.Native.Nat.{_+_, _*_, _≤_}
 use mathlib.Core.Path.{_≡_, _∙_, ap}
 use native.Mathlib.Omega.{arith}
@@ -7,7 +8,8 @@ use Rattle.layout.specs.declared.Header.{Header}
 use Rattle.layout.specs.Layout.{with-keys}
 use Rattle.layout.specs.Answers.{fresh-header}
 use Rattle.layout.specs.Shape.{Sized}
-use Rattle.bulk_load.specs.Loading.{Fillable, load-sized, load-crowded, load-fillable, load-committable, load-committed}
+use Rattle.bulk_load.specs.Loading.{Fillable, load-sized, load-crowded, load-fillable, load-committable}
+use Rattle.bulk_load.specs.Loading.{load-committed}
 use borrow.Author.Needs.{needs}
 use Rattle.bulk_load.proofs.load_set.Statement.{statement}
 use Rattle.bulk_load.proofs.load_set.Tie as tie
@@ -44,11 +46,12 @@ few : (f : tie.Else1) → let a = start (f .before) .args in f .before .before .
 few f = omega (arith, f .if1 .left, f .before .wide .ensures)
 
 fillable : (f : tie.Else1) → let a = start (f .before) .args in
-    Fillable (a .tabulation .now) (a .input .now) (a .scratch .now) (a .r) (a .s) (a .station) (f .before .before .count .result)
+    Fillable (a .tabulation .now) (a .input .now) (a .scratch .now) (a .r) (a .s) (a .station)
+    (f .before .before .count .result)
 fillable f =
     let b = start (f .before) in
-    load-fillable (b .args .words .now) (b .args .scratch .now) (b .pre .0) (b .pre .1) (f .before .before .count .ensures)
-    (few f)
+    load-fillable (b .args .words .now) (b .args .scratch .now) (b .pre .0) (b .pre .1)
+    (f .before .before .count .ensures) (few f)
 
 put-keys-requires : tie.Need-put-keys-requires
 put-keys-requires c κs =
@@ -74,7 +77,8 @@ put-edges-requires c κs =
 abbrev filling : tie.After-put-edges → tie.Else1
 filling e = e .before .before .before .before .before .before
 
-same : (e : tie.After-put-edges) → length (e .put-edges .last .1 .0) ≡ length (start (filling e .before) .args .scratch .now)
+same : (e : tie.After-put-edges)
+    → length (e .put-edges .last .1 .0) ≡ length (start (filling e .before) .args .scratch .now)
 same e = e .put-edges .kept .1 .0 ∙ e .before .before .before .before .put-keys .kept .0
 
 fresh-header-requires : tie.Need-fresh-header-requires
@@ -94,8 +98,8 @@ edged w = w .before .before .before .before
 heading-is : (w : tie.After-with-keys) → let f = filling (edged w) in let a = start (f .before) .args in
     w .with-keys .result ≡ with-keys (fresh-header (a .r) (a .s) (a .station)) (f .before .before .count .result)
 heading-is w =
-    w .with-keys .ensures
-    ∙ ap (λ (h : Header). with-keys h (filling (edged w) .before .before .count .result)) (w .before .fresh-header .ensures)
+    let n = filling (edged w) .before .before .count .result in
+    w .with-keys .ensures ∙ ap (λ (h : Header). with-keys h n) (w .before .fresh-header .ensures)
 
 commit-requires : tie.Need-commit-requires
 commit-requires c κs =
@@ -103,8 +107,8 @@ commit-requires c κs =
     let e = edged w in
     let f = filling e in
     let b = start (f .before) in
-    load-committable (b .args .words .now) (b .args .scratch .now) (b .pre .0) (b .pre .1) (f .before .before .count .ensures)
-    (few f) (same e) (e .put-edges .ensures) (heading-is w)
+    load-committable (b .args .words .now) (b .args .scratch .now) (b .pre .0) (b .pre .1)
+    (f .before .before .count .ensures) (few f) (same e) (e .put-edges .ensures) (heading-is w)
 
 same-length : tie.Need-same-length
 same-length c = search needs
@@ -119,8 +123,8 @@ returns-2 c =
     let e = edged w in
     let f = filling e in
     let b = start (f .before) in
-    load-committed (b .args .words .now) (b .args .scratch .now) (b .pre .0) (b .pre .1) (f .before .before .count .ensures)
-    (few f) (same e) (e .put-edges .ensures) (heading-is w) (d .commit .ensures)
+    load-committed (b .args .words .now) (b .args .scratch .now) (b .pre .0) (b .pre .1)
+    (f .before .before .count .ensures) (few f) (same e) (e .put-edges .ensures) (heading-is w) (d .commit .ensures)
 
 pub load-set-spec : {M : Type 1} → statement M
 load-set-spec =

@@ -14,14 +14,19 @@ refusal-requires : tie.Need-refusal-requires
 refusal-requires c κs = search needs
 
 returns-2 : tie.Need-returns-2
-returns-2 c = let e = c .before .before in loaded-input _ _ _ _ (e .before .target-refusal .ensures) (e .if1 .left) (c .before .refusal .ensures) (c .if2 .taken)
+returns-2 c =
+    let e = c .before .before in
+    loaded-input _ _ _ _ (e .before .target-refusal .ensures) (e .if1 .left) (c .before .refusal .ensures)
+    (c .if2 .taken)
 
 load-set-requires : tie.Need-load-set-requires
 load-set-requires c κs =
     let t = c .before .before in
     let e = t .before .before in
     let a = e .before .before .before .before .before .before .args in
-    (early-layable _ (a .input .now) (a .words .now) (a .scratch .now) (e .before .target-refusal .ensures) (e .if1 .left), input-sound (a .input .now) (t .before .refusal .ensures) (t .if2 .left))
+    let Y = early-layable _ (a .input .now) (a .words .now) (a .scratch .now) (e .before .target-refusal .ensures)
+    (e .if1 .left) in
+    (Y, input-sound (a .input .now) (t .before .refusal .ensures) (t .if2 .left))
 
 same-length : tie.Need-same-length
 same-length c = search needs
@@ -34,7 +39,8 @@ returns-3 c =
     let l = c .before .before .before .before in
     let t = l .before .before .before in
     let e = t .before .before in
-    loaded-set _ _ _ _ (e .before .target-refusal .ensures) (e .if1 .left) (t .before .refusal .ensures) (t .if2 .left) (l .load-set .ensures)
+    loaded-set _ _ _ _ (e .before .target-refusal .ensures) (e .if1 .left) (t .before .refusal .ensures) (t .if2 .left)
+    (l .load-set .ensures)
 
 pub load-words-spec : {M : Type 1} → statement M
 load-words-spec =

@@ -20,7 +20,9 @@ edges-start-requires : tie.Need-edges-start-requires Inv-loop μ-loop
 edges-start-requires c κs = let h = c .before .before .before .pre .0 in (h .hashing .slots-bound, h .places)
 
 loop-holds : tie.Need-loop-holds Inv-loop μ-loop
-loop-holds c = let h = c .before .before .before .before .pre .0 in (search needs, (fill-size h, fill-start h (c .edges-start .ensures)))
+loop-holds c =
+    let h = c .before .before .before .before .pre .0 in
+    (search needs, (fill-size h, fill-start h (c .edges-start .ensures)))
 
 -- where a turn begins, and where all began
 abbrev start : tie.At-loop Inv-loop μ-loop → tie.Start Inv-loop μ-loop

@@ -1,6 +1,6 @@
 -- `bulk_load::put_keys` meets its contract: after i turns i keys stand behind word 0.
 use Prim.Native.Nat.{_≤_, _-_, _+_, _*_}
-use mathlib.Core.Path.{_≡_, refl, sym, _∙_}
+use mathlib.Core.Path.{_≡_, sym, _∙_}
 use native.Mathlib.Omega.{arith}
 use borrow.Author.Needs.{needs}
 use lib.ListN.{length, set, length-set}
@@ -27,9 +27,6 @@ loop-holds c = (search needs, paste-zero (set (c .args .scratch .now) 0 0) 1 (in
 -- where all began, and the words as the loop finds them
 abbrev start : tie.At-loop Inv-loop μ-loop → tie.Start Inv-loop μ-loop
 start l = l .before
-
-size : (l : tie.At-loop Inv-loop μ-loop) → length (start l .args .input .now) + 1 ≤ 2 * start l .args .n + 1
-size l = omega (arith, start l .pre .0, input-count (start l .args .input .now))
 
 long : (l : tie.At-loop Inv-loop μ-loop) → length (l .loop .scratch) ≡ length (start l .args .scratch .now)
 long l =
@@ -88,8 +85,8 @@ returns c =
     let p = start l .pre in
     let e : l .loop .i ≡ a .n = omega arith in
     let s = length-set (a .scratch .now) 0 0 in
-    keys-brought (input-keys (a .input .now)) b (l .loop .scratch) (rw e at (l .loop .inv .1)) (p .0) (omega (arith, p .1))
-    (getD-set-same (a .scratch .now) 0 0 0 (omega (arith, p .1)))
+    keys-brought (input-keys (a .input .now)) b (l .loop .scratch) (rw e at (l .loop .inv .1)) (p .0)
+    (omega (arith, p .1)) (getD-set-same (a .scratch .now) 0 0 0 (omega (arith, p .1)))
 
 pub put-keys-spec : {M : Type 1} → statement M
 put-keys-spec =

@@ -17,7 +17,8 @@ is-target-requires : tie.Need-is-target-requires
 is-target-requires c κs = search needs
 
 returns-2 : tie.Need-returns-2
-returns-2 c = rw (eq-eqb _ _ (c .before .before .if1 .left), sym (c .before .is-target .ensures) ∙ not-true _ (c .if2 .taken))
+returns-2 c =
+    rw (eq-eqb _ _ (c .before .before .if1 .left), sym (c .before .is-target .ensures) ∙ not-true _ (c .if2 .taken))
 
 -- the target can be laid
 laid : (e : tie.Else2) → let a = e .before .before .before .before .args in
@@ -30,12 +31,14 @@ scratch-for-requires c κs = ranged _ _ _ (target-sizes _ _ _ _ (laid c) .0) .0
 returns-3 : tie.Need-returns-3
 returns-3 c =
     let e = c .before .before in
-    rw (eq-eqb _ _ (e .before .before .if1 .left), laid e, lt-ltb _ _ (rw (c .before .scratch-for .ensures) at (c .if3 .taken)))
+    let short = rw (c .before .scratch-for .ensures) at (c .if3 .taken) in
+    rw (eq-eqb _ _ (e .before .before .if1 .left), laid e, lt-ltb _ _ short)
 
 returns-4 : tie.Need-returns-4
 returns-4 c =
     let e = c .before .before in
-    rw (eq-eqb _ _ (e .before .before .if1 .left), laid e, le-ltb _ _ (rw (c .before .scratch-for .ensures) at (c .if3 .left)))
+    let long = rw (c .before .scratch-for .ensures) at (c .if3 .left) in
+    rw (eq-eqb _ _ (e .before .before .if1 .left), laid e, le-ltb _ _ long)
 
 pub target-refusal-spec : {M : Type 1} → statement M
 target-refusal-spec =

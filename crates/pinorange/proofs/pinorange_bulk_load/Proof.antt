@@ -1,4 +1,5 @@
--- `pinorange::pinorange_bulk_load` meets its contract: the walk of Walk.antt, over `counting::bulk_load`. Assumes nothing.
+-- `pinorange::pinorange_bulk_load` meets its contract: the walk of Walk.antt, over `counting::bulk_load`. Assumes
+-- nothing.
 use Rattle.counters.proofs.Counters as T
 use Rattle.counting.proofs.bulk_load as callee
 use Rattle.counting.proofs.bulk_load.Symbol as callee-def
