@@ -26,13 +26,14 @@
  *
  * What the caller sees to: no pointer is null, neither that of a piece of length 0 nor that of an out-parameter which
  * is not wanted; pointers are aligned; and no two lent pieces of memory overlap. Counters, out-parameters, steps, the
- * input of a bulk load and the record of a sale are lent pieces, too: none may stand in the words, in the scratch, or
- * in another. One tabulation goes with a dictionary; under another its words are, in general, the image of no set (4).
- * No call keeps state of its own. The promises hold when a call returns. Let nothing else read or write the same words
- * or scratch meanwhile: while a call runs nobody else, no interrupt handler and no other core, may write any memory
- * that it is lent, nor read what it writes (the words of init, bulk load, insert and remove; scratch, counters,
- * out-parameters). So there is no lookup during an insert, but in a second bank (below). Calls that only read the words
- * (lookup, check, trail, stash, open_sale) may run side by side, each with its own scratch.
+ * input of a bulk load, the target of a salvage and the record of a sale are lent pieces, too: none may stand in the
+ * words, in the scratch, or in another. One tabulation goes with a dictionary; under another its words are, in general,
+ * the image of no set (4). No call keeps state of its own. The promises hold when a call returns. Let nothing else read
+ * or write the same words or scratch meanwhile: while a call runs nobody else, no interrupt handler and no other core,
+ * may write any memory that it is lent, nor read what it writes (the words of init, bulk load, insert and remove, the
+ * target of salvage; scratch, counters, out-parameters). So there is no lookup during an insert, but in a second bank
+ * (below). Calls that only read the words (lookup, check, trail, stash, open_sale, salvage) may run side by side, each
+ * with its own scratch.
  * "The set" is the set whose canonical image the words are, under the lent tabulation: keys, one issue of each first
  * part, each with one tier.
  *
@@ -51,7 +52,10 @@
  * nothing up. Clear the scratch, write the tabulation afresh (pinorange_house, or your own from its record), and lay
  * all keys again from a record of your own: in one call from an ascending record (pinorange_bulk_load), or by
  * pinorange_init and an insert of each key. The words are then those of any head with these keys, tabulation, sizes and
- * station. The library keeps no copy, and half-written words may, by chance, pass a check.
+ * station. The library keeps no copy, and half-written words may, by chance, pass a check. Where there is no record, or
+ * to see what is left, pinorange_salvage takes the keys that still stand where they may out of words whose check
+ * answers 4, into a second area. What it gives is a list, and not a promise that each key in it was listed: whoever has
+ * a record compares, or lays that.
  *
  * Dump and restore: between calls the words may be copied anywhere, and are a dictionary wherever they are copied to,
  * with the same tabulation; the scratch need not be kept. Before words that were kept elsewhere are relied on, compare
@@ -89,10 +93,10 @@ extern "C" {
 #endif
 
 /* The other numbers that a call answers. A call tries those that it can give in the order 1, 2, 3, 4, 5, 9, 14, 13, 10,
- * 6, 7, 11, 12, 8; only the opening of a sale tries 4 behind 7. Of a call on words, PINORANGE_WRONG_SHAPE (2) says:
+ * 6, 7, 11, 12, 8, 15; only the opening of a sale tries 4 behind 7. Of a call on words, PINORANGE_WRONG_SHAPE (2) says:
  * there are fewer than 5 words, word 0 (r) is not 1 to 1,024, word 1 (s) is above 64, word 4 (the station) is above
  * 255, or there are not PINORANGE_WORDS(r, s). Init and bulk load, which are given r, s and station, say what it is
- * there. */
+ * there, and salvage what it is of its target. */
 #define PINORANGE_SHORT_SCRATCH 3u /* the scratch is shorter than PINORANGE_SCRATCH(r, s) */
 #define PINORANGE_NOT_CANONICAL 4u /* under the lent tabulation the words are the canonical image of no set; of a sale:
                                     * the tier found is above 7 */
@@ -106,6 +110,7 @@ extern "C" {
 #define PINORANGE_SHORT_TRAIL 11u  /* the trail has more keys than `trail_length` */
 #define PINORANGE_WRONG_PRICE 12u  /* sale: base or a step outside its range, not eight steps, or a price below 1 */
 #define PINORANGE_STASH_FULL 8u    /* the new set cannot be placed: its stash would have more than s keys */
+#define PINORANGE_NONE_COUNTS 15u  /* salvage: some slot or place holds a number other than 0, yet no key counts */
 
 #define PINORANGE_MAX_PLACES 64u  /* the most places of a stash, s */
 #define PINORANGE_MAX_TIER 7u     /* the largest tier */
@@ -114,7 +119,7 @@ extern "C" {
 #define PINORANGE_MAX_STEP 500    /* the largest step, up or down, in tenths of a cent */
 
 /* Sizes in 32-bit words, for r slots in each table and s stash places: the dictionary, and the scratch that insert,
- * remove, check, trail and bulk load borrow. */
+ * remove, check, trail, bulk load and salvage borrow. */
 #define PINORANGE_WORDS(r, s) (5u + 6u * (r) + 2u * (s))
 #define PINORANGE_SCRATCH(r, s) (12u * (r) + 8u * (s))
 
@@ -254,6 +259,45 @@ uint32_t pinorange_trail(const uint16_t *tabulation, size_t tabulation_length, c
                          size_t words_length, uint32_t *scratch, size_t scratch_length, uint32_t key,
                          uint32_t *trail, size_t trail_length, uint32_t *count);
 
+/* Salvages a list: takes out of damaged words the keys that still stand where they may, and writes the list of these
+ * to a second area, the target. For words of the right shape whose check answers 4: those of a head that got wet, say.
+ *
+ * The slots of table 0, those of table 1 and all s places of the stash are gone over, in this order. The key of a slot
+ * counts if it is 10 or more, its tier word is at most PINORANGE_MAX_TIER, and the slot is one of its own two; that of
+ * a place of the stash, if the first two hold. Of several issues or copies of a card the first that counts stands, with
+ * its tier: these are the survivors. Nothing else of the words has a say: the counts (words 2 and 3) and the next
+ * numbers may be anything.
+ *
+ * Reads: the tabulation and the words, of any length and content. Writes: nothing but the target, the scratch and
+ * `*lost`. The words are never written, and may stand in read-only memory; no other piece may overlap them, the target
+ * neither. No counters.
+ * Done (0): the target is the canonical image of the survivors, in every word, with the r, s and station of the words,
+ *   whatever it held before: a list as any other, on which all calls may follow. `*lost` is how many slots and places
+ *   hold a number other than 0 that does not count, at most 2r + s. A copy or another issue that counts and does not
+ *   stand is not among them.
+ * Refused (1, 2, 2, 3 or 15, tried in that order): the target and `*lost` stay as they were. Scratch as for insert.
+ *   2: the words have no right shape; then, the target is not as long as the words.
+ *   3: the scratch is shorter than PINORANGE_SCRATCH(r, s), for the r and s of the words.
+ *   15: some slot or place holds a number other than 0, yet no key counts. There is nothing to salvage: lay the list
+ *     from a record, or an empty one. Where no slot and no place holds a number other than 0, the call is done, and the
+ *     target is the empty list.
+ *   Neither 4 nor 8 ever comes: survivors always fit, since each stood in a slot of its own or in a place (proved).
+ *
+ * What is saved (proved): the words of an untampered list give themselves and 0 lost, and so do those of a salvaged
+ * one. Where k words were changed, none of them word 0, 1 or 4, at most 2k of the old keys do not stand in the target
+ * with their tiers, at most k first parts are gone altogether, and at most k keys with their tiers are new. A key
+ * survives with its tier if a slot or place where it stands was left as it was, and nothing else of its first part was
+ * written, be it in another issue, copy or tier.
+ * What is not: neither 0 lost nor 0 of a check of the target says that all is as it was. A changed word may be a key
+ * that counts, and another tier from 0 to 7 counts, too. So compare the target with a record, or with another head that
+ * has the same keys, before it is relied on.
+ * Before the call compare words 0, 1 and 4 with the r, s and station that the list was laid with, and where they differ
+ * write these into a copy of the words, and salvage that. Another r or s in words of this length is a 2, or has the
+ * tables end elsewhere; and at another station, as under another tabulation, hardly a key sits in a slot of its own. */
+uint32_t pinorange_salvage(const uint16_t *tabulation, size_t tabulation_length, const uint32_t *words,
+                           size_t words_length, uint32_t *target, size_t target_length, uint32_t *scratch,
+                           size_t scratch_length, uint32_t *lost);
+
 /* The record of a sale: what a head keeps from nozzle lift to hang-up. It is the caller's own memory, a plain struct,
  * to be kept, copied and thrown away like any other: the library holds no sale, and no word of a dictionary shows that
  * one is open. */
@@ -305,6 +349,7 @@ uint32_t pinorange_house(uint16_t *tabulation, size_t tabulation_length);
 #define pinorange_lookup(...) (pinorange_bind(), pinorange_lookup(__VA_ARGS__))
 #define pinorange_stash(...) (pinorange_bind(), pinorange_stash(__VA_ARGS__))
 #define pinorange_trail(...) (pinorange_bind(), pinorange_trail(__VA_ARGS__))
+#define pinorange_salvage(...) (pinorange_bind(), pinorange_salvage(__VA_ARGS__))
 #define pinorange_open_sale(...) (pinorange_bind(), pinorange_open_sale(__VA_ARGS__))
 #define pinorange_close_sale(...) (pinorange_bind(), pinorange_close_sale(__VA_ARGS__))
 #define pinorange_house(...) (pinorange_bind(), pinorange_house(__VA_ARGS__))

@@ -16,8 +16,10 @@
  * Each call hands on to the plain one of its name and answers what that answers; pinorange.h says what it promises, and
  * what the caller sees to. Out-parameters that are alike stand in a struct, too. What is left alike in one call shows
  * when it is exchanged: two of r, s and station (2, since the words' length fits r and s alone; unless they are equal),
- * key and tier, in the input of a bulk load, too (5, since no tier is a key). pinorange_house, pinorange_hashes and
- * pinorange_close_sale are lent no words and no scratch, and have no inline call.
+ * key and tier, in the input of a bulk load, too (5, since no tier is a key). A salvage is the one call with two lists'
+ * words: it writes those of the struct, and is handed the damaged ones as words to read, so that these two cannot be
+ * exchanged either. pinorange_house, pinorange_hashes and pinorange_close_sale are lent no words and no scratch, and
+ * have no inline call.
  *
  * With PINORANGE_CHECKED defined, for a debug build, each call first looks at all pieces of the list and at all that it
  * is handed: none is null, each is aligned, no two overlap. Where one fails PINORANGE_FAILED(piece, what) is called
@@ -225,6 +227,17 @@ static inline uint32_t pinorange_list_trail(const struct pinorange_list *list, u
                                          trail ? trail->length * sizeof *trail->keys : 0));
     return pinorange_trail(list->tabulation, list->tabulation_length, list->words, list->words_length, list->scratch,
                            list->scratch_length, key, trail->keys, trail->length, &trail->count);
+}
+
+/* pinorange_salvage: the list becomes that of the survivors of `damaged`, the words of another list, which are only
+ * read, and not of its own: these may hold anything before. */
+static inline uint32_t pinorange_list_salvage(const struct pinorange_list *list, const uint32_t *damaged,
+                                              size_t damaged_length, uint32_t *lost)
+{
+    PINORANGE_CHECK_LENT(list, PINORANGE_PIECE("damaged", damaged, damaged_length * sizeof *damaged),
+                         PINORANGE_PIECE("lost", lost, sizeof *lost));
+    return pinorange_salvage(list->tabulation, list->tabulation_length, damaged, damaged_length, list->words,
+                             list->words_length, list->scratch, list->scratch_length, lost);
 }
 
 /* pinorange_open_sale, with PINORANGE_STEPS steps. */

@@ -9,7 +9,7 @@ use pinorange::{
     bulk_load, cards, check, close_sale, hashes, house, init, insert, lookup, open_sale,
 };
 use pinorange::{first_part, place_start, scratch_length, slot_start, words_length};
-use pinorange::{remove, stash, trail};
+use pinorange::{remove, salvage, stash, trail};
 use pinorange::{Counters, List, Refusal, Scratch, STEPS, TABULATION_LENGTH};
 
 /// Where a head shows a key and a number.
@@ -52,6 +52,21 @@ pub fn loaded(
     let [r, s, station] = sizes;
     let input = cards.as_flattened();
     let list = List::bulk_load(tabulation, words, r, s, station, scratch, counters, input)?;
+    show_list(&list, scratch, show)
+}
+
+/// Saves what is left of a damaged list.
+#[no_mangle]
+pub fn salvaged(
+    tabulation: &[u16; TABULATION_LENGTH],
+    words: &mut [u32],
+    scratch: &mut Scratch,
+    counters: &mut Counters,
+    damaged: &[u32],
+    show: Show,
+) -> Result<(), Refusal> {
+    let (list, lost) = List::salvage(tabulation, words, scratch, counters, damaged)?;
+    show(list.len() as u32, lost);
     show_list(&list, scratch, show)
 }
 
@@ -107,6 +122,7 @@ pub fn over_slices(
     scratch: &mut [u32],
     keys: &mut [u32],
     counters: &mut Counters,
+    target: &mut [u32],
     show: Show,
 ) -> Result<u32, Refusal> {
     bulk_load(tabulation, words, scratch, counters, 16, 2, 17, &[410_010, 1, 733_001, 3])?;
@@ -114,6 +130,7 @@ pub fn over_slices(
     insert(tabulation, words, scratch, counters, 410_010, 1)?;
     remove(tabulation, words, scratch, counters, 410_010)?;
     check(tabulation, words, scratch)?;
+    show(0, salvage(tabulation, words, target, scratch)?);
     show(410_010, lookup(tabulation, words, 410_010)?.unwrap_or_default());
     for key in trail(tabulation, words, scratch, 410_010, keys)?.iter().chain(stash(words)?) {
         show(*key, 0);

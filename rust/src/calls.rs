@@ -228,6 +228,63 @@ pub fn trail<'a>(
     part(keys, 0, count)
 }
 
+/// Salvages a list: takes the keys that still stand where they may out of damaged words, which are only read, and writes
+/// the list of these to a second area of the same length, whatever that held. For words whose [`check`] gives
+/// `NotCanonical`; the header says which keys survive, and what the caller compares before and afterwards.
+///
+/// What comes back is how many slots and stash places hold a number other than 0 that is no such key. 0 does not say that
+/// the words were as they should be. Words, target and scratch are alike in type; see [`insert`].
+///
+/// # Errors
+///
+/// In this order, and the target stays as it was: `WrongTabulation`; `WrongShape`, of the words, and then if the target
+/// is not as long as the words; `ShortScratch`; `NoneCounts` (there is some number in the slots and the stash, and no
+/// key).
+///
+/// ```
+/// use pinorange::{scratch_length, slot_start, words_length, Counters, Refusal, TABULATION_LENGTH};
+///
+/// const R: u32 = 16;
+/// const S: u32 = 2;
+/// let mut tabulation = [0; TABULATION_LENGTH];
+/// let (mut words, mut target) = ([0; words_length(R, S)], [0; words_length(R, S)]);
+/// let mut scratch = [0; scratch_length(R, S)];
+/// pinorange::house(&mut tabulation)?;
+/// let input = [410_010, 3, 410_025, 0, 733_001, 7];
+/// pinorange::bulk_load(&tabulation, &mut words, &mut scratch, &mut Counters::default(), R, S, 17, &input)?;
+///
+/// // The head got wet: the tiers of one card, which sits in both its slots, are wiped out.
+/// let both = pinorange::hashes(&tabulation, R, 17, 733_001)?;
+/// for (table, slot) in (0..).zip(both) {
+///     words[slot_start(R, table, slot) + 2] = u32::MAX;
+/// }
+/// assert_eq!(pinorange::check(&tabulation, &words, &mut scratch), Err(Refusal::NotCanonical));
+///
+/// // Two slots hold what is no card any more, and the other two cards are saved.
+/// assert_eq!(pinorange::salvage(&tabulation, &words, &mut target, &mut scratch), Ok(2));
+/// assert_eq!(pinorange::check(&tabulation, &target, &mut scratch), Ok(()));
+/// assert_eq!(pinorange::lookup(&tabulation, &target, 410_010), Ok(Some(3)));
+/// assert_eq!(pinorange::lookup(&tabulation, &target, 410_025), Ok(Some(0)));
+/// assert_eq!(pinorange::lookup(&tabulation, &target, 733_001), Ok(None));
+/// # Ok::<(), Refusal>(())
+/// ```
+#[inline]
+#[rustfmt::skip]
+pub fn salvage(
+    tabulation: &[u16], words: &[u32], target: &mut [u32], scratch: &mut [u32],
+) -> Result<u32, Refusal> {
+    let mut lost = 0;
+    // Safe: all four are lent for this call and lie apart, and it is proved to write nothing but target, scratch and
+    // the number, which is this function's own.
+    done(unsafe {
+        raw::pinorange_salvage(
+            tabulation.as_ptr(), tabulation.len(), words.as_ptr(), words.len(),
+            target.as_mut_ptr(), target.len(), scratch.as_mut_ptr(), scratch.len(), &mut lost,
+        )
+    })?;
+    Ok(lost)
+}
+
 /// Opens a sale, at nozzle lift: the record with the card's tier and its price. The list stays as it is, and what
 /// becomes of the list later does not change the record.
 ///

@@ -48,7 +48,8 @@
 //! zone) that needs `memset` and no operating system, and the crate is not compiled for anything else; nobody reads or
 //! writes the words while a call changes them, an interrupt handler no more than another core, which the borrows of a
 //! `List` see to in safe Rust; on [`Refusal::NotCanonical`], and after a reset, the tabulation is written afresh, and
-//! all cards are laid again from a record of the caller's own, in one call if that is ascending.
+//! all cards are laid again from a record of the caller's own, in one call if that is ascending; where there is no
+//! record, a salvage saves what still stands where it may.
 //!
 //! `examples/head.rs` is a short head.
 
@@ -94,7 +95,8 @@ pub use refusal::Refusal;
 
 #[cfg(feature = "list")]
 pub use calls::{
-    bulk_load, check, close_sale, house, init, insert, lookup, open_sale, remove, stash, trail,
+    bulk_load, check, close_sale, house, init, insert, lookup, open_sale, remove, salvage, stash,
+    trail,
 };
 #[cfg(feature = "list")]
 pub use cards::cards;

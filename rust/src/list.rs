@@ -9,12 +9,13 @@ use crate::{Counters, Refusal, Sale, Scratch, STEPS, TABULATION_LENGTH};
 
 /// A card list over memory that it is lent: a tabulation, words and counters.
 ///
-/// [`init`](List::init) lays an empty one, [`bulk_load`](List::bulk_load) a whole one in one call, and
-/// [`open`](List::open) takes words that are a list already, and checks that they are. From then on nothing else in
-/// safe Rust can write the words or the tabulation, so that the words stay the canonical image of a set under this
-/// tabulation. `WrongShape` and `NotCanonical`, where a method may give them, say that it happened all the same: by a
-/// fault of the memory, or by another program. What to do then stands in `pinorange.h`: lay all cards again from a
-/// record of your own.
+/// [`init`](List::init) lays an empty one, [`bulk_load`](List::bulk_load) a whole one in one call,
+/// [`open`](List::open) takes words that are a list already, and checks that they are, and [`salvage`](List::salvage)
+/// saves what is left of words that are not any more. From then on nothing else in safe Rust can write the words or the
+/// tabulation, so that the words stay the canonical image of a set under this tabulation. `WrongShape` and
+/// `NotCanonical`, where a method may give them, say that it happened all the same: by a fault of the memory, or by
+/// another program. What to do then stands in `pinorange.h`: lay all cards again from a record of your own; where there
+/// is none, salvage.
 ///
 /// Two lists of the same cards at the same tiers, with one tabulation, of one size and station, have the same
 /// [`words`](List::words), whatever came before. Methods that take `&self` may run side by side.
@@ -154,6 +155,48 @@ impl<'a> List<'a> {
     ) -> Result<List<'a>, Refusal> {
         calls::check(tabulation, words, scratch.words())?;
         Ok(List { tabulation, words, counters })
+    }
+
+    /// Saves what is left of damaged words: lays the list of the keys in them that still stand where they may, whatever
+    /// its own words were, and tells how many slots and stash places of the damaged ones hold a number other than 0 that
+    /// is no such key. These are only read. The header says which keys survive, and what to compare before the list is
+    /// relied on: 0 does not say that the damaged words were as they should be. The counters stay as they are.
+    ///
+    /// ```
+    /// # use pinorange::{scratch_length, words_length, Counters, List, Refusal, Scratch, TABULATION_LENGTH};
+    /// # let (mut tabulation, mut counters) = ([0; TABULATION_LENGTH], Counters::default());
+    /// # let (mut words, mut others) = ([0; words_length(16, 2)], [0; words_length(16, 2)]);
+    /// # let mut scratch = Scratch::<[u32; scratch_length(16, 2)]>::new();
+    /// # pinorange::house(&mut tabulation)?;
+    /// let mut list = List::init(&tabulation, &mut words, 16, 2, 17, &mut counters)?;
+    /// list.insert(&mut scratch, 410_017, 3)?;
+    ///
+    /// // The head got wet: both counts of its heading are gone.
+    /// words[2..4].fill(u32::MAX);
+    /// let opened = List::open(&tabulation, &mut words, &mut scratch, &mut counters);
+    /// assert_eq!(opened.err(), Some(Refusal::NotCanonical));
+    ///
+    /// let (mut list, lost) = List::salvage(&tabulation, &mut others, &mut scratch, &mut counters, &words)?;
+    /// assert_eq!((list.len(), lost), (1, 0));
+    /// assert_eq!(list.lookup(410_017), Ok(Some(3)));
+    /// list.insert(&mut scratch, 733_001, 7)?;
+    /// # Ok::<(), Refusal>(())
+    /// ```
+    ///
+    /// # Errors
+    ///
+    /// In this order, and its own words stay as they were: `WrongShape`, of the damaged words, and then if its own are not
+    /// as many; `ShortScratch`; `NoneCounts` (there is some number in the slots and the stash, and no key).
+    #[inline]
+    pub fn salvage(
+        tabulation: &'a [u16; TABULATION_LENGTH],
+        words: &'a mut [u32],
+        scratch: &mut Scratch,
+        counters: &'a mut Counters,
+        damaged: &[u32],
+    ) -> Result<(List<'a>, u32), Refusal> {
+        let lost = calls::salvage(tabulation, damaged, words, scratch.words())?;
+        Ok((List { tabulation, words, counters }, lost))
     }
 
     /// Puts a key with its tier into the set.

@@ -62,6 +62,12 @@ extern "C" {
         scratch: *mut u32, scratch_length: usize, key: u32, trail: *mut u32, trail_length: usize, count: *mut u32,
     ) -> u32;
 
+    /// Salvages damaged words into a second area. 0, or the first that applies of 1, 2, 2, 3, 15.
+    pub fn pinorange_salvage(
+        tabulation: *const u16, tabulation_length: usize, words: *const u32, words_length: usize,
+        target: *mut u32, target_length: usize, scratch: *mut u32, scratch_length: usize, lost: *mut u32,
+    ) -> u32;
+
     /// Opens a sale. 0, or the first that applies of 1, 2, 5, 7, 4, 12.
     pub fn pinorange_open_sale(
         tabulation: *const u16, tabulation_length: usize, words: *const u32, words_length: usize, key: u32,

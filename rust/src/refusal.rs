@@ -37,6 +37,8 @@ pub enum Refusal {
     OtherIssue,
     /// 14: the keys of a bulk load's input do not rise, or it has an odd number of words.
     NotRising,
+    /// 15: some slot or stash place of the words to salvage holds a number other than 0, yet no key counts.
+    NoneCounts,
     /// A number that this version does not know: the crate is linked with a library of another version. With 0 such a
     /// library said that it is done, but named a part of the lent memory that is not there.
     Unknown(u32),
@@ -62,6 +64,7 @@ impl Refusal {
             12 => Refusal::WrongPrice,
             13 => Refusal::OtherIssue,
             14 => Refusal::NotRising,
+            15 => Refusal::NoneCounts,
             _ => Refusal::Unknown(number),
         })
     }
@@ -84,6 +87,7 @@ impl Refusal {
             Refusal::WrongPrice => 12,
             Refusal::OtherIssue => 13,
             Refusal::NotRising => 14,
+            Refusal::NoneCounts => 15,
             Refusal::Unknown(number) => number,
         }
     }
@@ -106,6 +110,7 @@ impl fmt::Display for Refusal {
             Refusal::WrongPrice => "the prices are outside their range",
             Refusal::OtherIssue => "another issue of the key is listed",
             Refusal::NotRising => "the keys do not rise, or the last has no tier",
+            Refusal::NoneCounts => "no key of the damaged words counts",
             Refusal::Unknown(number) => {
                 return write!(f, "the library answered {number}, which this crate does not know");
             }
@@ -131,8 +136,8 @@ mod tests {
     #[test]
     fn any_number_is_an_answer() {
         assert_eq!(done(0), Ok(()));
-        assert_eq!(done(14), Err(Refusal::NotRising));
-        for number in [15, 256, u32::MAX] {
+        assert_eq!(done(15), Err(Refusal::NoneCounts));
+        for number in [16, 256, u32::MAX] {
             assert_eq!(done(number), Err(Refusal::Unknown(number)));
         }
     }

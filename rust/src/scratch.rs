@@ -3,9 +3,9 @@
 
 use core::fmt;
 
-/// The scratch that a [`List`](crate::List) borrows for a bulk load, a change, a check or a trail: its own memory, of a
-/// length that the type has, at least [`scratch_length`](crate::scratch_length)`(r, s)` words. One may serve any number
-/// of lists.
+/// The scratch that a [`List`](crate::List) borrows for a bulk load, a change, a check, a trail or a salvage: its own
+/// memory, of a length that the type has, at least [`scratch_length`](crate::scratch_length)`(r, s)` words. One may
+/// serve any number of lists.
 ///
 /// Calls take a `&mut Scratch`, to which a reference to a scratch of any length turns by itself. Its old content has
 /// no effect, and after each call it is zeros over its full length, so that it tells nothing of the list.

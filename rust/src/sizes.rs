@@ -43,7 +43,7 @@ pub const fn place_start(r: u32, place: u32) -> usize {
     words_length(r, place)
 }
 
-/// How many words of scratch insert, remove, check, trail and bulk load borrow, at least: 12r + 8s.
+/// How many words of scratch insert, remove, check, trail, bulk load and salvage borrow, at least: 12r + 8s.
 #[must_use]
 pub const fn scratch_length(r: u32, s: u32) -> usize {
     times(12, r).saturating_add(times(8, s))

@@ -28,7 +28,7 @@ const AFTER: &str = "
 ";
 
 /// Lines that are right: each call that takes words or scratch, and a list that two threads read.
-const RIGHT: [&str; 8] = [
+const RIGHT: [&str; 10] = [
     "list.insert(&mut scratch, 410_017, 3)?;",
     "list.remove(&mut scratch, 410_017)?;",
     "list.check(&mut scratch)?;",
@@ -36,11 +36,13 @@ const RIGHT: [&str; 8] = [
     "List::init(&tabulation, other_words, 16, 2, 17, &mut other_counters)?;",
     "List::bulk_load(&tabulation, other_words, 16, 2, 17, &mut other, &mut other_counters, keys)?;",
     "List::open(&tabulation, other_words, &mut other, &mut other_counters)?;",
+    "List::salvage(&tabulation, other_words, &mut other, &mut other_counters, keys)?;",
+    "List::salvage(&tabulation, other_words, &mut other, &mut other_counters, list.words())?;",
     "fn may_be_shared<T: Send + Sync>(_: &T) {} may_be_shared(&list);",
 ];
 
 /// Lines that are wrong, with the compiler's number of what is.
-const WRONG: [(&str, &str); 18] = [
+const WRONG: [(&str, &str); 24] = [
     ("list.insert(other_words, 410_017, 3)?;", "E0308"),
     ("list.remove(other_words, 410_017)?;", "E0308"),
     ("list.check(other_words)?;", "E0308"),
@@ -53,6 +55,13 @@ const WRONG: [(&str, &str); 18] = [
     // The input stands in the words that are written, and in a list's.
     ("List::bulk_load(&tabulation, keys, 1, 2, 3, &mut other, &mut other_counters, keys)?;", "E0502"),
     ("List::bulk_load(&tabulation, keys, 1, 2, 3, &mut other, &mut other_counters, &words)?;", "E0502"),
+    ("List::salvage(&tabulation, &mut other, &mut scratch, &mut other_counters, keys)?;", "E0308"),
+    ("List::salvage(&tabulation, other_words, keys, &mut other_counters, &[])?;", "E0308"),
+    ("List::salvage(&tabulation, other_words, &mut scratch, &mut other_counters, &other)?;", "E0308"),
+    // The list is laid in words that may only be read; over the words that it is to save; over those of another list.
+    ("List::salvage(&tabulation, list.words(), &mut other, &mut other_counters, keys)?;", "E0308"),
+    ("List::salvage(&tabulation, keys, &mut other, &mut other_counters, keys)?;", "E0502"),
+    ("List::salvage(&tabulation, &mut words, &mut other, &mut other_counters, keys)?;", "E0499"),
     ("List::open(&tabulation, &mut other, &mut scratch, &mut other_counters)?;", "E0308"),
     ("List::open(&tabulation, other_words, keys, &mut other_counters)?;", "E0308"),
     // Both exchanged are two errors, which the compiler tells as one.
