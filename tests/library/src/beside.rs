@@ -1,4 +1,4 @@
-//! One call of the library beside the same call of the program by another hand: answer, every word, scratch,
+//! One call of the library beside the same call of the program by another hand: answer, every word, scratch, target,
 //! tabulation, input, steps, counters and out-parameters, on memory with guards around every lent slice and every
 //! record of a sale. The crate's safe function is called beside them on copies, and must give the same under its own
 //! names. The answers are counted, call by call.
@@ -14,6 +14,7 @@ use crate::guarded::Guarded;
 use crate::inputs::{Inputs, Lent};
 use crate::issues::Issues;
 use crate::safe::{self, named};
+use crate::wet::{self, Salvages};
 use crate::{are_sizes, Change, Counters, Sale, HEADER_LENGTH};
 
 /// The calls that answer with a number. The closing of a sale gives a price, and is never refused.
@@ -27,6 +28,7 @@ pub enum Kind {
     Lookup,
     Stash,
     Trail,
+    Salvage,
     Open,
     Hashes,
     House,
@@ -34,13 +36,14 @@ pub enum Kind {
 
 impl Kind {
     /// The calls on words that were laid before.
-    pub const ON_WORDS: [Kind; 7] = [
+    pub const ON_WORDS: [Kind; 8] = [
         Kind::Insert,
         Kind::Remove,
         Kind::Check,
         Kind::Lookup,
         Kind::Stash,
         Kind::Trail,
+        Kind::Salvage,
         Kind::Open,
     ];
 }
@@ -55,13 +58,14 @@ pub const ANSWERS: &[(Kind, &[u32])] = &[
     (Kind::Lookup, &[0, 1, 2, 5]),
     (Kind::Stash, &[0, 2, 4]),
     (Kind::Trail, &[0, 1, 2, 3, 4, 5, 7, 11]),
+    (Kind::Salvage, &[0, 1, 2, 3, 15]),
     (Kind::Open, &[0, 1, 2, 5, 7, 4, 12]),
     (Kind::Hashes, &[0, 1, 2, 5]),
     (Kind::House, &[0, 1]),
 ];
 
 /// The largest number that is an answer.
-const LARGEST: usize = 14;
+const LARGEST: usize = 15;
 
 /// The answer that a station above 255 gets, among others.
 const WRONG_SHAPE: u32 = 2;
@@ -101,6 +105,8 @@ pub struct Beside {
     issues: Issues,
     /// Why bulk loads answered as they did.
     inputs: Inputs,
+    /// Why salvages did, and what became of the numbers in their words.
+    salvages: Salvages,
 }
 
 impl Beside {
@@ -150,9 +156,10 @@ impl Beside {
 
     /// Prints how often each call gave each answer. Fails where one of these calls never gave an answer that it can
     /// give, or never a 2 for the station alone; where an issue never had a part in an answer that it can have a part
-    /// in; of bulk loads also where some two causes for a refusal never came together, of hashes where no sum of lowest
-    /// byte and station wrapped, or each did, of lookups where all found their key, or none did, of trails where none
-    /// was empty, or none longer than one key, and of openings where no step was below 0, none 0, or none above.
+    /// in; of bulk loads and salvages also where some two causes for a refusal never came together, of hashes where no
+    /// sum of lowest byte and station wrapped, or each did, of lookups where all found their key, or none did, of trails
+    /// where none was empty, or none longer than one key, of salvages where some number never had one of the fates that
+    /// it can have, and of openings where no step was below 0, none 0, or none above.
     pub fn report(&self, kinds: &[Kind]) {
         for (kind, answers) in ANSWERS.iter().filter(|(kind, _)| kinds.contains(kind)) {
             let seen = &self.seen[*kind as usize];
@@ -178,6 +185,7 @@ impl Beside {
     fn report_done(&self, kind: Kind) {
         match kind {
             Kind::BulkLoad => self.inputs.report(),
+            Kind::Salvage => self.salvages.report(),
             Kind::Lookup => {
                 let [no, yes] = self.found;
                 println!("{kind:?}: {yes} listed, {no} not listed");
@@ -425,6 +433,40 @@ impl Beside {
             expected.clear();
         }
         (self.count_of(Kind::Trail, words, key, got), expected)
+    }
+
+    /// A salvage of words to a target with any old content: its answer, and how many numbers were lost, none if it is
+    /// refused. Refused, the target and the number stay as they were.
+    pub fn salvage(
+        &mut self,
+        tabulation: &[u16],
+        words: &[u32],
+        target: &mut [u32],
+        scratch: &[u32],
+    ) -> (u32, Option<u32>) {
+        let mut expected = target.to_vec();
+        let mut theirs = scratch.to_vec();
+        #[rustfmt::skip]
+        let told = reference::salvage::salvage(&Fast, tabulation, words, &mut expected, &mut theirs);
+        let answer = number(told.map(|_| ()));
+        let mut book = Guarded::new(tabulation, GUARD_ENTRY);
+        let mut lent = Guarded::new(words, GUARD);
+        let mut area = Guarded::new(target, GUARD);
+        let mut sheet = Guarded::new(scratch, GUARD);
+        let mut lost = OLD;
+        let got = crate::salvage(book.lent(), lent.lent(), area.lent(), sheet.lent(), &mut lost);
+        let why = || format!("a salvage of {words:?} to {} words", target.len());
+        assert_eq!((got, lost), (answer, told.unwrap_or(OLD)), "{}", why());
+        assert_eq!(area.content(), &expected[..], "{}", why());
+        assert!(sheet.content().iter().all(|w| *w == 0), "the scratch is not zero");
+        assert_eq!((book.content(), lent.content()), (tabulation, words), "salvage changed memory");
+        let safe = safe::salvage(tabulation, words, target, scratch);
+        let both = (told.map_err(named), expected.clone());
+        assert_eq!(safe, both, "with the safe call: {}", why());
+        target.copy_from_slice(&expected);
+        let lent = wet::Lent { tabulation, words, target: target.len(), scratch: scratch.len() };
+        self.salvages.answer(&lent, got, target, lost);
+        (self.count_on(Kind::Salvage, words, got), told.ok())
     }
 
     /// An opening, over a record with marks: its answer, and the record, if a sale is opened. Refused, the record stays as it was.

@@ -7,6 +7,7 @@ mod inputs;
 mod issues;
 pub mod room;
 mod safe;
+pub mod wet;
 
 use pinorange::raw;
 use reference::hash::MAX_R;
@@ -106,6 +107,17 @@ pub fn trail(tabulation: &[u16], words: &[u32], scratch: &mut [u32], key: u32, t
         raw::pinorange_trail(
             tabulation.as_ptr(), tabulation.len(), words.as_ptr(), words.len(),
             scratch.as_mut_ptr(), scratch.len(), key, trail.as_mut_ptr(), trail.len(), count,
+        )
+    }
+}
+
+/// Writes the list of what survives in damaged words to a target, and how many numbers are lost.
+#[rustfmt::skip]
+pub fn salvage(tabulation: &[u16], words: &[u32], target: &mut [u32], scratch: &mut [u32], lost: &mut u32) -> u32 {
+    unsafe {
+        raw::pinorange_salvage(
+            tabulation.as_ptr(), tabulation.len(), words.as_ptr(), words.len(),
+            target.as_mut_ptr(), target.len(), scratch.as_mut_ptr(), scratch.len(), lost,
         )
     }
 }

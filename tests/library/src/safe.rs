@@ -25,6 +25,7 @@ pub fn named(refusal: Theirs) -> Refusal {
         Theirs::ShortTrailSheet => Refusal::ShortTrail,
         Theirs::WrongPrice => Refusal::WrongPrice,
         Theirs::FullStash => Refusal::StashFull,
+        Theirs::NothingCounts => Refusal::NoneCounts,
     }
 }
 
@@ -134,6 +135,23 @@ pub fn trail(
     assert_eq!((book.content(), lent.content()), (tabulation, words), "trail changed memory");
     assert_zero(&sheet);
     (keys, trail.content().to_vec())
+}
+
+/// A salvage over a target with this old content: what it told, and the target after it.
+pub fn salvage(
+    tabulation: &[u16],
+    words: &[u32],
+    target: &[u32],
+    scratch: &[u32],
+) -> (Result<u32, Refusal>, Vec<u32>) {
+    let mut book = Guarded::new(tabulation, GUARD_ENTRY);
+    let mut lent = Guarded::new(words, GUARD);
+    let mut area = Guarded::new(target, GUARD);
+    let mut sheet = Guarded::new(scratch, GUARD);
+    let lost = pinorange::salvage(book.lent(), lent.lent(), area.lent(), sheet.lent());
+    assert_eq!((book.content(), lent.content()), (tabulation, words), "salvage changed memory");
+    assert_zero(&sheet);
+    (lost, area.content().to_vec())
 }
 
 #[rustfmt::skip]

@@ -223,6 +223,140 @@ fn the_refusals_of_a_bulk_load_in_their_order() {
     assert_eq!((counters.done, counters.refused), (3, 21));
 }
 
+/// Words of the test board with two places and counts that are wrong: these slots, each a key and a tier, and places.
+fn wet(slots: &[(usize, u32, u32)], places: [(u32, u32); 2]) -> Vec<u32> {
+    let mut words = vec![4, 2, 77, 1, 0];
+    words.resize(words_length(4, 2), 0);
+    for (slot, key, tier) in slots {
+        words[5 + 3 * slot..][..3].copy_from_slice(&[*key, 99, *tier]);
+    }
+    for (place, (key, tier)) in places.into_iter().enumerate() {
+        words[29 + 2 * place..][..2].copy_from_slice(&[key, tier]);
+    }
+    words
+}
+
+/// A salvage at station 0, over a target of nines, which a refused one leaves.
+fn saved(words: &[u32]) -> (u32, Option<u32>, Vec<u32>) {
+    let scratch = vec![3; scratch_length(words[0], words[1])];
+    let mut target = vec![9; words.len()];
+    let (answer, lost) = Beside::new().salvage(&test_tabulation(), words, &mut target, &scratch);
+    (answer, lost, target)
+}
+
+/// Salvages by hand: which numbers count, which of them stand, and how many are lost. 170 and its issues have the slots
+/// 0.1 and 1.1 (1 and 5 of all slots), 650, 10 and 1290 have 0.1 and 1.0 (1 and 4).
+#[test]
+fn salvages_by_hand() {
+    const NONE: (u32, u32) = (0, 0);
+    for (slots, places, lost, survivors) in [
+        (&[][..], [NONE; 2], 0, &[][..]),
+        // a tier without a key is no number
+        (&[(1, 0, 8), (5, 0, 3)], [(0, 7), (0, u32::MAX)], 0, &[]),
+        (&[(1, 170, 3), (5, 170, 3)], [NONE; 2], 0, &[(170, 3)]),
+        (&[(5, 170, 3)], [NONE; 2], 0, &[(170, 3)]),
+        // copies at two tiers, and issues: the first that counts, with its tier
+        (&[(1, 170, 1), (5, 170, 2)], [(170, 7), NONE], 0, &[(170, 1)]),
+        (&[(1, 179, 1), (5, 170, 2)], [(171, 7), (170, 1)], 0, &[(179, 1)]),
+        (&[(5, 172, 2)], [(171, 7), (170, 1)], 0, &[(172, 2)]),
+        (&[], [(173, 2), (171, 1)], 0, &[(173, 2)]),
+        // 171 has no tier, so that 172 is the first that counts
+        (&[(1, 171, 8), (5, 172, 7)], [NONE; 2], 1, &[(172, 7)]),
+        (&[(1, 171, u32::MAX)], [(171, 8), (172, 0)], 2, &[(172, 0)]),
+        // in a slot of another key, in the other table's slot, and blank
+        (&[(2, 170, 0), (5, 170, 0)], [NONE; 2], 1, &[(170, 0)]),
+        (&[(0, 650, 0), (1, 650, 1), (5, 650, 2)], [NONE; 2], 2, &[(650, 1)]),
+        (&[(1, 9, 0), (4, 650, 1), (6, 1, 9)], [(5, 0), NONE], 3, &[(650, 1)]),
+        // both places are read, whatever word 3 says; what fits into a slot is seated
+        (&[], [NONE, (1290, 7)], 0, &[(1290, 7)]),
+        (
+            &[(1, 10, 1), (4, 650, 2)],
+            [(1290, 3), (1930, 4)],
+            0,
+            &[(10, 1), (650, 2), (1290, 3), (1930, 4)],
+        ),
+        (
+            &[(1, 10, 1), (4, 650, 2)],
+            [(1930, 4), (1290, 3)],
+            0,
+            &[(10, 1), (650, 2), (1290, 3), (1930, 4)],
+        ),
+        (&[(1, 10, 1), (4, 650, 2)], [(10, 4), (655, 3)], 0, &[(10, 1), (650, 2)]),
+        (&[(1, u32::MAX, 7)], [(10, 0), NONE], 0, &[(10, 0), (u32::MAX, 7)]),
+    ] {
+        let words = wet(slots, places);
+        let image = reference::image::image(&test_tabulation(), 4, 2, 0, survivors);
+        let image = image.expect("survivors fit");
+        assert_eq!(saved(&words), (0, Some(lost), image.clone()), "{slots:?}, {places:?}");
+        assert_eq!(saved(&image), (0, Some(0), image.clone()), "{image:?}");
+    }
+    // One of them word by word: 1290 and 1930 were exchanged in the stash, and both next numbers and counts are wrong.
+    let words = wet(&[(1, 10, 1), (4, 650, 2)], [(1930, 4), (1290, 3)]);
+    let mended = [4, 2, 4, 2, 0, 0, 0, 0, 10, 650, 1];
+    let mended = [&mended[..], &[0; 6], &[650, 10, 2], &[0; 9], &[1290, 3, 1930, 4]].concat();
+    assert_eq!(saved(&words), (0, Some(0), mended));
+    // Some number, and no key that counts.
+    for (slots, places) in [
+        (&[(1, 9, 0)][..], [NONE; 2]),
+        (&[], [NONE, (9, 0)]),
+        (&[], [NONE, (10, 8)]),
+        (&[(1, 170, 8)], [NONE; 2]),
+        (
+            &[(0, 170, 0), (2, 170, 0), (3, 170, 0), (4, 170, 0), (6, 170, 0), (7, 170, 0)],
+            [NONE; 2],
+        ),
+        (&[(0, u32::MAX, u32::MAX)], [(1, 1), (u32::MAX, 8)]),
+    ] {
+        let words = wet(slots, places);
+        assert_eq!(saved(&words), (15, None, vec![9; 33]), "{slots:?}, {places:?}");
+    }
+    // The smallest list: a key in each slot, and one that was the only one.
+    let k12 = [1, 0, 2, 0, 0, 200, u32::MAX, 6, u32::MAX, 200, 2];
+    assert_eq!(saved(&k12), (0, Some(0), k12.to_vec()));
+    let torn = [1, 0, 2, 0, 0, 200, u32::MAX, 8, u32::MAX, 200, 2];
+    let alone = vec![1, 0, 1, 0, 0, u32::MAX, u32::MAX, 2, u32::MAX, u32::MAX, 2];
+    assert_eq!(saved(&torn), (0, Some(1), alone));
+}
+
+/// The refusals of a salvage, each with causes for those that are tried behind it.
+#[test]
+fn the_refusals_of_a_salvage_in_their_order() {
+    let mut beside = Beside::new();
+    let tabulation = test_tabulation();
+    let (none, some) = (wet(&[(1, 9, 0)], [(0, 0); 2]), wet(&[(1, 170, 0)], [(9, 0); 2]));
+    let with = |at: usize, value: u32| {
+        let mut words = none.clone();
+        words[at] = value;
+        words
+    };
+    for (book, words, target, scratch, answer) in [
+        (&tabulation[1..], &none[..], 32, 63, 1),
+        (&tabulation[1..], &with(0, 0), 32, 0, 1),
+        (&tabulation[1..], &[], 1, 0, 1),
+        (&tabulation, &with(0, 0), 32, 63, 2),
+        (&tabulation, &with(1, 65), 32, 0, 2),
+        (&tabulation, &with(4, 256), 33, 63, 2),
+        (&tabulation, &with(4, u32::MAX), 33, 64, 2),
+        (&tabulation, &none[1..], 32, 64, 2),
+        (&tabulation, &[], 0, 64, 2),
+        (&tabulation, &none, 32, 63, 2),
+        (&tabulation, &none, 34, 0, 2),
+        (&tabulation, &some, 0, 64, 2),
+        (&tabulation, &some, 31, 64, 2),
+        (&tabulation, &none, 33, 63, 3),
+        (&tabulation, &some, 33, 0, 3),
+        (&tabulation, &none, 33, 64, 15),
+        (&tabulation, &none, 33, 99, 15),
+        (&tabulation, &some, 33, 64, 0),
+        (&tabulation, &some, 33, 99, 0),
+    ] {
+        let mut area = vec![7; target];
+        let (got, _) = beside.salvage(book, words, &mut area, &vec![3; scratch]);
+        assert_eq!(got, answer, "{words:?} to {target} words with {scratch}");
+        assert!(got == 0 || area == vec![7; target], "a refused salvage changed the target");
+    }
+}
+
 /// K9, K10, K11, a cycle with a key that hangs from it, and a tree, slot by slot as the specification writes them; and the words of the console's listing.
 #[test]
 fn the_test_board() {
@@ -920,6 +1054,9 @@ fn neatly_seated_but_no_set() {
     ] {
         let words = crowd(slot, seats, stash);
         let scratch = vec![3; scratch_length(4, 2)];
+        let mut target = vec![3; words.len()];
+        let (_, lost) = beside.salvage(&tabulation, &words, &mut target, &scratch);
+        assert_eq!(target == words && lost == Some(0), answer == 0, "a salvage of {words:?}");
         let mut answers = vec![beside.check(&tabulation, &words, &scratch)];
         for key in [seats[0], 19, 9, 20] {
             for way in [Insert(5), Remove] {
@@ -984,6 +1121,10 @@ fn huge_headings_and_wrong_lengths() {
                 }
                 assert_eq!([counters.done, counters.refused], [u32::MAX; 2], "a count stays");
                 beside.check(&tabulation, &words, &[1; 40]);
+                for more in [0, 1] {
+                    let mut area = vec![3; length + more];
+                    beside.salvage(&tabulation, &words, &mut area, &[1; 40]);
+                }
                 beside.trail(&tabulation, &words, &[1; 40], 40, &[2; 3]);
                 for (key, start) in [(0, 0), (9, 0), (40, 0), (50, 0), (51, 0), (70, 1)] {
                     beside.lookup(&tabulation[start..], &words, key);

@@ -18,10 +18,11 @@ const SHORT: usize = 11;
 const OLD: u32 = 0xDEAD_BEEF;
 
 /// The answers that each call of a list can give, in safe Rust.
-const ANSWERS: [(&str, &[u32]); 9] = [
+const ANSWERS: [(&str, &[u32]); 10] = [
     ("init", &[0, 2]),
     ("bulk_load", &[0, 2, 3, 5, 9, 14, 13, 8]),
     ("open", &[0, 2, 3, 4]),
+    ("salvage", &[0, 2, 3, 15]),
     ("insert", &[0, 3, 5, 9, 13, 10, 6, 8]),
     ("remove", &[0, 3, 5, 7]),
     ("check", &[0, 3]),
@@ -244,6 +245,46 @@ fn opened(
     }
 }
 
+/// Saves what is left of words of which some were changed, or all keys, and goes on if there is something. Now and then
+/// the list's own words are not as many.
+fn saved(
+    rng: &mut Rng,
+    tabulation: &[u16; TABULATION_LENGTH],
+    mut damaged: Vec<u32>,
+    seen: &mut Seen,
+) {
+    let change_at = |rng: &mut Rng, word: &mut u32| *word = rng.pick(&[0, 5, *word ^ 1, u32::MAX]);
+    match rng.below(9) {
+        0 => damaged[5..].iter_mut().for_each(|word| *word = (*word).min(9)),
+        1 => change_at(rng, &mut damaged[1]),
+        times => {
+            for _ in 0..times {
+                let place = 2 + rng.below(damaged.len() - 2);
+                change_at(rng, &mut damaged[place]);
+            }
+        }
+    }
+    let mut words = vec![OLD; damaged.len() - usize::from(rng.one_in(9))];
+    let (mut scratch, mut plain) = scratch(rng);
+    let (mut theirs, mut lost) = (words.clone(), OLD);
+    let mut counters = Counters { done: 3, refused: 4 };
+    let before = (damaged.clone(), counters);
+    let answer = library::salvage(tabulation, &damaged, &mut theirs, &mut plain, &mut lost);
+    let told = List::salvage(tabulation, &mut words, &mut scratch, &mut counters, &damaged);
+    let number = told.as_ref().map(|(_, lost)| *lost).map_err(|refusal| *refusal);
+    seen.compare("salvage", number, answer, lost);
+    let Ok((list, _)) = told else {
+        assert_eq!((words, (damaged, counters)), (theirs, before), "a refused salvage");
+        return;
+    };
+    assert_eq!((&damaged, list.counters()), (&before.0, before.1), "a salvage counts nothing");
+    let mut beside = Beside { list, tabulation, words: theirs, counters: before.1 };
+    beside.compare_cards();
+    for _ in 0..20 {
+        beside.step(rng, seen);
+    }
+}
+
 #[test]
 fn a_list_beside_the_calls() {
     let mut rng = Rng::new(35);
@@ -253,6 +294,7 @@ fn a_list_beside_the_calls() {
         let tabulation = random_tabulation(&mut rng, values);
         let tabulation = tabulation.try_into().expect("a tabulation has one length");
         if let Some(words) = laid(&mut rng, &tabulation, &mut seen) {
+            saved(&mut rng, &tabulation, words.clone(), &mut seen);
             opened(&mut rng, &tabulation, words, &mut seen);
         }
     }

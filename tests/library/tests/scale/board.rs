@@ -1,6 +1,6 @@
 //! A dictionary in the middle of a sequence of calls, beside the register that must answer the same: one random call of
-//! any kind, lent memory that is now and then wrong, sales that stay open, bulk loads, with which a sequence starts
-//! anew where they are accepted, and calls on a damaged copy of the words.
+//! any kind, lent memory that is now and then wrong, sales that stay open, bulk loads and salvages of damaged words, with
+//! which a sequence starts anew where they are accepted, and calls on a damaged copy of the words.
 
 use library::beside::{record_of, sale_of, Beside};
 use library::Change::{Insert, Remove};
@@ -18,8 +18,8 @@ use crate::common::{
     trail_length, trail_sheet, WRONG_STATIONS,
 };
 
-/// What a bulk load may be refused with.
-const BULK_REFUSALS: [Refusal; 8] = [
+/// What a bulk load or a salvage may be refused with.
+const LAYING_REFUSALS: [Refusal; 9] = [
     Refusal::WrongTabulation,
     Refusal::WrongShape,
     Refusal::ShortScratch,
@@ -28,6 +28,7 @@ const BULK_REFUSALS: [Refusal; 8] = [
     Refusal::NotRising,
     Refusal::OtherIssue,
     Refusal::FullStash,
+    Refusal::NothingCounts,
 ];
 
 /// A dictionary in the middle of a sequence of calls, with the register that must answer the same.
@@ -195,7 +196,9 @@ impl Board {
                 assert_eq!(trail, answer.clone().unwrap_or_default());
                 answer.map_or_else(Refusal::number, |_| 0)
             }
-            Reply::Open(_) | Reply::Close(_) => unreachable!("{call:?} is no call of a sale"),
+            Reply::Open(_) | Reply::Close(_) | Reply::Salvage(_) => {
+                unreachable!("{call:?} has a reply of its own")
+            }
         }
     }
 
@@ -217,9 +220,49 @@ impl Board {
             let register = Model::bulk_loaded(Fast, &self.tabulation, r, s, station, &input);
             (self.register, self.station) = (register.expect("a load that is accepted"), station);
         } else {
-            let refusal = BULK_REFUSALS.into_iter().find(|one| one.number() == answer);
-            let call = Call::Other { refusal: refusal.expect("a refusal of a bulk load") };
-            assert_eq!(self.expected(&call, &[]), answer);
+            self.refused(answer);
+        }
+        assert_eq!(self.words, self.register.words(), "not the image of the register's set");
+    }
+
+    /// A refused call that would lay the list: one of another kind, to the register.
+    fn refused(&mut self, answer: u32) {
+        let refusal = LAYING_REFUSALS.into_iter().find(|one| one.number() == answer);
+        let call = Call::Other { refusal: refusal.expect("a refusal of a call that lays a list") };
+        assert_eq!(self.expected(&call, &[]), answer);
+    }
+
+    /// A salvage of the words to another area, which the register answers, too: the words themselves, and 0.
+    pub fn salvage_to_another(&mut self, rng: &mut Rng, beside: &mut Beside) {
+        let (book, scratch, _) = self.lent(rng);
+        let more = if rng.one_in(9) { rng.below(3) } else { 1 };
+        let mut target = random_words(rng, self.words.len() + more - 1);
+        let before = target.clone();
+        let (answer, lost) = beside.salvage(&book, &self.words, &mut target, &scratch);
+        let call = Call::Salvage {
+            tabulation_len: book.len(),
+            target_len: target.len(),
+            scratch_len: scratch.len(),
+        };
+        let Reply::Salvage(expected) = self.register.feed(&call) else { panic!("{call:?}") };
+        match expected {
+            Ok(told) => assert_eq!((answer, (target, lost)), (0, (told.0, Some(told.1)))),
+            Err(refusal) => assert_eq!((answer, target), (refusal.number(), before), "{call:?}"),
+        }
+    }
+
+    /// A salvage of a damaged copy of the words to the words themselves. Accepted, it starts a sequence anew, and the
+    /// register with the survivors; refused, it is a call of another kind.
+    pub fn salvage(&mut self, rng: &mut Rng, beside: &mut Beside) {
+        let (book, scratch, _) = self.lent(rng);
+        let damaged = self.damaged_words(rng);
+        let (answer, _) = beside.salvage(&book, &damaged, &mut self.words, &scratch);
+        if answer == 0 {
+            let register = Model::salvaged(Fast, &self.tabulation, &damaged);
+            (self.register, self.station) =
+                (register.expect("a salvage that is accepted"), damaged[4]);
+        } else {
+            self.refused(answer);
         }
         assert_eq!(self.words, self.register.words(), "not the image of the register's set");
     }
@@ -292,12 +335,9 @@ impl Board {
         }
     }
 
-    /// One call on a copy of the words that is damaged; the sequence goes on with the sound ones.
-    pub fn call_damaged(&self, rng: &mut Rng, beside: &mut Beside) {
-        let (book, scratch, key) = self.lent(rng);
-        let tier = self.tier(rng, key);
+    /// A copy of the words that is damaged.
+    fn damaged_words(&self, rng: &mut Rng) -> Vec<u32> {
         let mut words = self.words.clone();
-        let mut counters = self.counters;
         for _ in 0..=rng.below(3) {
             let at = rng.below(words.len());
             words[at] = self.damaged(rng, words[at]);
@@ -308,7 +348,16 @@ impl Board {
         if rng.one_in(12) {
             words.truncate(rng.below(words.len()));
         }
-        match rng.below(7) {
+        words
+    }
+
+    /// One call on a copy of the words that is damaged; the sequence goes on with the sound ones.
+    pub fn call_damaged(&self, rng: &mut Rng, beside: &mut Beside) {
+        let (book, scratch, key) = self.lent(rng);
+        let tier = self.tier(rng, key);
+        let mut words = self.damaged_words(rng);
+        let mut counters = self.counters;
+        match rng.below(8) {
             0 => beside.change(Insert(tier), &book, &mut words, &scratch, &mut counters, key),
             1 => beside.change(Remove, &book, &mut words, &scratch, &mut counters, key),
             2 => beside.check(&book, &words, &scratch),
@@ -318,7 +367,12 @@ impl Board {
                 let (base, steps) = random_prices(rng);
                 beside.open(&book, &words, self.listed_or(rng, key), base, &steps).0
             }
-            _ => beside.stash(&words),
+            6 => beside.stash(&words),
+            _ => {
+                let (more, mut target) = (rng.below(2), words.clone());
+                target.resize(words.len() + more, 7);
+                beside.salvage(&book, &words, &mut target, &scratch).0
+            }
         };
     }
 }

@@ -7,7 +7,6 @@ use library::beside::{Beside, Kind};
 use library::Change::{Insert, Remove};
 use library::{bulk_load, change, fresh, scratch_length, words_length, Counters};
 use reference::bulk::input;
-use reference::hash::TABULATION_LEN;
 use reference::house::HOUSE;
 use reference::rng::Rng;
 use reference::samples::{
@@ -16,8 +15,8 @@ use reference::samples::{
 use reference::set::Member;
 
 use crate::common::{
-    any_keys, any_laid, any_tier, fitting_set, image_of, narrow_tabulation, random_prices,
-    random_words, spoil, strangers_to, trails_of, way_to, Laid,
+    any_keys, any_laid, any_tier, even_keys, even_tabulation, fitting_set, image_of,
+    narrow_tabulation, random_prices, random_words, spoil, strangers_to, trails_of, way_to, Laid,
 };
 
 /// The words before a load: zeros, anything, a list of other keys with other sizes and station, or such a list with a
@@ -99,24 +98,6 @@ fn loads_on_small_boards() {
     for answer in [0, 5, 9, 14, 13, 8] {
         assert!(beside.given(Kind::BulkLoad, answer) > 1_000, "{answer} is rare");
     }
-}
-
-/// A tabulation under which exactly 2,112 keys fit on the largest board: first part p has the slot p modulo r in both
-/// tables, so that each pair of slots takes two keys, and 64 more are stashed.
-fn even_tabulation() -> Vec<u16> {
-    let mut tabulation = vec![0; TABULATION_LEN];
-    for half in [0, TABULATION_LEN / 2] {
-        for byte in 0..256 {
-            tabulation[half + byte] = byte as u16;
-            tabulation[half + 256 + byte] = 256 * (byte as u16 % 4);
-        }
-    }
-    tabulation
-}
-
-/// As many keys as are asked for, with first parts from 1 on.
-fn even_keys(rng: &mut Rng, count: usize) -> Vec<u32> {
-    (1..=count as u32).map(|first_part| random_issue(rng, 10 * first_part)).collect()
 }
 
 /// Hundreds of loads at r = 1,024: nearly empty, full to the last place, and with far more keys than there is room for.

@@ -10,6 +10,7 @@ mod damage;
 mod histories;
 mod issues;
 mod sales;
+mod salvage;
 mod sequences;
 mod sizes;
 mod stations;

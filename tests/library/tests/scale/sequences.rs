@@ -17,7 +17,7 @@ use crate::common::{
 };
 
 /// Hundreds of thousands of calls, in sequences of 60 on one board, which an init starts, and each accepted bulk load
-/// anew.
+/// or salvage anew.
 #[test]
 fn sequences_on_small_boards() {
     let mut rng = Rng::new(41);
@@ -28,6 +28,11 @@ fn sequences_on_small_boards() {
         for _ in 0..60 {
             if rng.one_in(60) {
                 board.bulk_load(&mut rng, &mut beside);
+            }
+            match rng.below(60) {
+                0 => board.salvage(&mut rng, &mut beside),
+                1 => board.salvage_to_another(&mut rng, &mut beside),
+                _ => {}
             }
             match rng.below(16) {
                 0 | 1 => board.call_damaged(&mut rng, &mut beside),

@@ -94,7 +94,8 @@ fn one_set_at_two_stations() {
 }
 
 /// Check, which must answer so, and the stash view: 2 comes before a short scratch and behind a wrong tabulation, and
-/// the view, which asks for no slot, answers nothing else.
+/// the view, which asks for no slot, answers nothing else. A salvage is done, or nothing of the words counts at their
+/// station.
 fn station_alone(
     beside: &mut Beside,
     tabulation: &[u16],
@@ -108,6 +109,14 @@ fn station_alone(
     let short = beside.check(tabulation, words, &scratch[1..]);
     assert_eq!(short, if answer == 2 { 2 } else { 3 }, "{value}");
     assert_eq!(beside.stash(words), if answer == 2 { 2 } else { 0 }, "{value}");
+    let mut target = vec![9; words.len()];
+    let (salvaged, lost) = beside.salvage(tabulation, words, &mut target, scratch);
+    match answer {
+        2 => assert_eq!(salvaged, 2, "{value}"),
+        0 => assert_eq!((salvaged, lost, &target[..]), (0, Some(0), words), "{value}"),
+        _ => assert!(matches!(salvaged, 0 | 15), "{salvaged}, {value}"),
+    }
+    assert!(salvaged != 0 || target[4] == value, "{value}");
 }
 
 /// A lookup and a sale of a key on words of which check answers this: both look into the slots of the station that

@@ -4,7 +4,7 @@
 use reference::hash::TABULATION_LEN;
 use reference::key::{first_part, issues};
 use reference::rng::Rng;
-use reference::samples::{random_station, random_tabulation};
+use reference::samples::{random_issue, random_station, random_tabulation};
 
 use super::Laid;
 
@@ -23,6 +23,24 @@ pub fn narrow_tabulation(rng: &mut Rng) -> Vec<u16> {
             random_tabulation(rng, values)
         }
     }
+}
+
+/// A tabulation under which exactly 2,112 keys fit on the largest board: first part p has the slot p modulo r in both
+/// tables, so that each pair of slots takes two keys, and 64 more are stashed.
+pub fn even_tabulation() -> Vec<u16> {
+    let mut tabulation = vec![0; TABULATION_LEN];
+    for half in [0, TABULATION_LEN / 2] {
+        for byte in 0..256 {
+            tabulation[half + byte] = byte as u16;
+            tabulation[half + 256 + byte] = 256 * (byte as u16 % 4);
+        }
+    }
+    tabulation
+}
+
+/// As many keys as are asked for, with first parts from 1 on.
+pub fn even_keys(rng: &mut Rng, count: usize) -> Vec<u32> {
+    (1..=count as u32).map(|first_part| random_issue(rng, 10 * first_part)).collect()
 }
 
 pub fn random_words(rng: &mut Rng, length: usize) -> Vec<u32> {
