@@ -1,9 +1,10 @@
 /* Every call on memory from malloc that is exactly as long as the call is told, from no word to one too many, with
- * scratch that was never written, and with targets of bulk loads, sheets for trails and records of sales that were not
- * either. Run under a memory checker (tests/run does) it shows what no comparison of words can: that nothing is read or
- * written outside the lent ends, that no answer and no word depends on what the scratch, the target or the record held,
- * and that a bulk load writes every word of its target, a trail every word of its sheet, and an opening every field of
- * its record. Exits with 0 when the answers, the trails and the prices are as expected, too. */
+ * scratch that was never written, and with targets of bulk loads and salvages, sheets for trails and records of sales
+ * that were not either. Run under a memory checker (tests/run does) it shows what no comparison of words can: that
+ * nothing is read or written outside the lent ends, that no answer and no word depends on what the scratch, the target
+ * or the record held, nor those of a salvage on the counts and the next numbers of its words, and that a bulk load and
+ * a salvage write every word of their target, a trail every word of its sheet, and an opening every field of its record.
+ * Exits with 0 when the answers, the trails, the prices and the lists are as expected, too. */
 #include "pinorange.h"
 
 #include <stdio.h>
@@ -363,8 +364,107 @@ static void load_whole(const struct board *board, const uint32_t laid[3], uint32
     free(words);
 }
 
+/* A salvage of the words of a board, with a scratch of its own, which must be zeros afterwards. */
+static uint32_t salvage(const struct board *board, uint32_t *target, size_t target_length, uint32_t *lost)
+{
+    uint32_t *scratch = lend(board->room * sizeof *scratch), answer;
+    answer = pinorange_salvage(board->book, board->book_length, board->words, board->length, target, target_length,
+                               scratch, board->room, lost);
+    expect_zeros("scratch", scratch, board->room);
+    free(scratch);
+    return answer;
+}
+
+/* A salvage over a target and a number that were never written: they must be these. */
+static void expect_saved(const char *what, const struct board *board, const uint32_t *wanted, uint32_t wanted_lost)
+{
+    size_t bytes = board->length * sizeof *wanted;
+    uint32_t *target = lend(bytes), *lost = lend(sizeof *lost), answer;
+    answer = salvage(board, target, board->length, lost);
+    expect(what, answer, PINORANGE_DONE);
+    if (answer == PINORANGE_DONE) { /* else neither was ever written */
+        expect(what, memcmp(target, wanted, bytes) == 0, 1);
+        expect("lost", *lost, wanted_lost);
+    }
+    free(lost);
+    free(target);
+}
+
+/* A salvage that is refused: over a target and a number that were never written, on which the answer must not depend,
+ * and over such that must stay. */
+static void expect_not_saved(const char *what, const struct board *board, size_t target_length, uint32_t wanted)
+{
+    uint32_t *target = lend(target_length * sizeof *target), *lost = lend(sizeof *lost);
+    expect(what, salvage(board, target, target_length, lost), wanted);
+    *lost = 77;
+    for (size_t i = 0; i < target_length; i++)
+        target[i] = 1000 + (uint32_t)i;
+    expect(what, salvage(board, target, target_length, lost), wanted);
+    expect(what, *lost, 77);
+    for (size_t i = 0; i < target_length; i++)
+        expect(what, target[i], 1000 + (uint32_t)i);
+    free(lost);
+    free(target);
+}
+
+/* A copy of the words of a board, of which the counts and the next numbers were never written. */
+static uint32_t *copy_for_salvage(const struct board *board)
+{
+    uint32_t *wet = lend(board->length * sizeof *wet), r = board->words[0];
+    for (size_t i = 0; i < board->length; i++) {
+        int is_next = i >= 5 && i < 5 + 6 * r && (i - 5) % 3 == 1;
+        if (i != 2 && i != 3 && !is_next)
+            wet[i] = board->words[i];
+    }
+    return wet;
+}
+
+/* How often a key stands in slots and places. */
+static uint32_t times(const struct board *board, uint32_t key)
+{
+    uint32_t r = board->words[0], s = board->words[1], count = 0;
+    for (uint32_t i = 0; i < 2 * r + s; i++)
+        count += board->words[i < 2 * r ? 5 + 3 * i : 5 + 6 * r + 2 * (i - 2 * r)] == key;
+    return count;
+}
+
+/* Salvages of the list of a session: it gives itself, whatever its counts and next numbers are. Then one slot or place
+ * after the other is spoiled, its key or its tier: what is saved is the list without that key, unless it stands in
+ * another slot, too. Last, all keys are spoiled. */
+static void save(const struct board *board)
+{
+    uint32_t r = board->words[0], s = board->words[1], *wet = copy_for_salvage(board);
+    const struct board damaged = {board->book, board->book_length, wet, board->length, board->room};
+    size_t bytes = board->length * sizeof *wet;
+    expect_saved("an untampered list", board, board->words, 0);
+    expect_saved("counts and next numbers have no say", &damaged, board->words, 0);
+    for (uint32_t i = 0; i < 2 * r + s; i++) {
+        size_t at = i < 2 * r ? 5 + 3 * i : 5 + 6 * r + 2 * (i - 2 * r), tier_at = at + (i < 2 * r ? 2 : 1);
+        uint32_t key = wet[at], tier = wet[tier_at], *left = lend(bytes);
+        memcpy(left, board->words, bytes);
+        if (key != 0 && times(board, key) == 1)
+            expect("remove", change_on(board, left, key, OUT), PINORANGE_DONE);
+        if (key != 0) {
+            wet[at] = 1 + i % 9;
+            if (board->words[2] > 1)
+                expect_saved("a blank key", &damaged, left, 1);
+            wet[at] = key;
+            wet[tier_at] = i % 2 ? PINORANGE_MAX_TIER + 1 : UINT32_MAX;
+            if (board->words[2] > 1)
+                expect_saved("a wrong tier", &damaged, left, 1);
+            wet[tier_at] = tier;
+        }
+        free(left);
+    }
+    for (uint32_t i = 0; i < 2 * r + s; i++)
+        wet[i < 2 * r ? 5 + 3 * i : 5 + 6 * r + 2 * (i - 2 * r)] = i % 10;
+    expect_not_saved("no key is left", &damaged, board->length, PINORANGE_NONE_COUNTS);
+    expect_not_saved("a word less", &damaged, board->length - 1, PINORANGE_WRONG_SHAPE);
+    free(wet);
+}
+
 /* A dictionary filled, key i at tier i % 8, and emptied again; in between refused inserts, keys that are replaced, the
- * same list in one call, lookups, trails, sales and views. */
+ * same list in one call, salvages, lookups, trails, sales and views. */
 static void session(uint32_t r, uint32_t s, uint32_t station, uint32_t keys)
 {
     size_t length = PINORANGE_WORDS(r, s), room = PINORANGE_SCRATCH(r, s);
@@ -394,6 +494,7 @@ static void session(uint32_t r, uint32_t s, uint32_t station, uint32_t keys)
     }
     replace(&board, words, keys);
     load_whole(&board, (const uint32_t[]){r, s, station}, keys);
+    save(&board);
     for (uint32_t i = 1; i <= 2 * keys; i++) {
         uint32_t listed = 7, tier = 77, table0, table1;
         expect("lookup", look_up(&board, other_issue(key_of(i)), &listed, &tier), PINORANGE_DONE);
@@ -595,6 +696,33 @@ static void load_lengths(const struct board *board, const uint32_t laid[3], uint
     }
 }
 
+/* Salvages of an empty list into targets around its length, and of one that holds a number which is no key. */
+static void salvage_lengths(const struct board *board, uint32_t shape, uint32_t r, uint32_t s)
+{
+    size_t length = board->length;
+    uint32_t *wet = lend(length * sizeof *wet);
+    const struct board spoiled = {board->book, board->book_length, wet, length, board->room};
+    if (length > 0)
+        memcpy(wet, board->words, length * sizeof *wet);
+    if (length > 5)
+        wet[5] = 9;
+    for (size_t target_length = length > 0 ? length - 1 : 0; target_length <= length + 1; target_length++) {
+        uint32_t wanted = target_length != length ? PINORANGE_WRONG_SHAPE : PINORANGE_DONE;
+        if (!wanted && board->room < PINORANGE_SCRATCH(r, s))
+            wanted = PINORANGE_SHORT_SCRATCH;
+        if (shape)
+            wanted = shape;
+        if (board->book_length != PINORANGE_TABULATION_LENGTH)
+            wanted = PINORANGE_WRONG_TABULATION;
+        expect_not_saved("salvage", &spoiled, target_length, wanted ? wanted : PINORANGE_NONE_COUNTS);
+        if (wanted)
+            expect_not_saved("salvage", board, target_length, wanted);
+        else
+            expect_saved("salvage", board, board->words, 0);
+    }
+    free(wet);
+}
+
 /* Every length of words, scratch and tabulation around the right ones, with this number as the station: above 255 no length
  * of words is right. */
 static void lengths(uint32_t r, uint32_t s, uint32_t station)
@@ -629,6 +757,8 @@ static void lengths(uint32_t r, uint32_t s, uint32_t station)
             load_lengths(&(struct board){book, books, words, length, rooms}, (const uint32_t[]){r, s, station}, shape);
             load_lengths(&(struct board){house, PINORANGE_TABULATION_LENGTH, words, length, rooms},
                          (const uint32_t[]){r, s, station}, shape);
+            salvage_lengths(&(struct board){book, books, words, length, rooms}, shape, r, s);
+            salvage_lengths(&(struct board){house, PINORANGE_TABULATION_LENGTH, words, length, rooms}, shape, r, s);
             expect_no_sale("sale", &(struct board){book, books, words, length, rooms}, 50, 100, length % 10,
                            more ? PINORANGE_WRONG_TABULATION : shape ? shape : PINORANGE_KEY_ABSENT);
             expect("lookup", pinorange_lookup(book, books, words, length, 50, &listed, &tier),

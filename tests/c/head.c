@@ -109,6 +109,29 @@ static void files(void) {
     expect(load_file("410019,5\n") && memory.words[2] == 1, "a file of one card");
 }
 
+/* A damaged list is saved but for what was spoiled, whatever became of heading and tabulation. */
+static void saves(void) {
+    static uint32_t before[PINORANGE_WORDS(R, S)];
+    uint32_t first, second_slot, cards = memory.words[2];
+    memcpy(before, memory.words, sizeof before);
+    forget();
+    expect(save_list() && memcmp(before, memory.words, sizeof before) == 0, "a list that is not damaged is saved as it is");
+    memset(memory.tabulation, 0, sizeof memory.tabulation);
+    memset(memory.words, 0xff, 5 * sizeof *memory.words);
+    expect(save_list() && memcmp(before, memory.words, sizeof before) == 0, "nor do heading and tabulation matter");
+    expect(times("; 0 pockets") == 2, "nothing is lost");
+    pinorange_hashes(memory.tabulation, PINORANGE_TABULATION_LENGTH, R, STATION, 410019, &first, &second_slot);
+    memory.words[PINORANGE_SLOT(R, 0, first)] = memory.words[PINORANGE_SLOT(R, 1, second_slot)] = 4;
+    forget();
+    expect(save_list() && price_of_sale(410019) == 0, "what was spoiled is gone");
+    expect(times("; 2 pockets") == 1 && memory.words[2] >= cards - 2 && memory.words[2] < cards, "and is told");
+    expect(pinorange_list_check(&list) == PINORANGE_DONE, "the list is one again");
+    for (size_t i = 5; i < PINORANGE_WORDS(R, S); i++)
+        memory.words[i] = 3;
+    forget();
+    expect(!save_list() && strcmp(printed, "nothing to save: 15\n") == 0, "no card is left");
+}
+
 int main(void) {
     expect(page_main() == 0, "the head's main");
     expect(strcmp(printed, "410017 is listed at tier 3\n") == 0, "what it prints");
@@ -122,6 +145,7 @@ int main(void) {
     expect(price_of_sale(410017) == 0 && price_of_sale(410019) == 1749, "by another issue at another tier");
     files();
     listed_once();
+    saves();
     printf("head.c: %u failures\n", failures);
     return failures != 0;
 }

@@ -18,7 +18,7 @@ static struct PINORANGE_MEMORY(R, S) ours, plain;
 static const struct pinorange_list whole = PINORANGE_LIST(ours);
 static const int32_t steps[PINORANGE_STEPS] = {-30, -20, -10, 0, 10, 20, 30, 40};
 /* The numbers that a call answers, 0 to the last. */
-enum { ANSWERS = 15 };
+enum { ANSWERS = 16 };
 static unsigned calls, failures, seen[ANSWERS];
 
 static void expect(int holds, const char *what)
@@ -129,6 +129,39 @@ static void load_all(const struct pinorange_list *list)
         load(list, R, S, STATION, keys, i);
 }
 
+static void salvage(const struct pinorange_list *list, const uint32_t *damaged, size_t length)
+{
+    uint32_t lost = 77, plain_lost = 77;
+    ours.scratch[3] = plain.scratch[3] = 99;
+    same("salvage", pinorange_list_salvage(list, damaged, length, &lost),
+         pinorange_salvage(BOOK, damaged, length, WORDS, SHEET, &plain_lost));
+    expect(lost == plain_lost, "what a salvage tells");
+}
+
+/* Salvages of other words into the list: of words that are too short or too long for it, of some in which no number is a
+ * key, and of damaged ones, of which two keys are left, and one number is lost. */
+static void salvage_all(const struct pinorange_list *list)
+{
+    static uint32_t damaged[PINORANGE_WORDS(R, S) + 1];
+    static const uint32_t keys[] = {410010, 1, 410025, 0, 733001, 7};
+    struct pinorange_counters own = {0, 0};
+    expect(pinorange_bulk_load(plain.tabulation, whole.tabulation_length, damaged, whole.words_length, plain.scratch,
+                               whole.scratch_length, &own, R, S, STATION, keys, 6) == PINORANGE_DONE, "damaged words");
+    damaged[2] = damaged[3] = 99;
+    damaged[PINORANGE_PLACE(R, 0)] = 9;
+    salvage(list, damaged, whole.words_length - 1);
+    salvage(list, damaged, whole.words_length + 1);
+    salvage(list, damaged, whole.words_length);
+    memset(damaged + 5, 0, sizeof damaged - 5 * sizeof *damaged);
+    damaged[5] = 8;
+    salvage(list, damaged, whole.words_length);
+    damaged[5] = 0;
+    damaged[PINORANGE_PLACE(R, 1)] = 410017;
+    damaged[PINORANGE_PLACE(R, 1) + 1] = 3;
+    damaged[PINORANGE_SLOT(R, 1, 3)] = 1;
+    salvage(list, damaged, whole.words_length);
+}
+
 /* Every call about one key, so that each refusal comes that it can get on this list. */
 static void ask_all(const struct pinorange_list *list, uint32_t key)
 {
@@ -158,16 +191,19 @@ static void wrong_lists(void)
     list.tabulation_length--;
     ask_all(&list, key_of(1));
     load_all(&list);
+    salvage_all(&list);
     list = whole;
     list.words_length--;
     ask_all(&list, key_of(1));
     lay(&list, R, S, STATION);
     load_all(&list);
+    salvage_all(&list);
     list = whole;
     list.scratch_length--;
     ask_all(&list, key_of(1));
     take_out(&list, key_of(1));
     load_all(&list);
+    salvage_all(&list);
     ours.words[3] = plain.words[3] = S + 1;
     ask_all(&whole, key_of(1));
 }
@@ -191,7 +227,10 @@ static void session(void)
     expect(ours.words[2] == 4 && ours.words[4] == STATION, "four keys are loaded");
     look_up(&whole, 733010);
     wrong_lists();
-    expect(ours.words[2] == 4, "no load with wrong memory is laid");
+    expect(ours.words[2] == 4, "no load and no salvage with wrong memory is laid");
+    salvage_all(&whole);
+    expect(ours.words[2] == 1 && ours.words[4] == STATION, "one key is saved");
+    look_up(&whole, 410017);
     load_all(&whole);
     check(&whole);
     for (i = 0; i < ANSWERS; i++)
@@ -248,6 +287,7 @@ static void failed(const char *piece, const char *what)
         EXPECT_CHECK(pinorange_list_lookup(list, 410017, &some_found), piece, what); \
         EXPECT_CHECK(pinorange_list_stash(list, &some_stretch), piece, what); \
         EXPECT_CHECK(pinorange_list_trail(list, 410017, &some_trail), piece, what); \
+        EXPECT_CHECK(pinorange_list_salvage(list, some_input, 2, some_keys), piece, what); \
         EXPECT_CHECK(pinorange_list_open_sale(list, 410017, 1000, steps, &some_sale), piece, what); \
     } while (0)
 
@@ -291,6 +331,7 @@ static void wrong_arguments(void)
 {
     struct pinorange_trail_keys keys = {0, 2 * R, 0};
     struct pinorange_sale sale;
+    uint32_t lost;
     int32_t *in_words = (int32_t *)(void *)ours.words;
     EXPECT_CHECK(pinorange_list_bulk_load(&whole, R, S, STATION, 0, 0), "input", "is null");
     EXPECT_CHECK(pinorange_list_bulk_load(&whole, R, S, STATION, ASKEW(uint32_t, plain.words), 2), "input",
@@ -314,6 +355,19 @@ static void wrong_arguments(void)
     EXPECT_CHECK(pinorange_list_trail(&whole, 410017, &keys), "keys", "overlaps another piece");
     keys.keys = &keys.count;
     EXPECT_CHECK(pinorange_list_trail(&whole, 410017, &keys), "keys", "overlaps another piece");
+    EXPECT_CHECK(pinorange_list_salvage(&whole, 0, 0, &lost), "damaged", "is null");
+    EXPECT_CHECK(pinorange_list_salvage(&whole, ASKEW(uint32_t, plain.words), 5, &lost), "damaged", "is not aligned");
+    EXPECT_CHECK(pinorange_list_salvage(&whole, ours.words, whole.words_length, &lost), "damaged",
+                 "overlaps another piece");
+    EXPECT_CHECK(pinorange_list_salvage(&whole, ours.scratch, whole.words_length, &lost), "damaged",
+                 "overlaps another piece");
+    EXPECT_CHECK(pinorange_list_salvage(&whole, plain.words, whole.words_length, 0), "lost", "is null");
+    EXPECT_CHECK(pinorange_list_salvage(&whole, plain.words, whole.words_length, ASKEW(uint32_t, plain.scratch)),
+                 "lost", "is not aligned");
+    EXPECT_CHECK(pinorange_list_salvage(&whole, plain.words, whole.words_length, &plain.words[2]), "lost",
+                 "overlaps another piece");
+    EXPECT_CHECK(pinorange_list_salvage(&whole, plain.words, whole.words_length, &ours.counters.done), "lost",
+                 "overlaps another piece");
     EXPECT_CHECK(pinorange_list_open_sale(&whole, 410017, 1000, 0, &sale), "steps", "is null");
     EXPECT_CHECK(pinorange_list_open_sale(&whole, 410017, 1000, in_words, &sale), "steps", "overlaps another piece");
     EXPECT_CHECK(pinorange_list_open_sale(&whole, 410017, 1000, steps, 0), "sale", "is null");

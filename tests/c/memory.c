@@ -2,10 +2,11 @@
  * words, scratch and tabulation, the steps of the prices and the record of a sale are as long as the header says; the
  * stack is measured: every call runs on a stack that was painted before, and what is painted afterwards was not used.
  * The longest trail that there is, of 2,048 keys, has a painted stack of its own: its steps are calls in calls, so that
- * it could take more the longer it is. So has a bulk load, of the keys that the inserts before it listed. The code's
- * size comes in as CODE_BYTES (tests/run takes it from `size`). Exits with 0 when all fits, the longest trail's stack
- * is below TRAIL_STACK_BYTES, every sale was closed at its price, and the bulk load laid the words that the inserts
- * left. */
+ * it could take more the longer it is. So has a bulk load, of the keys that the inserts before it listed, and a salvage,
+ * of their words, damaged. A salvage needs the words twice: the sum with a second area is printed besides, and the
+ * largest r with which it fits. The code's size comes in as CODE_BYTES (tests/run takes it from `size`). Exits with 0
+ * when all fits, the longest trail's stack is below TRAIL_STACK_BYTES, every sale was closed at its price, the bulk load
+ * laid the words that the inserts left, and the salvages gave what they must. */
 #define _GNU_SOURCE
 #include "pinorange.h"
 
@@ -35,6 +36,9 @@ static uint32_t sales, closed_right;
  * that is sent its list has it in a buffer of its own, or where it is kept. */
 static uint32_t input[2 * 1800], input_length, all_input[2 * 1800], inserted[PINORANGE_WORDS(R, S)];
 static uint32_t loaded_answer, full_answer, odd_answer;
+/* A second area, and damaged words. What the salvages answered: of a list, of a damaged one, of one without a key. */
+static uint32_t target[PINORANGE_WORDS(R, S)], wet[PINORANGE_WORDS(R, S)], whole_lost, wet_lost, saved;
+static uint32_t whole_answer, wet_answer, none_answer;
 
 static unsigned char *base; /* where the calls' own stack begins: a local of the function that calls them */
 
@@ -89,6 +93,42 @@ static int is_loaded(void)
 {
     return full_answer == PINORANGE_STASH_FULL && loaded_answer == PINORANGE_DONE && odd_answer == PINORANGE_NOT_RISING
            && memcmp(words, inserted, sizeof words) == 0;
+}
+
+static uint32_t salvage(const uint32_t *from, uint32_t *lost)
+{
+    return pinorange_salvage(tabulation, PINORANGE_TABULATION_LENGTH, from, PINORANGE_WORDS(R, S), target,
+                             PINORANGE_WORDS(R, S), scratch, PINORANGE_SCRATCH(R, S), lost);
+}
+
+/* Every 50th word of the list turned over, but for r, s and station. */
+static void get_wet(void)
+{
+    memcpy(wet, words, sizeof wet);
+    for (size_t i = 5; i < PINORANGE_WORDS(R, S); i += 50)
+        wet[i] = ~wet[i];
+}
+
+/* Salvages alone: of the list, of the damaged one, and of words in which no number is a key. */
+static void *salvages(void *unused)
+{
+    static uint32_t none[PINORANGE_WORDS(R, S)] = {R, S, 0, 0, STATION, 9};
+    unsigned char local;
+    base = &local;
+    whole_answer = salvage(words, &whole_lost);
+    whole_answer |= memcmp(target, words, sizeof words) != 0;
+    wet_answer = salvage(wet, &wet_lost);
+    saved = target[2];
+    none_answer = salvage(none, &whole_lost);
+    return unused;
+}
+
+/* Whether the salvages were what they must be: no more first parts are gone than words were changed. */
+static int is_saved(void)
+{
+    return whole_answer == PINORANGE_DONE && whole_lost == 0 && wet_answer == PINORANGE_DONE && wet_lost > 0
+           && saved < words[2] && saved + PINORANGE_WORDS(R, S) / 50 >= words[2]
+           && none_answer == PINORANGE_NONE_COUNTS;
 }
 
 /* Sales of all keys, of those that are in the set and of those that are not; each that is opened is closed. */
@@ -208,15 +248,19 @@ static size_t stack_of(void *(*calls)(void *))
 
 int main(void)
 {
-    size_t other_stack = stack_of(other_calls), load_stack, trail_stack, stack, sum;
-    uint32_t refused = counters.refused;
+    size_t other_stack = stack_of(other_calls), load_stack, salvage_stack, trail_stack, stack, sum;
+    uint32_t refused = counters.refused, r = R;
     int loaded;
     take_input();
     load_stack = stack_of(bulk_loads);
     loaded = is_loaded();
+    get_wet();
+    salvage_stack = stack_of(salvages);
+    loaded = loaded && is_saved();
     lay_cycle();
     trail_stack = stack_of(longest_trail);
     stack = other_stack < load_stack ? load_stack : other_stack;
+    stack = stack < salvage_stack ? salvage_stack : stack;
     stack = stack < trail_stack ? trail_stack : stack;
     /* The stack is the deepest of all calls, the longest trail among them. The words of a trail are not counted: the caller lends them on the bench only, where
      * somebody asks why a key sits where it sits. */
@@ -224,12 +268,17 @@ int main(void)
 
     printf("code and constants %u\nwords %zu\nscratch %zu\ntabulation %zu\ncounters %zu\nsteps %zu\nsale %zu\nstack %zu\n", CODE_BYTES, sizeof words,
            sizeof scratch, sizeof tabulation, sizeof counters, sizeof steps, sizeof sale, stack);
-    printf("stack of the longest trail %zu\nstack of a bulk load %zu\nstack of the other calls %zu\n", trail_stack,
-           load_stack, other_stack);
+    printf("stack of the longest trail %zu\nstack of a bulk load %zu\nstack of a salvage %zu\nstack of the other calls "
+           "%zu\n", trail_stack, load_stack, salvage_stack, other_stack);
+    /* With a second area and the number that a salvage tells: each slot less, one in each table, is 24 bytes of words
+     * less, twice, and 48 of scratch. */
+    while (sum + sizeof target + sizeof wet_lost - (R - r) * (2 * 24 + 48) > HEAD_BYTES)
+        r--;
+    printf("with a second area %zu; it fits with r = %u\n", sum + sizeof target + sizeof wet_lost, (unsigned)r);
     printf("memory.c: %zu of %u bytes; %u keys accepted, %u calls refused, %u of them for another tier, %u for another "
-           "issue; the longest trail has %u keys; %u sales; %u keys in one call\n", sum, HEAD_BYTES, (unsigned)accepted,
-           (unsigned)refused, (unsigned)other_tier, (unsigned)other_issue, (unsigned)longest, (unsigned)sales,
-           (unsigned)input_length / 2);
+           "issue; the longest trail has %u keys; %u sales; %u keys in one call; %u of %u saved\n", sum, HEAD_BYTES,
+           (unsigned)accepted, (unsigned)refused, (unsigned)other_tier, (unsigned)other_issue, (unsigned)longest,
+           (unsigned)sales, (unsigned)input_length / 2, (unsigned)saved, (unsigned)input_length / 2);
     return sum > HEAD_BYTES || trail_stack >= TRAIL_STACK_BYTES || !is_longest() || accepted < 1200 || other_tier == 0
            || other_issue == 0 || refused == other_tier + other_issue || sales != accepted || closed_right != sales
            || !loaded || input_length < 2400;

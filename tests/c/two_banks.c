@@ -63,6 +63,12 @@ static uint32_t load(const uint32_t *input, size_t input_length)
     return swapped(pinorange_list_bulk_load(&banks[!in_use], R, S, STATION, input, input_length));
 }
 
+/* On 4: what is left of the bank in use goes into the other one, which has the length that it needs. */
+static uint32_t save(uint32_t *lost)
+{
+    return swapped(pinorange_list_salvage(&banks[!in_use], banks[in_use].words, WORDS, lost));
+}
+
 static uint32_t look_up(uint32_t card, struct pinorange_found *found)
 {
     return pinorange_list_lookup(&banks[in_use], card, found);
@@ -278,6 +284,33 @@ static void dumps(void)
     expect_all("a lookup after a dump was taken up");
 }
 
+/* A damaged bank: what is left is in use then, where anything is, and else the bank stays in use. */
+static void damages(void)
+{
+    uint32_t lost = 77, cards = banks[in_use].words[2], gone = 0, answer;
+    uint32_t *slot = &banks[in_use].words[PINORANGE_SLOT(R, 0, 0)];
+    sig_atomic_t bank = in_use;
+    while (slot[0] == 0)
+        slot += 3;
+    for (uint32_t i = 0; i < CARDS; i++)
+        if (card_of(i) == slot[0])
+            gone = i;
+    slot[0] = 5;
+    expect(pinorange_list_check(&banks[in_use]) == PINORANGE_NOT_CANONICAL, "a damaged bank");
+    memcpy(tiers[!in_use], tiers[in_use], CARDS);
+    expect(save(&lost) == PINORANGE_DONE && in_use != bank && lost == 1, "what is left of it");
+    cards -= banks[in_use].words[2]; /* none, if that card sits in its other slot, too */
+    if (cards > 0)
+        tiers[in_use][gone] = 0;
+    expect_all("a lookup after a salvage");
+    answer = add(card_of(gone), gone % 8);
+    expect(answer == (cards > 0 ? PINORANGE_DONE : PINORANGE_KEY_PRESENT), "the card is added again");
+    for (uint32_t i = 5; i < WORDS; i++)
+        banks[in_use].words[i] %= 10;
+    bank = in_use;
+    expect(save(&lost) == PINORANGE_NONE_COUNTS && in_use == bank && lost == 1, "a bank of which nothing is left");
+}
+
 int main(void)
 {
     unsigned resets;
@@ -292,6 +325,7 @@ int main(void)
     torn = without_banks();
     expect(torn > 0, "without banks lookups during a change go wrong");
     dumps();
+    damages();
     printf("two_banks.c: %u failures; %u resets, %lu interrupts in the last change; without banks %lu wrong lookups\n",
            failures, resets, steps, torn);
     return failures != 0;
