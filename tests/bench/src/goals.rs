@@ -2,6 +2,7 @@
 
 use crate::cases::{Case, Load, LOADS};
 use crate::partners::Call;
+use crate::salvage::Words;
 use crate::tables::{head, row, Measured, ASKED};
 use crate::timing::{CHANGES, TIMED};
 
@@ -47,6 +48,18 @@ fn bulk_loads_to_inserts(measured: &Measured) -> Vec<Found> {
     measured.cases.iter().enumerate().map(|(i, case)| (ratio(i), case.name())).collect()
 }
 
+/// Salvages of untampered and of damaged words, each to a check of the untampered ones.
+fn salvages_to_checks(measured: &Measured) -> Vec<Found> {
+    let mut all = Vec::new();
+    for (i, case) in measured.cases.iter().enumerate() {
+        for words in Words::BOTH {
+            let ratio = measured.instructions.salvage_to_check(i, words);
+            all.push((ratio, format!("{}, {}", words.name().replace("salvage-", ""), case.name())));
+        }
+    }
+    all
+}
+
 /// The growth of each call at light loads: 0 by instructions, 1 by time.
 fn growth(measured: &Measured, which: usize) -> Vec<Found> {
     let mut all = Vec::new();
@@ -80,6 +93,7 @@ pub fn print(measured: &Measured) {
     print_goal("lookup to the twins, instructions", 1.1, lookups_by_instructions(measured));
     print_goal("lookup to the twins, time", 1.1, lookups_by_time(measured));
     print_goal("bulk load to an insert into the same set, instructions", 0.6, bulk_loads_to_inserts(measured));
+    print_goal("salvage to a check of the untampered words, instructions", 2.0, salvages_to_checks(measured));
     print_goal("from r = 128 to r = 1,024, 12 to 49 %, instructions", 12.0, growth(measured, 0));
     print_goal("from r = 128 to r = 1,024, 12 to 49 %, time", 12.0, growth(measured, 1));
 }

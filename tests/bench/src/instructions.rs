@@ -4,10 +4,12 @@ use std::collections::BTreeMap;
 
 use crate::cases::{input_of, numbered, CASES, PLACES, STATION};
 use crate::partners::{symbol, Call, PARTNERS};
+use crate::salvage::{self, Words};
 use crate::timing::{bulk_load, change, others};
 use crate::trails::{self, shortest_and_typical};
 
-/// Prints what is to be counted, a line each: case, partner, call, and the symbol to watch. The twins have one lookup, so it is counted once, and no trail.
+/// Prints what is to be counted, a line each: case, partner, call, and the symbol to watch. The twins have one lookup, so it is counted once, and neither
+/// trails nor salvages.
 pub fn print_wanted() {
     for case in 0..CASES {
         for (who, partner) in PARTNERS.iter().enumerate() {
@@ -17,6 +19,9 @@ pub fn print_wanted() {
         }
         for trail in shortest_and_typical(&numbered(case, 1)) {
             println!("{case} {} {} {}", PARTNERS[0].name, trail.name(), trails::SYMBOL);
+        }
+        for words in Words::BOTH {
+            println!("{case} {} {} {}", PARTNERS[0].name, words.name(), salvage::SYMBOL);
         }
     }
 }
@@ -33,6 +38,10 @@ pub fn one(case: &str, partner: &str, call: &str) {
     let case = numbered(case.parse().expect("the number of a case"), 1);
     if let Some(key) = trails::key_named(call) {
         return trails::one(&case, key);
+    }
+    if let Some(words) = Words::named(call) {
+        words.salvage(&case);
+        return;
     }
     let (partner, call) = (&PARTNERS[partner_named(partner)], Call::named(call));
     let (board, book) = (&case.boards[0], &case.tabulation);
@@ -68,6 +77,8 @@ pub struct Instructions {
     counts: BTreeMap<(usize, usize, Call), u64>,
     /// Of the library's trails, by the key.
     trails: BTreeMap<(usize, u32), u64>,
+    /// Of its salvages, by the words.
+    salvages: BTreeMap<(usize, Words), u64>,
 }
 
 impl Instructions {
@@ -75,17 +86,19 @@ impl Instructions {
     pub fn read(path: &str) -> Instructions {
         let text = std::fs::read_to_string(path).expect("the file of counts");
         let (mut counts, mut of_trails) = (BTreeMap::new(), BTreeMap::new());
+        let mut salvages = BTreeMap::new();
         for line in text.lines() {
             let fields: Vec<&str> = line.split_whitespace().collect();
             let [case, partner, call, count] = fields[..] else { panic!("a line: {line}") };
             let case = case.parse().expect("the number of a case");
             let count = count.parse().unwrap_or_else(|_| panic!("nothing was counted: {line}"));
-            match trails::key_named(call) {
-                Some(key) => of_trails.insert((case, key), count),
-                None => counts.insert((case, partner_named(partner), Call::named(call)), count),
+            match (trails::key_named(call), Words::named(call)) {
+                (Some(key), _) => of_trails.insert((case, key), count),
+                (_, Some(words)) => salvages.insert((case, words), count),
+                _ => counts.insert((case, partner_named(partner), Call::named(call)), count),
             };
         }
-        Instructions { counts, trails: of_trails }
+        Instructions { counts, trails: of_trails, salvages }
     }
 
     /// Those of a call of a partner on a case.
@@ -96,6 +109,16 @@ impl Instructions {
     /// Those of the trail of a key on a case.
     pub fn of_trail(&self, case: usize, key: u32) -> u64 {
         self.trails[&(case, key)]
+    }
+
+    /// Those of a salvage of words of a case.
+    pub fn of_salvage(&self, case: usize, words: Words) -> u64 {
+        self.salvages[&(case, words)]
+    }
+
+    /// Those of a salvage to those of a check of the untampered words.
+    pub fn salvage_to_check(&self, case: usize, words: Words) -> f64 {
+        self.of_salvage(case, words) as f64 / self.of(case, 0, Call::Check) as f64
     }
 
     /// Those of the library to those of another partner.

@@ -1,7 +1,7 @@
 //! The benchmark: the library beside two twins in Rust. `tests/bench/run` uses it, in this order: `compare N` has all
 //! partners refuse issues of one first part, and makes N random calls that they must answer alike; `counts` prints what
 //! a build does, in a build with the feature of that name; `wanted` lists the calls whose instructions are to be
-//! counted, trails of the library among them, and `one CASE PARTNER CALL` makes one of them; `tables FILE BULK` takes
+//! counted, trails and salvages by the library among them, and `one CASE PARTNER CALL` makes one of them; `tables FILE BULK` takes
 //! what was counted from files, takes times, and prints the tables; `picture FILE` draws times against keys. For bulk
 //! loads beside inserts `bulk-wanted` lists what is to be counted, into the file BULK, and `one LIST bulk CALL` makes
 //! one of them. For the dearest calls `worst-wanted` lists what is to be counted, `one SIZE worst NUMBER` makes one of
@@ -18,6 +18,7 @@ mod partners;
 mod picture;
 mod plain;
 mod ranks;
+mod salvage;
 mod tables;
 mod tally;
 mod timing;

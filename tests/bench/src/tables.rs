@@ -5,6 +5,7 @@ use crate::cases::{grouped, numbered, Board, Case, CASES, LOADS, SETS, SIZES};
 use crate::goals;
 use crate::instructions::Instructions;
 use crate::partners::{Call, PARTNERS};
+use crate::salvage::Words;
 use crate::tally::{self, Tally};
 use crate::timing::{both_lookups, changes, Changes, Lookups, CHANGES, ROUNDS};
 use crate::trails::shortest_and_typical;
@@ -104,6 +105,21 @@ impl Measured {
         }
     }
 
+    /// What a salvage takes beside a check of the untampered words, and what it saves of damaged ones.
+    fn print_salvages(&self) {
+        let columns = "instructions|keys|check|salvage|to check|of damaged words|to check|keys saved|numbers lost";
+        head(&columns.split('|').collect::<Vec<_>>());
+        for (number, case) in self.cases.iter().enumerate() {
+            let check = grouped(self.instructions.of(number, 0, Call::Check));
+            let both = Words::BOTH.into_iter().flat_map(|words| {
+                let ratio = self.instructions.salvage_to_check(number, words);
+                [grouped(self.instructions.of_salvage(number, words)), format!("{ratio:.2}")]
+            });
+            let saved = Words::Damaged.salvage(case).map(grouped);
+            row(name_and_keys(case).into_iter().chain([check]).chain(both).chain(saved));
+        }
+    }
+
     fn print_times(&self) {
         let columns = "time|keys|insert µs|to plain|to ranks|remove µs|to plain|to ranks|check µs|to plain|to ranks";
         head(&columns.split('|').collect::<Vec<_>>());
@@ -155,6 +171,7 @@ pub fn print(instructions: Instructions, bulk: Counted) {
     measured.print_bulk_instructions();
     bulk.print();
     measured.print_trails();
+    measured.print_salvages();
     measured.print_times();
     measured.print_bulk_times();
     measured.print_growth();

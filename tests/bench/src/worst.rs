@@ -136,6 +136,23 @@ const ROWS: &[Row] = &[
         on(Kind::HalvesDisplaced, Call::Trail(Key::Largest, 0), 4, "the same, joined by halves"),
         on(Kind::Full, Call::Trail(Key::LongTrail, 1), 11, "11, 2r keys, and a word less for them"),
     ] },
+    Row { name: "salvage, accepted", candidates: &[
+        on(Kind::Full, Call::Salvage, 0, "cycle through all slots, stash full"),
+        on(Kind::Halves, Call::Salvage, 0, "the same, joined by halves"),
+        on(Kind::Pendant, Call::Salvage, 0, "cycle through all slots but one, all slots and the stash full"),
+        on(Kind::LastTier, Call::Salvage, 0, "cycle through all slots, stash full, the last tier wrong"),
+        on(Kind::StashedIssues, Call::Salvage, 0, "cycle through all slots, issues of its keys in the stash"),
+        on(Kind::OneCard, Call::Salvage, 0, "cycle through all slots, issues of one card in the stash"),
+        on(Kind::DisplacedSlots, Call::Salvage, 0, "no key in a slot of its own, stash full"),
+        on(Kind::Of(Load::Moves), Call::Salvage, 0, "`moves`"),
+        on(Kind::Of(Load::Full), Call::Salvage, 0, "`full`"),
+        on(Kind::Of(Load::Keys(63)), Call::Salvage, 0, "63 keys"),
+        on(Kind::Of(Load::Keys(64)), Call::Salvage, 0, "64 keys"),
+    ] },
+    Row { name: "salvage, refused", candidates: &[
+        on(Kind::Displaced, Call::Salvage, 15, "15, 2r + 64 keys, none in a slot of its own, no tier in the stash"),
+        on(Kind::HalvesDisplaced, Call::Salvage, 15, "the same, joined by halves"),
+    ] },
     Row { name: "opening a sale", candidates: &[
         on(Kind::Full, Call::Open(Key::Largest, 1_749, 500), 0, "the key in the last place of a full stash, tier 7"),
         on(Kind::Full, Call::Open(Key::Largest, 500, -500), 12, "12, the same key, the price below 1"),

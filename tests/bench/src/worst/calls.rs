@@ -59,6 +59,7 @@ pub enum Call {
     Stash,
     /// With so many words less than 2r for its keys.
     Trail(Key, usize),
+    Salvage,
     /// At a base price, with the step of the last tier.
     Open(Key, u32, i32),
     Close,
@@ -106,6 +107,7 @@ impl Call {
             Call::Lookup(_) => "pinorange_lookup",
             Call::Stash => "pinorange_stash",
             Call::Trail(..) => "pinorange_trail",
+            Call::Salvage => "pinorange_salvage",
             Call::Open(..) => "pinorange_open_sale",
             Call::Close => "pinorange_close_sale",
             Call::Hashes => "pinorange_hashes",
@@ -135,6 +137,10 @@ impl Call {
             Call::Lookup(key) => lookup(list, key),
             Call::Stash => library::stash(&words).0,
             Call::Trail(key, less) => trail(list, &mut scratch, key, less),
+            Call::Salvage => {
+                let mut target = vec![u32::MAX; words.len()];
+                library::salvage(book, &words, &mut target, &mut scratch, &mut 0)
+            }
             Call::Open(key, base, last) => {
                 let steps = [-500, -10, 0, 10, 20, 30, 40, last];
                 library::open_sale(book, &words, key.of(list), base, &steps, &mut sale)

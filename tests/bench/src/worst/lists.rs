@@ -32,6 +32,12 @@ pub enum Kind {
     /// `Full` with every key in a slot that is not its own, so that the stash is searched for it; its places have keys
     /// in the place of tiers, so that for these keys it is searched twice.
     Displaced,
+    /// `Displaced` with the stash as it was: its keys are all that a salvage takes.
+    DisplacedSlots,
+    /// `Full` with other issues of seated keys in the places of the stash.
+    StashedIssues,
+    /// `Full` with issues of one card in all places of the stash.
+    OneCard,
     /// `Full`, `LastComes` and `Displaced` with the path joined by halves, so that the ways to representatives are the
     /// longest: dearer where most keys are stashed, since a stashed key goes three of these ways and moves nothing.
     Halves,
@@ -64,6 +70,9 @@ impl List {
             }
             Kind::LastTier => List::new(r, Kind::Full).changed(last_tier),
             Kind::Displaced => List::new(r, Kind::Full).changed(displace),
+            Kind::DisplacedSlots => List::new(r, Kind::Full).changed(displace_slots),
+            Kind::StashedIssues => List::new(r, Kind::Full).changed(stash_issues),
+            Kind::OneCard => List::new(r, Kind::Full).changed(stash_one_card),
             Kind::Halves => Cycle::new(r, halves(2 * r)).with(&[], PLACES + 1),
             Kind::HalvesLastComes => Cycle::new(r, halves(2 * r)).with(&[], PLACES),
             Kind::HalvesDisplaced => List::new(r, Kind::Halves).changed(displace),
@@ -82,14 +91,36 @@ fn last_tier(words: &mut [u32]) {
     words[last] = MAX_TIER + 1;
 }
 
-/// The keys of each table move on by one slot, with their next numbers and tiers, and the tiers of the stash become
-/// keys that are seated, as far as there are any.
-fn displace(words: &mut [u32]) {
+/// The keys of each table move on by one slot, with their next numbers and tiers.
+fn displace_slots(words: &mut [u32]) {
     let slots = SLOT * words[0] as usize;
-    let (tables, places) = words[HEADER..].split_at_mut(2 * slots);
-    for table in tables.chunks_exact_mut(slots) {
+    for table in words[HEADER..][..2 * slots].chunks_exact_mut(slots) {
         table.rotate_right(SLOT);
     }
+}
+
+/// Each place of the stash gets another issue of a key that is seated, from the last one on, as far as there are any.
+fn stash_issues(words: &mut [u32]) {
+    let (tables, places) = words[HEADER..].split_at_mut(2 * SLOT * words[0] as usize);
+    for (place, slot) in places.chunks_exact_mut(PLACE).zip(tables.rchunks_exact(SLOT)) {
+        place[0] = slot[0] ^ 1;
+    }
+}
+
+/// Each place of the stash gets an issue of the card in its last place.
+fn stash_one_card(words: &mut [u32]) {
+    let card = words[words.len() - PLACE] / 10 * 10;
+    let start = HEADER + 2 * SLOT * words[0] as usize;
+    for (place, issue) in words[start..].chunks_exact_mut(PLACE).zip((0..10).cycle()) {
+        place[0] = card + issue;
+    }
+}
+
+/// The same, and the tiers of the stash become keys that are seated, as far as there are any.
+fn displace(words: &mut [u32]) {
+    displace_slots(words);
+    let slots = SLOT * words[0] as usize;
+    let (tables, places) = words[HEADER..].split_at_mut(2 * slots);
     for (place, slot) in places.chunks_exact_mut(PLACE).zip(tables.chunks_exact(SLOT)) {
         place[1] = slot[0];
     }
