@@ -150,8 +150,7 @@ const ROWS: &[Row] = &[
         on(Kind::Of(Load::Keys(64)), Call::Salvage, 0, "64 keys"),
     ] },
     Row { name: "salvage, refused", candidates: &[
-        on(Kind::Displaced, Call::Salvage, 15, "15, 2r + 64 keys, none in a slot of its own, no tier in the stash"),
-        on(Kind::HalvesDisplaced, Call::Salvage, 15, "the same, joined by halves"),
+        on(Kind::NoneCounts, Call::Salvage, 15, "15, no key in a slot of its own, no tier in a full stash"),
     ] },
     Row { name: "opening a sale", candidates: &[
         on(Kind::Full, Call::Open(Key::Largest, 1_749, 500), 0, "the key in the last place of a full stash, tier 7"),

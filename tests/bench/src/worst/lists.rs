@@ -34,6 +34,8 @@ pub enum Kind {
     Displaced,
     /// `Displaced` with the stash as it was: its keys are all that a salvage takes.
     DisplacedSlots,
+    /// The same with no tier in the stash that is one: a salvage takes nothing.
+    NoneCounts,
     /// `Full` with other issues of seated keys in the places of the stash.
     StashedIssues,
     /// `Full` with issues of one card in all places of the stash.
@@ -71,6 +73,7 @@ impl List {
             Kind::LastTier => List::new(r, Kind::Full).changed(last_tier),
             Kind::Displaced => List::new(r, Kind::Full).changed(displace),
             Kind::DisplacedSlots => List::new(r, Kind::Full).changed(displace_slots),
+            Kind::NoneCounts => List::new(r, Kind::DisplacedSlots).changed(no_tiers),
             Kind::StashedIssues => List::new(r, Kind::Full).changed(stash_issues),
             Kind::OneCard => List::new(r, Kind::Full).changed(stash_one_card),
             Kind::Halves => Cycle::new(r, halves(2 * r)).with(&[], PLACES + 1),
@@ -99,9 +102,18 @@ fn displace_slots(words: &mut [u32]) {
     }
 }
 
+/// The tiers of the stash are above the largest.
+fn no_tiers(words: &mut [u32]) {
+    let start = HEADER + 2 * SLOT * words[0] as usize;
+    for place in words[start..].chunks_exact_mut(PLACE) {
+        place[1] += MAX_TIER + 1;
+    }
+}
+
 /// Each place of the stash gets another issue of a key that is seated, from the last one on, as far as there are any.
 fn stash_issues(words: &mut [u32]) {
-    let (tables, places) = words[HEADER..].split_at_mut(2 * SLOT * words[0] as usize);
+    let slots = 2 * SLOT * words[0] as usize;
+    let (tables, places) = words[HEADER..].split_at_mut(slots);
     for (place, slot) in places.chunks_exact_mut(PLACE).zip(tables.rchunks_exact(SLOT)) {
         place[0] = slot[0] ^ 1;
     }
