@@ -64,7 +64,7 @@ module _ (ws : List ℕ) where
   abbrev table-spots : List Spot
   table-spots = slot-spots ws 0 (slots-of ws + slots-of ws)
 
-  stash-length : length (stash-entries ws) ≡ places-of ws
+  pub stash-length : length (stash-entries ws) ≡ places-of ws
   stash-length = sym (length-keys (stash-entries ws)) ∙ places-count ws
 
   pub spot-of : {x : Spot} → In x (spots ws) → SpotOf ws x
