@@ -25,7 +25,7 @@ use Rattle.layout.specs.Standing.{key-words-parts}
 use Rattle.records.specs.Columns.{picked, picked-length}
 use Rattle.collect.specs.Collect.{gathered-word, picked-next, picked-slots, picked-places}
 use Rattle.survivors.specs.Salvage.{own-place, counts, counting, filled}
-use Rattle.survivors.specs.Spots.{slot-spot, in-slot-spots}
+use Rattle.survivors.specs.Spots.{slot-spot, slot-spots-length}
 use Rattle.survivors.specs.Looked.{sound}
 
 abbrev pub entry : ℕ → ℕ → Entry
@@ -145,13 +145,9 @@ module _ (tabulation ws : List ℕ) where
 
 -- no more are gathered than there are spots
 pub slots-few : (F : Family) (ws : List ℕ) (n : ℕ) → length (slots-counting F ws 0 n) ≤ n
-unfolding slots-counting slot-spots
+unfolding slots-counting
 slots-few F ws n =
-    omega (arith, length-map (keep (counts F) (slot-spots ws 0 n)) spot-key, length-keep (counts F) (slot-spots ws 0 n), spots-length 0 n)
-  where
-    spots-length : (v n : ℕ) → length (slot-spots ws v n) ≡ n
-    spots-length v zero = refl
-    spots-length v (suc n) = ap suc (spots-length (suc v) n)
+    omega (arith, length-map (keep (counts F) (slot-spots ws 0 n)) spot-key, length-keep (counts F) (slot-spots ws 0 n), slot-spots-length ws 0 n)
 
 -- the places as they are lent
 places-part : (n : ℕ) (ws : List ℕ) → place-entries n (take (place-width * n) ws) ≡ place-entries n ws

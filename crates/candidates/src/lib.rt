@@ -76,7 +76,13 @@ fn place_counts(key: u32, tier: u32) -> usize
 }
 
 // The keys that count in the slots come behind word 0 of scratch, in their order. The answer is where they end.
-fn gather_slots(tabulation: &[u16], words: &[u32], scratch: &mut [u32], r: u32, station: u32) -> usize
+fn gather_slots(
+    tabulation: &[u16],
+    words: &[u32],
+    scratch: &mut [u32],
+    r: u32,
+    station: u32,
+) -> usize
     requires { ⌜ Hashing (now tabulation) r station × (Shaped (now words) × (r ≡ slots-of (now words)))
         × (2 * r + 1 ≤ length (now scratch)) ⌝ }
     ensures front { λ m. ⌜ take m (now (scratch .exit)) ≡ take 1 (now (scratch .entry))
@@ -119,7 +125,14 @@ fn gather_places(places: &[u32], count: usize, scratch: &mut [u32], n: usize) ->
 
 // All keys that count come to scratch behind a word 0, in word order, copies and issues too. The answer is how many
 // they are.
-pub fn gather_counting(tabulation: &[u16], words: &[u32], scratch: &mut [u32], r: u32, s: u32, station: u32) -> usize
+pub fn gather_counting(
+    tabulation: &[u16],
+    words: &[u32],
+    scratch: &mut [u32],
+    r: u32,
+    s: u32,
+    station: u32,
+) -> usize
     requires { ⌜ (Hashing (now tabulation) r station × (Shaped (now words)
         × ((r ≡ slots-of (now words)) × ((s ≡ places-of (now words)) × (station ≡ station-of (now words))))))
         × (2 * r + s + 1 ≤ length (now scratch)) ⌝ }
@@ -131,7 +144,12 @@ pub fn gather_counting(tabulation: &[u16], words: &[u32], scratch: &mut [u32], r
     let start = stash_start(r);
     let count = wide(s);
     let n = gather_slots(tabulation, words, &mut *scratch, r, station);
-    let end = gather_places(&words[start..start + PLACE_WIDTH * count], count, &mut *scratch, n);
+    let end = gather_places(
+        &words[start..start + PLACE_WIDTH * count],
+        count,
+        &mut *scratch,
+        n,
+    );
     end - 1
 }
 

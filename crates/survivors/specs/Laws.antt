@@ -222,8 +222,7 @@ module _ (tabulation ws : List ℕ) (n m : ℕ) where
     λ e. elim (test (nothing-counts tabulation ws)) [
       | inl t ↦
           let p = and-true (any filled (spots ws)) (not (any (counts (family-of tabulation ws)) (spots ws))) t in
-          let r = any-true filled (spots ws) (p .0) in
-          (
+          let r = any-true filled (spots ws) (p .0) in (
             (r .0, (r .1, eqb-false _ _ (not-true _ (r .2)))),
             any-false (counts (family-of tabulation ws)) (spots ws) (not-true _ (p .1)),
           )

@@ -1,17 +1,19 @@
 -- The spots of given words, by where they are: each slot and each place is one spot, and what stands there is told by
 -- where it is. So two spots at one place are one. Assumes nothing.
-use Prim.Native.Nat.{ℕ, zero, suc, _+_, _≤_, _<_}
+use Prim.Native.Nat.{ℕ, zero, suc, _+_, _*_, _≤_, _<_}
 use mathlib.Core.Path.{_≡_, refl, sym, _∙_, ap}
 use mathlib.Core.Logic.{inl, inr}
 use mathlib.Core.List.{List, [], _∷_, _++_, List·Memᴰ as In, List·Memᴰ·head as here, List·Memᴰ·tail as there}
 use mathlib.Core.List.{Memᴰ·append-left, Memᴰ·append-right, List·Memᴰ·append-cases}
 use native.Mathlib.Omega.{arith}
-use lib.ListN.{length, getD}
+use lib.ListN.{length, getD, length-append}
 use Rattle.basics.specs.Tests.{eq?, zero-one}
+use Rattle.basics.specs.Sets.{length-keep}
 use Rattle.cuckoo.specs.Placement.{Place, slot, place}
 use Rattle.layout.specs.Entries.{Entry, keys-of, length-keys, no-entry}
-use Rattle.layout.specs.Layout.{slots-of, places-of, slot-entry, stash-entries, Spot, slot-spots, place-spots, spots}
+use Rattle.layout.specs.Layout.{family-of, slots-of, places-of, slot-entry, stash-entries, Spot, slot-spots, place-spots, spots}
 use Rattle.layout.specs.Standing.{places-count}
+use Rattle.survivors.specs.Salvage.{counts, counting}
 
 -- the spot at a slot, and that at a place of the stash
 abbrev pub slot-spot : List ℕ → ℕ → Spot
@@ -54,6 +56,15 @@ place-spots-in i [] j l = absurd (omega arith)
 place-spots-in i (e ∷ L) zero l = let z : i + 0 ≡ i = omega arith in rw z (here refl)
 place-spots-in i (e ∷ L) (suc j) l =
     let z : i + suc j ≡ suc i + j = omega arith in rw z (there (place-spots-in (suc i) L j (omega arith)))
+
+pub slot-spots-length : (ws : List ℕ) (v n : ℕ) → length (slot-spots ws v n) ≡ n
+unfolding slot-spots
+slot-spots-length ws v zero = refl
+slot-spots-length ws v (suc n) = ap suc (slot-spots-length ws (suc v) n)
+
+place-spots-length : (i : ℕ) (L : List Entry) → length (place-spots i L) ≡ length L
+place-spots-length i [] = refl
+place-spots-length i (e ∷ L) = ap suc (place-spots-length (suc i) L)
 
 -- A spot of the words: one of the slots, or one of the places.
 pub data SpotOf (ws : List ℕ) (x : Spot) : Type 0 where
@@ -110,3 +121,15 @@ module _ (ws : List ℕ) where
       go (at-place v l p) (at-slot w m q) = absurd (not-both (sym (ap where-at q) ∙ sym e ∙ ap where-at p))
       go (at-place v l p) (at-place w m q) =
           p ∙ ap (place-spot ws) (place-is (sym (ap where-at p) ∙ e ∙ ap where-at q)) ∙ sym q
+
+  -- there are 2r + s of them
+  pub spots-length : length (spots ws) ≡ slots-of ws + slots-of ws + places-of ws
+  spots-length =
+      length-append table-spots (place-spots 0 (stash-entries ws))
+      ∙ (rw (slot-spots-length ws 0 (slots-of ws + slots-of ws), place-spots-length 0 (stash-entries ws), stash-length))
+
+-- so no more count
+pub counting-few : (tabulation ws : List ℕ) → length (counting tabulation ws) ≤ 2 * slots-of ws + places-of ws
+unfolding counting
+counting-few tabulation ws =
+    omega (arith, length-keep (counts (family-of tabulation ws)) (spots ws), spots-length ws)

@@ -221,7 +221,7 @@ module _ (tabulation ws : List ℕ) where
   )
 
   -- The survivors are a set.
-  standing-valid : ValidKeys (standing-keys X)
+  pub standing-valid : ValidKeys (standing-keys X)
   standing-valid = record {
     asc = asc-keep (stands X) (distinct-sorted-asc (map spot-key X));
     none-blank = λ c i. rw (stands-key X i) at (found-sound i .not-blank);

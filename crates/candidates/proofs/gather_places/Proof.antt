@@ -77,8 +77,8 @@ loop-again c =
       omega arith,
       simp length-set (l .loop .inv .2),
       l .loop .inv .3
-      ∙ places-sift (a .places .now) (l .loop .scratch) (l .loop .end) (a .count) (l .loop .i) (omega arith) (omega arith)
-      (c .place-counts .ensures .0),
+          ∙ places-sift (a .places .now) (l .loop .scratch) (l .loop .end) (a .count) (l .loop .i) (omega arith) (omega arith)
+          (c .place-counts .ensures .0),
     )
 
 same-length : tie.Need-same-length Inv-loop μ-loop

@@ -69,9 +69,9 @@ loop-again c =
       omega arith,
       simp length-set (l .loop .inv .2),
       l .loop .inv .3
-      ∙ slots-sift (tables (a .tabulation .now) (a .r) (a .station)) (a .words .now) (l .loop .scratch) (l .loop .end) (l .loop .v)
-      (a .r + a .r) (omega arith) (omega arith) (c .before .before .key-in .ensures)
-      (rw (c .before .before .key-in .ensures, c .before .slot-tier .ensures) at (c .slot-counts .ensures .0)),
+          ∙ slots-sift (tables (a .tabulation .now) (a .r) (a .station)) (a .words .now) (l .loop .scratch) (l .loop .end) (l .loop .v)
+          (a .r + a .r) (omega arith) (omega arith) (c .before .before .key-in .ensures)
+          (rw (c .before .before .key-in .ensures, c .before .slot-tier .ensures) at (c .slot-counts .ensures .0)),
     )
 
 same-length : tie.Need-same-length Inv-loop μ-loop
