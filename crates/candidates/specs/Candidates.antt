@@ -1,5 +1,5 @@
 -- The keys that count, gathered slot by slot and then place by place, are those of the spots that count; and how many
--- spots are filled, by the words at which a key can stand. Assumes nothing.
+-- spots are occupied, by the words at which a key can stand. Assumes nothing.
 use Prim.Native.Nat.{ℕ, zero, suc, _+_, _*_, _-_, _≤_, _<_}
 use mathlib.Core.Path.{_≡_, refl, sym, _∙_, ap}
 use mathlib.Core.Bool.{Bool, true, false, not, cond, _&&_, _||_, or-true}
@@ -24,12 +24,12 @@ use Rattle.layout.specs.Layout.{place-entries, stash-entries, Spot, slot-spots,
 use Rattle.layout.specs.Standing.{key-words-parts}
 use Rattle.records.specs.Columns.{picked, picked-length}
 use Rattle.collect.specs.Collect.{gathered-word, picked-next, picked-slots, picked-places}
-use Rattle.survivors.specs.Salvage.{own-place, counts, counting, filled}
+use Rattle.survivors.specs.Salvage.{own-place, counts, counting, occupied}
 use Rattle.survivors.specs.Spots.{slot-spot, slot-spots-length}
 use Rattle.survivors.specs.Looked.{sound}
 
-abbrev pub entry : ℕ → ℕ → Entry
-entry key tier = record { key = key; tier = tier }
+abbrev pub entry-of : ℕ → ℕ → Entry
+entry-of key tier = record { key = key; tier = tier }
 
 -- the keys that count in n slots from v on,
 unfoldable pub slots-counting : Family → List ℕ → ℕ → ℕ → List ℕ
@@ -88,7 +88,7 @@ places-left ps count i = place-entries (count - i) (drop (place-width * i) ps)
 
 pub places-next : (ps : List ℕ) (count i : ℕ) → i < count
     → places-left ps count i
-    ≡ entry (getD ps (place-width * i) 0) (getD ps (place-width * i + 1) 0) ∷ places-left ps count (i + 1)
+    ≡ entry-of (getD ps (place-width * i) 0) (getD ps (place-width * i + 1) 0) ∷ places-left ps count (i + 1)
 unfolding place-entries
 places-next ps count i l =
     let e : count - i ≡ suc (count - (i + 1)) = omega arith in
@@ -109,12 +109,12 @@ places-sifted ps scratch end count i = take end scratch ++ places-counting (plac
 
 module _ (ps scratch : List ℕ) (end count i : ℕ) where
   pub places-sift : i < count → end < length scratch
-      → {n : ℕ} → n ≡ cond (sound (entry (getD ps (place-width * i) 0) (getD ps (place-width * i + 1) 0))) 1 0
+      → {n : ℕ} → n ≡ cond (sound (entry-of (getD ps (place-width * i) 0) (getD ps (place-width * i + 1) 0))) 1 0
       → places-sifted ps scratch end count i
       ≡ places-sifted ps (set scratch end (getD ps (place-width * i) 0)) (end + n) count (i + 1)
   unfolding places-sifted places-counting
   places-sift l room e =
-      let x = entry (getD ps (place-width * i) 0) (getD ps (place-width * i + 1) 0) in
+      let x = entry-of (getD ps (place-width * i) 0) (getD ps (place-width * i + 1) 0) in
       let more = keep sound (places-left ps count (i + 1)) in
       rw (places-next ps count i l, e) (ap (λ (xs : List ℕ). take end scratch ++ xs) (keys-cond (sound x) x more)
       ∙ gathered-word (sound x) scratch end (x .key) (keys-of more) room)
@@ -191,37 +191,37 @@ gathered-counting tabulation ws scratch mid zs {r} {station} {start} {count} {n}
 
 -- The numbers that stand in words, counted one by one.
 module _ (ws : List ℕ) (step at left : ℕ) (l : 0 < left) where
-  pub filled-step : (total : ℕ) {n : ℕ} → n ≡ cond (eqb (getD ws at 0) 0) 0 1
+  pub occupied-step : (total : ℕ) {n : ℕ} → n ≡ cond (eqb (getD ws at 0) 0) 0 1
       → total + length (non-zero (picked ws at step left))
       ≡ total + n + length (non-zero (picked ws (at + step) step (left - 1)))
-  filled-step total e =
+  occupied-step total e =
       rw (picked-next ws step at left l, e) (elim (test (eqb (getD ws at 0) 0)) [
         | inl t ↦ rw t (omega arith)
         | inr t ↦ rw t (omega arith)
       ])
 
-pub filled-end : (ws : List ℕ) (step at left total : ℕ) → left ≡ 0
+pub occupied-end : (ws : List ℕ) (step at left total : ℕ) → left ≡ 0
     → total + length (non-zero (picked ws at step left)) ≡ total
 unfolding picked
-filled-end ws step at left total e = rw e (omega arith)
+occupied-end ws step at left total e = rw e (omega arith)
 
-filled-keys : (X : List Spot) → length (keep filled X) ≡ length (non-zero (map spot-key X))
-filled-keys [] = refl
-filled-keys (x ∷ X) = elim (test (eqb (spot-key x) 0)) [
-  | inl t ↦ rw (t, filled-keys X)
-  | inr t ↦ rw (t, filled-keys X)
+occupied-keys : (X : List Spot) → length (keep occupied X) ≡ length (non-zero (map spot-key X))
+occupied-keys [] = refl
+occupied-keys (x ∷ X) = elim (test (eqb (spot-key x) 0)) [
+  | inl t ↦ rw (t, occupied-keys X)
+  | inr t ↦ rw (t, occupied-keys X)
 ]
 
--- those of slots and places together are the spots that are filled
-pub all-filled : (ws : List ℕ)
+-- those of slots and places together are the spots that are occupied
+pub all-occupied : (ws : List ℕ)
     → length (non-zero (picked ws header-length slot-width (2 * slots-of ws)))
     + length (non-zero (picked ws (stash-at (slots-of ws)) place-width (places-of ws)))
-    ≡ length (keep filled (spots ws))
-all-filled ws =
+    ≡ length (keep occupied (spots ws))
+all-occupied ws =
     let e : 2 * slots-of ws ≡ slots-of ws + slots-of ws = omega arith in
     let A = map spot-key (slot-spots ws 0 (slots-of ws + slots-of ws)) in
     let B = keys-of (stash-entries ws) in
     rw (e, picked-slots ws 0 (slots-of ws + slots-of ws), picked-places ws (stash-at (slots-of ws)) (places-of ws))
     (sym (length-append (non-zero A) (non-zero B))
     ∙ ap length (sym (keep-append (λ w. not (eqb w 0)) A B))
-    ∙ ap (λ (xs : List ℕ). length (non-zero xs)) (sym (key-words-parts ws)) ∙ sym (filled-keys (spots ws)))
+    ∙ ap (λ (xs : List ℕ). length (non-zero xs)) (sym (key-words-parts ws)) ∙ sym (occupied-keys (spots ws)))

@@ -12,9 +12,9 @@ ghost use Rattle.layout.specs.Layout.{max-places, place-width, slots-of, places
 ghost use Rattle.layout.specs.Layout.{spots, spot-key};
 ghost use Rattle.layout.specs.Shape.{Shaped};
 ghost use Rattle.records.specs.Columns.{picked};
-ghost use Rattle.survivors.specs.Salvage.{own-place, counts, counting, filled};
+ghost use Rattle.survivors.specs.Salvage.{own-place, counts, counting, occupied};
 ghost use Rattle.survivors.specs.Looked.{sound};
-ghost use Rattle.candidates.specs.Candidates.{entry, slots-counting, places-counting, non-zero};
+ghost use Rattle.candidates.specs.Candidates.{entry-of, slots-counting, places-counting, non-zero};
 use access::key_in;
 use access::slot_tier;
 use access::stash_start;
@@ -30,7 +30,7 @@ use words::wide;
 
 // Whether a key and its tier are in their ranges.
 pub fn is_sound(key: u32, tier: u32) -> bool
-    ensures { λ b. ⌜ b ≡ sound (entry key tier) ⌝ }
+    ensures { λ b. ⌜ b ≡ sound (entry-of key tier) ⌝ }
 {
     if is_blank(key) {
         return false;
@@ -54,7 +54,7 @@ fn is_own(tabulation: &[u16], r: u32, station: u32, v: u32, key: u32) -> bool
 fn slot_counts(tabulation: &[u16], r: u32, station: u32, v: u32, key: u32, tier: u32) -> usize
     requires { ⌜ Hashing (now tabulation) r station ⌝ }
     ensures { λ n. ⌜ (n ≡ cond (counts (tables (now (tabulation .entry)) r station)
-        (record { at = slot v; entry = entry key tier })) 1 0) × (n ≤ 1) ⌝ }
+        (record { at = slot v; entry = entry-of key tier })) 1 0) × (n ≤ 1) ⌝ }
 {
     if !is_sound(key, tier) {
         return 0;
@@ -67,7 +67,7 @@ fn slot_counts(tabulation: &[u16], r: u32, station: u32, v: u32, key: u32, tier:
 
 // The same in a place of the stash.
 fn place_counts(key: u32, tier: u32) -> usize
-    ensures { λ n. ⌜ (n ≡ cond (sound (entry key tier)) 1 0) × (n ≤ 1) ⌝ }
+    ensures { λ n. ⌜ (n ≡ cond (sound (entry-of key tier)) 1 0) × (n ≤ 1) ⌝ }
 {
     if is_sound(key, tier) {
         return 1;
@@ -154,7 +154,7 @@ pub fn gather_counting(
 }
 
 // How many of `count` words from `from` on, each `step` after the one before, are not 0.
-fn filled_from(words: &[u32], from: usize, step: usize, count: usize) -> usize
+fn occupied_from(words: &[u32], from: usize, step: usize, count: usize) -> usize
     requires { ⌜ (0 < step) × (from + step * count ≤ length (now words)) ⌝ }
     ensures { λ n. ⌜ (n ≡ length (non-zero (picked (now (words .entry)) from step count))) × (n ≤ count) ⌝ }
 {
@@ -170,11 +170,11 @@ fn filled_from(words: &[u32], from: usize, step: usize, count: usize) -> usize
 }
 
 // How many slots and places hold a number other than 0.
-pub fn count_filled(words: &[u32], r: u32, s: u32) -> usize
+pub fn count_occupied(words: &[u32], r: u32, s: u32) -> usize
     requires { ⌜ Shaped (now words) × ((r ≡ slots-of (now words)) × (s ≡ places-of (now words))) ⌝ }
-    ensures { λ n. ⌜ (n ≡ length (keep filled (spots (now (words .entry))))) × (n ≤ 2 * r + s) ⌝ }
+    ensures { λ n. ⌜ (n ≡ length (keep occupied (spots (now (words .entry))))) × (n ≤ 2 * r + s) ⌝ }
 {
-    let slots = filled_from(words, HEADER_LENGTH, SLOT_WIDTH, 2 * wide(r));
-    let places = filled_from(words, stash_start(r), PLACE_WIDTH, wide(s));
+    let slots = occupied_from(words, HEADER_LENGTH, SLOT_WIDTH, 2 * wide(r));
+    let places = occupied_from(words, stash_start(r), PLACE_WIDTH, wide(s));
     slots + places
 }

@@ -30,7 +30,7 @@ use Rattle.scratch_set.specs.Edges.{edge-with, edge-of, Lined, slots-in, packab
 use Rattle.survivors.specs.Salvage.{counting, standing, standing-keys}
 use Rattle.survivors.specs.Spots.{counting-few}
 use Rattle.survivors.specs.Looked.{sound-issue, issue-small, standing-looked}
-use Rattle.candidates.specs.Candidates.{entry}
+use Rattle.candidates.specs.Candidates.{entry-of}
 
 -- the candidates: the keys that count, ascending, each once
 unfoldable pub candidates : List ℕ → List ℕ → List ℕ
@@ -168,15 +168,15 @@ module _ {tabulation ws scratch : List ℕ} {r s station n : ℕ} (C : Candidate
   abbrev pub Choosing : List ℕ → ℕ → ℕ → ℕ → Type 0
   Choosing after to i m = ChosenTo stays edge (candidates tabulation ws) scratch after to i m
 
-  abbrev pub formed : Shaped ws
-  formed = shape ws (C .ready .shape)
+  abbrev pub choosing-shaped : Shaped ws
+  choosing-shaped = shape ws (C .ready .shape)
 
   pub choosing-hashing : Hashing tabulation r station
   choosing-hashing = record {
     full-length = C .ready .full-length;
-    has-slots = rw (C .slots) (formed .sizes .has-slots);
-    slots-bound = rw (C .slots) (formed .sizes .slots-bound);
-    station-bound = rw (C .stationed) (formed .station);
+    has-slots = rw (C .slots) (choosing-shaped .sizes .has-slots);
+    slots-bound = rw (C .slots) (choosing-shaped .sizes .slots-bound);
+    station-bound = rw (C .stationed) (choosing-shaped .station);
   }
 
   pub candidates-few : length (candidates tabulation ws) ≤ 2 * slots-of ws + places-of ws
@@ -187,10 +187,10 @@ module _ {tabulation ws scratch : List ℕ} {r s station n : ℕ} (C : Candidate
 
   pub choosing-room : Sized r s × ((n ≤ 2 * r + s) × (used r s ≤ length scratch))
   choosing-room = (
-    rw (C .slots, C .places) (formed .sizes),
+    rw (C .slots, C .places) (choosing-shaped .sizes),
     (
       omega (arith, C .count, C .slots, C .places, candidates-few),
-      omega (arith, C .slots, C .places, C .ready .room, formed .sizes),
+      omega (arith, C .slots, C .places, C .ready .room, choosing-shaped .sizes),
     ),
   )
 
@@ -209,9 +209,9 @@ module _ {tabulation ws scratch : List ℕ} {r s station n : ℕ} (C : Candidate
         let w = slots-in tabulation r station key (z .has-slots) (z .slots-bound) f h in
         (omega (arith, w, C .slots), omega (arith, w, C .slots))
 
-    module _ {k t : ℕ} (e : entry k t ≡ sound-issue (slot-entry ws first ∷ slot-entry ws second ∷ stash-entries ws) key) where
-      issue-stands : entry k t ≡ standing X key .entry
-      issue-stands = e ∙ (rw own-looked (sym (standing-looked tabulation ws (formed .sizes .has-slots) key)))
+    module _ {k t : ℕ} (e : entry-of k t ≡ sound-issue (slot-entry ws first ∷ slot-entry ws second ∷ stash-entries ws) key) where
+      issue-stands : entry-of k t ≡ standing X key .entry
+      issue-stands = e ∙ (rw own-looked (sym (standing-looked tabulation ws (choosing-shaped .sizes .has-slots) key)))
 
       pub issue-packable : Packable first second t
       issue-packable =

@@ -10,15 +10,15 @@ use Rattle.hashing.specs.Hash.{first-part}
 use Rattle.layout.specs.Entries.{Entry}
 use Rattle.layout.specs.Layout.{place-width, slot-entry}
 use Rattle.survivors.specs.Looked.{sound, is-issue, sound-issue}
-use Rattle.candidates.specs.Candidates.{entry, places-left, places-next, places-done}
+use Rattle.candidates.specs.Candidates.{entry-of, places-left, places-next, places-done}
 
 -- an entry that is unsound is no issue, and of a sound one the first part decides
 module _ (key tier part : ℕ) where
-  pub issue-unsound : sound (entry key tier) ≡ false → false ≡ is-issue (entry key tier) part
+  pub issue-unsound : sound (entry-of key tier) ≡ false → false ≡ is-issue (entry-of key tier) part
   unfolding is-issue
   issue-unsound b = rw b
 
-  pub issue-sound : sound (entry key tier) ≡ true → eqb (first-part key) part ≡ is-issue (entry key tier) part
+  pub issue-sound : sound (entry-of key tier) ≡ true → eqb (first-part key) part ≡ is-issue (entry-of key tier) part
   unfolding is-issue
   issue-sound b = rw b
 
@@ -38,8 +38,8 @@ issue-left ps count key i = sound-issue (places-left ps count i) key
 
 module _ (ps : List ℕ) (count key i : ℕ) where
   module _ (l : i < count) {part : ℕ} {b : Bool} (p : part ≡ first-part key)
-      (e : b ≡ is-issue (entry (getD ps (place-width * i) 0) (getD ps (place-width * i + 1) 0)) part) where
-    pub left-here : b ≡ true → issue-left ps count key i ≡ entry (getD ps (place-width * i) 0) (getD ps (place-width * i + 1) 0)
+      (e : b ≡ is-issue (entry-of (getD ps (place-width * i) 0) (getD ps (place-width * i + 1) 0)) part) where
+    pub left-here : b ≡ true → issue-left ps count key i ≡ entry-of (getD ps (place-width * i) 0) (getD ps (place-width * i + 1) 0)
     unfolding issue-left
     left-here t =
         ap (λ (L : List Entry). sound-issue L key) (places-next ps count i l)
@@ -51,14 +51,14 @@ module _ (ps : List ℕ) (count key i : ℕ) where
         ap (λ (L : List Entry). sound-issue L key) (places-next ps count i l)
         ∙ issue-further _ (places-left ps count (i + 1)) key p e t
 
-  pub left-none : i ≡ count → issue-left ps count key i ≡ entry 0 0
+  pub left-none : i ≡ count → issue-left ps count key i ≡ entry-of 0 0
   unfolding issue-left sound-issue
   left-none q = rw (places-done ps count i q)
 
 -- a slot, and then the others
 module _ (ws : List ℕ) (slot key : ℕ) (L : List Entry) {c t part : ℕ} {b : Bool} (k : c ≡ slot-entry ws slot .key)
-    (q : t ≡ slot-entry ws slot .tier) (p : part ≡ first-part key) (e : b ≡ is-issue (entry c t) part) where
-  pub slot-here : b ≡ true → entry c t ≡ sound-issue (slot-entry ws slot ∷ L) key
+    (q : t ≡ slot-entry ws slot .tier) (p : part ≡ first-part key) (e : b ≡ is-issue (entry-of c t) part) where
+  pub slot-here : b ≡ true → entry-of c t ≡ sound-issue (slot-entry ws slot ∷ L) key
   slot-here y =
       let f = rw (k, q) at e in
       (rw (k, q) (sym (issue-here (slot-entry ws slot) L key p f y)))

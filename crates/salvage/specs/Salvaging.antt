@@ -25,13 +25,13 @@ use Rattle.scratch_set.specs.Edges.{Lined, lined-buildable}
 use Rattle.gateway.specs.Committing.{Committable, Committed}
 use Rattle.survivors.specs.declared.Salvaged.{Salvaged}
 use Rattle.survivors.specs.declared.Salvaged.the-variants.{Lost, Refused}
-use Rattle.survivors.specs.Salvage.{counts, counting, standing, standing-keys, survivors, filled, lost-in, number, values}
+use Rattle.survivors.specs.Salvage.{counts, counting, standing, standing-keys, survivors, occupied, lost-in, number, values}
 use Rattle.survivors.specs.Salvage.{area-refusals, nothing-counts, salvage-refusal, SalvageOutcome, salvage-outcome}
 use Rattle.survivors.specs.Spots.{counting-few}
 use Rattle.survivors.specs.Surviving.{standing-valid, survivors-fit, survivor-keys}
 use Rattle.survivors.specs.Laws.{Salvable, none-salvable, salvage-number, salvage-done, salvage-told, salvage-refused}
 use Rattle.survivors.specs.Laws.{salvage-untold, salvage-area, salvage-passed}
-use Rattle.survivors.specs.Looked.{filled-split}
+use Rattle.survivors.specs.Looked.{occupied-split}
 use Rattle.salvage.specs.Chosen.{candidates, standing-tier, CandidatesStand, candidates-few}
 
 -- The m keys that count stand in scratch behind word 0, in word order, and h is the heading of the words.
@@ -48,12 +48,12 @@ pub data Told (tabulation ws target : List ℕ) (t : Salvaged) (us : List ℕ) :
       → us ≡ image (params-of tabulation ws) (survivors tabulation ws) → Told tabulation ws target t us
 
 -- what the call tells and leaves but for scratch
-abbrev pub ToldOfCall : (tabulation ws target scratch : List ℕ) → Salvaged → List ℕ → Type 0
-ToldOfCall tabulation ws target scratch t us =
+abbrev pub ToldOfSalvage : (tabulation ws target scratch : List ℕ) → Salvaged → List ℕ → Type 0
+ToldOfSalvage tabulation ws target scratch t us =
     let o = salvage-outcome tabulation ws target scratch in
     (number t ≡ o .number) × ((values t ≡ o .values) × (us ≡ o .target))
 
--- The laws. 15 by the two numbers: how many spots are filled, and how many count.
+-- The laws. 15 by the two numbers: how many spots are occupied, and how many count.
 any-counted : {A : Type 0} (p : A → Bool) (R : List A) → any p R ≡ not (eqb (length (keep p R)) 0)
 any-counted p [] = refl
 any-counted p (x ∷ R) = elim (test (p x)) [
@@ -65,17 +65,17 @@ not-not : (b : Bool) → not (not b) ≡ b
 not-not true = refl
 not-not false = refl
 
-pub hopeless-test : (tabulation ws : List ℕ) {f m : ℕ} → f ≡ length (keep filled (spots ws))
+pub hopeless-test : (tabulation ws : List ℕ) {f m : ℕ} → f ≡ length (keep occupied (spots ws))
     → m ≡ length (counting tabulation ws) → nothing-counts tabulation ws ≡ (not (eqb f 0) && eqb m 0)
 unfolding counting
 hopeless-test tabulation ws e g =
     let F = family-of tabulation ws in
-    rw (any-counted filled (spots ws), any-counted (counts F) (spots ws), e, g, not-not (eqb (length (keep (counts F) (spots ws))) 0))
+    rw (any-counted occupied (spots ws), any-counted (counts F) (spots ws), e, g, not-not (eqb (length (keep (counts F) (spots ws))) 0))
 
 -- how many are lost
-pub lost-left : (tabulation ws : List ℕ) {f m : ℕ} → f ≡ length (keep filled (spots ws))
+pub lost-left : (tabulation ws : List ℕ) {f m : ℕ} → f ≡ length (keep occupied (spots ws))
     → m ≡ length (counting tabulation ws) → (m ≤ f) × (f - m ≡ lost-in tabulation ws)
-lost-left tabulation ws e g = (omega (arith, filled-split tabulation ws), omega (arith, filled-split tabulation ws))
+lost-left tabulation ws e g = (omega (arith, occupied-split tabulation ws), omega (arith, occupied-split tabulation ws))
 
 -- words that passed 1 to 3 can be hashed
 pub salvable-hashing : {tabulation ws : List ℕ} {n m r station : ℕ} → Salvable tabulation ws n m → r ≡ slots-of ws
@@ -164,7 +164,7 @@ module _ (tabulation ws target scratch : List ℕ) where
   tests = area-refusals tabulation ws (length target) (length scratch)
 
   refused : {n : ℕ} → n ≡ salvage-refusal tabulation ws (length target) (length scratch) → (n ≡ 0 → ⊥)
-      → ToldOfCall tabulation ws target scratch (Refused n) target
+      → ToldOfSalvage tabulation ws target scratch (Refused n) target
   refused {n} e z =
       let a = e ∙ sym (salvage-number tabulation ws target scratch) in
       let b : salvage-outcome tabulation ws target scratch .number ≡ done → ⊥ = λ q. z (a ∙ q) in (
@@ -174,7 +174,7 @@ module _ (tabulation ws target scratch : List ℕ) where
 
   -- 1, 2, 2 or 3;
   pub told-early : {n : ℕ} → n ≡ first-refusal tests → (n ≡ 0 → ⊥)
-      → ToldOfCall tabulation ws target scratch (Refused n) target
+      → ToldOfSalvage tabulation ws target scratch (Refused n) target
   told-early e z =
       refused (e ∙ sym (salvage-area tabulation ws (length target) (length scratch) (λ q. z (e ∙ q)))) z
 
@@ -185,7 +185,7 @@ module _ (tabulation ws target scratch : List ℕ) where
 
   -- then 15, or how many are lost.
   pub told-set : Salvable tabulation ws (length target) (length scratch) → {t : Salvaged} {us : List ℕ}
-      → Told tabulation ws target t us → ToldOfCall tabulation ws target scratch t us
+      → Told tabulation ws target t us → ToldOfSalvage tabulation ws target scratch t us
   told-set h {t} {us} (hopeless b e f) =
       let a : salvage-refusal tabulation ws (length target) (length scratch) ≡ none-counts =
       salvage-passed tabulation ws (length target) (length scratch) h ∙ (rw b) in
@@ -197,7 +197,7 @@ module _ (tabulation ws target scratch : List ℕ) where
       rw (e, f) (sym a, (sym (salvage-told tabulation ws target scratch a), sym (salvage-done tabulation ws target scratch a)))
 
   -- and with scratch cleared that is its outcome
-  pub told-cleared : (t : Salvaged) {us sheet : List ℕ} → ToldOfCall tabulation ws target scratch t us
+  pub told-cleared : (t : Salvaged) {us sheet : List ℕ} → ToldOfSalvage tabulation ws target scratch t us
       → sheet ≡ replicate (length scratch) 0
       → record { number = number t; values = values t; words = ws; target = us; scratch = sheet }
       ≡ salvage-outcome tabulation ws target scratch

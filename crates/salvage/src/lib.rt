@@ -15,15 +15,15 @@ ghost use Rattle.survivors.specs.Salvage.{counting, standing-keys, survivors, n
 ghost use Rattle.survivors.specs.Salvage.{salvage-outcome};
 ghost use Rattle.survivors.specs.Laws.{Salvable};
 ghost use Rattle.survivors.specs.Looked.{is-issue, sound-issue};
-ghost use Rattle.candidates.specs.Candidates.{entry};
+ghost use Rattle.candidates.specs.Candidates.{entry-of};
 ghost use Rattle.scratch_set.specs.Edges.{Lined};
 ghost use Rattle.salvage.specs.Chosen.{CandidatesStand, standing-tier};
-ghost use Rattle.salvage.specs.Salvaging.{Gathered, Told, ToldOfCall};
+ghost use Rattle.salvage.specs.Salvaging.{Gathered, Told, ToldOfSalvage};
 use access::key_in;
 use access::slot_tier;
 use access::stash_start;
 use access::with_keys;
-use candidates::count_filled;
+use candidates::count_occupied;
 use candidates::gather_counting;
 use candidates::is_sound;
 use collect::make_set;
@@ -52,7 +52,7 @@ pub struct Issue {
 
 // Whether a key and its tier are sound, and the key has this first part.
 fn is_issue(key: u32, tier: u32, part: u32) -> bool
-    ensures { λ b. ⌜ b ≡ is-issue (entry key tier) part ⌝ }
+    ensures { λ b. ⌜ b ≡ is-issue (entry-of key tier) part ⌝ }
 {
     if !is_sound(key, tier) {
         return false;
@@ -63,7 +63,7 @@ fn is_issue(key: u32, tier: u32, part: u32) -> bool
 // The first sound issue of a key's first part in these places.
 fn issue_in_places(places: &[u32], count: usize, key: u32) -> Issue
     requires { ⌜ (length (now places) ≡ place-width * count) × (count ≤ max-places) ⌝ }
-    ensures { λ i. ⌜ entry (i .key) (i .tier) ≡ sound-issue (place-entries count (now (places .entry))) key ⌝ }
+    ensures { λ i. ⌜ entry-of (i .key) (i .tier) ≡ sound-issue (place-entries count (now (places .entry))) key ⌝ }
 {
     let part = first_part(key);
     let mut i = 0;
@@ -82,7 +82,7 @@ fn issue_in_places(places: &[u32], count: usize, key: u32) -> Issue
 // that it is in the first, else in the second, else in the first place of the stash that has one.
 fn issue_at(words: &[u32], first: u32, second: u32, key: u32) -> Issue
     requires { ⌜ Shaped (now words) × ((first < 2 * slots-of (now words)) × (second < 2 * slots-of (now words))) ⌝ }
-    ensures { λ i. ⌜ entry (i .key) (i .tier) ≡ sound-issue (slot-entry (now (words .entry)) first
+    ensures { λ i. ⌜ entry-of (i .key) (i .tier) ≡ sound-issue (slot-entry (now (words .entry)) first
         ∷ slot-entry (now (words .entry)) second ∷ stash-entries (now (words .entry))) key ⌝ }
 {
     let part = first_part(key);
@@ -158,10 +158,10 @@ fn area_refusal(tabulation: &[u16], words: &[u32], len: usize, room: usize) -> u
 }
 
 // Whether something stands in the words, and yet nothing counts.
-fn is_hopeless(filled: usize, counted: usize) -> bool
-    ensures { λ b. ⌜ b ≡ (not (eqb filled 0) && eqb counted 0) ⌝ }
+fn is_hopeless(occupied: usize, counted: usize) -> bool
+    ensures { λ b. ⌜ b ≡ (not (eqb occupied 0) && eqb counted 0) ⌝ }
 {
-    filled != 0 && counted == 0
+    occupied != 0 && counted == 0
 }
 
 // The keys that count stand in scratch, `counted` of them: the survivors among them are written to the target.
@@ -200,9 +200,9 @@ fn salvage_set(
 {
     let r = header.slots;
     let s = header.places;
-    let filled = count_filled(words, r, s);
+    let occupied = count_occupied(words, r, s);
     let counted = gather_counting(tabulation, words, &mut *scratch, r, s, header.station);
-    if is_hopeless(filled, counted) {
+    if is_hopeless(occupied, counted) {
         return Salvaged::Refused(NONE_COUNTS);
     }
     write_survivors(
@@ -213,7 +213,7 @@ fn salvage_set(
         header,
         counted,
     );
-    let lost = filled - counted;
+    let lost = occupied - counted;
     Salvaged::Lost(lost as u32)
 }
 
@@ -224,7 +224,7 @@ fn salvage_words(
     target: &mut [u32],
     scratch: &mut [u32],
 ) -> Salvaged
-    ensures { λ t. ⌜ ToldOfCall (now (tabulation .entry)) (now (words .entry)) (now (target .entry))
+    ensures { λ t. ⌜ ToldOfSalvage (now (tabulation .entry)) (now (words .entry)) (now (target .entry))
         (now (scratch .entry)) t (now (target .exit)) ⌝ }
 {
     let refusal = area_refusal(tabulation, words, target.len(), scratch.len());

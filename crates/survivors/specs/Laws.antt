@@ -23,7 +23,7 @@ use Rattle.layout.specs.Shape.{Shaped, shape, ranged-true}
 use Rattle.layout.specs.Answers.{lookup-values}
 use Rattle.outcome.specs.Demands.{Harmless}
 use Rattle.outcome.specs.Held.{Holds, held-some, held-params, held-shaped, held-entry}
-use Rattle.survivors.specs.Salvage.{counts, counting, standing, standing-keys, survivors, filled, lost-in}
+use Rattle.survivors.specs.Salvage.{counts, counting, standing, standing-keys, survivors, occupied, lost-in}
 use Rattle.survivors.specs.Salvage.{area-refusals, nothing-counts, salvage-refusals, salvage-refusal}
 use Rattle.survivors.specs.Salvage.{SalvageOutcome, salvage-outcome}
 use Rattle.survivors.specs.Surviving.{survivors-valid, survivors-fit}
@@ -151,7 +151,7 @@ module _ (tabulation ws vs : List ℕ) (long : length ws ≡ length vs)
 
   pub alike-lost : lost-in tabulation ws ≡ lost-in tabulation vs
   unfolding lost-in
-  alike-lost = by-both (λ G Y. length (keep (λ x. filled x && not (counts G x)) Y))
+  alike-lost = by-both (λ G Y. length (keep (λ x. occupied x && not (counts G x)) Y))
 
   alike-shaped : shaped ws ≡ shaped vs
   unfolding shaped
@@ -163,7 +163,7 @@ module _ (tabulation ws vs : List ℕ) (long : length ws ≡ length vs)
   unfolding salvage-refusal
   alike-refusal n m =
       let e : nothing-counts tabulation ws ≡ nothing-counts tabulation vs =
-      by-both (λ G Y. any filled Y && not (any (counts G) Y)) in
+      by-both (λ G Y. any occupied Y && not (any (counts G) Y)) in
       rw (e, alike-shaped, long, slots, places)
 
   module _ (target scratch : List ℕ) where
@@ -221,15 +221,15 @@ module _ (tabulation ws : List ℕ) (n m : ℕ) where
   salvage-none h = (
     λ e. elim (test (nothing-counts tabulation ws)) [
       | inl t ↦
-          let p = and-true (any filled (spots ws)) (not (any (counts (family-of tabulation ws)) (spots ws))) t in
-          let r = any-true filled (spots ws) (p .0) in (
+          let p = and-true (any occupied (spots ws)) (not (any (counts (family-of tabulation ws)) (spots ws))) t in
+          let r = any-true occupied (spots ws) (p .0) in (
             (r .0, (r .1, eqb-false _ _ (not-true _ (r .2)))),
             any-false (counts (family-of tabulation ws)) (spots ws) (not-true _ (p .1)),
           )
       | inr t ↦ absurd (let z = sym (rw t at (salvage-passed h)) ∙ e in omega arith)
     ],
     λ p.
-        let f : any filled (spots ws) ≡ true = true-any filled (p .0 .1 .0) (ap not (ne-eqb _ _ (p .0 .1 .1))) in
+        let f : any occupied (spots ws) ≡ true = true-any occupied (p .0 .1 .0) (ap not (ne-eqb _ _ (p .0 .1 .1))) in
         let c : any (counts (family-of tabulation ws)) (spots ws) ≡ false =
         false-any (counts (family-of tabulation ws)) (spots ws) (p .1) in
         salvage-passed h ∙ (rw (f, c)),
@@ -270,17 +270,17 @@ module _ (tabulation ws target scratch : List ℕ) (e : salvage-outcome tabulati
 
 -- Words in which no number stands are accepted: the survivors are the empty set, and nothing is lost.
 module _ (tabulation ws : List ℕ) (empty : (x : Spot) → In x (spots ws) → spot-key x ≡ 0) where
-  none-filled : (x : Spot) → In x (spots ws) → filled x ≡ false
-  none-filled x i = ap not (eq-eqb _ _ (empty x i))
+  none-occupied : (x : Spot) → In x (spots ws) → occupied x ≡ false
+  none-occupied x i = ap not (eq-eqb _ _ (empty x i))
 
   pub empty-accepted : (n m : ℕ) → Salvable tabulation ws n m → salvage-refusal tabulation ws n m ≡ done
-  empty-accepted n m h = salvage-passed tabulation ws n m h ∙ (rw (false-any filled (spots ws) none-filled))
+  empty-accepted n m h = salvage-passed tabulation ws n m h ∙ (rw (false-any occupied (spots ws) none-occupied))
 
   pub empty-lost : lost-in tabulation ws ≡ 0
   unfolding lost-in
   empty-lost =
-      ap length (keep-none (λ x. filled x && not (counts (family-of tabulation ws) x)) (spots ws)
-      (λ x i. rw (none-filled x i)))
+      ap length (keep-none (λ x. occupied x && not (counts (family-of tabulation ws) x)) (spots ws)
+      (λ x i. rw (none-occupied x i)))
 
 -- In words that hold a set every number other than 0 counts, and is of the set.
 pub held-spot : {P : Params} {L : List Entry} {ws : List ℕ} → Holds P L ws → (x : Spot) → In x (spots ws)
@@ -307,10 +307,10 @@ module _ {P : Params} {L : List Entry} {ws : List ℕ} (h : Holds P L ws)
       record { full-length = full-length; shape = held-shaped h; size = size; room = rw q room }
 
   some-counts : nothing-counts t ws ≡ false
-  some-counts = elim (test (any filled (spots ws))) [
+  some-counts = elim (test (any occupied (spots ws))) [
     | inr f ↦ rw f
     | inl f ↦
-        let r = any-true filled (spots ws) f in
+        let r = any-true occupied (spots ws) f in
         elim (held-spot h (r .0) (r .1)) [
           | inl z ↦ absurd (eqb-false _ _ (not-true _ (r .2)) z)
           | inr c ↦ rw (f, true-any (counts (family-of t ws)) (r .1) (c .0))

@@ -1,7 +1,7 @@
 -- The same for code: all issues of a first part have the same two slots. So the first that counts of a first part is
 -- found where a lookup looks, in its order: what is sound with that first part in its slot of table 0, else in that of
 -- table 1, else in the first such place of the stash (`standing-looked`). And how many are lost is told by how many
--- spots are filled and how many count (`filled-split`). Assumes nothing.
+-- spots are occupied and how many count (`occupied-split`). Assumes nothing.
 use Prim.Native.Nat.{ℕ, zero, suc, _+_, _-_, _≤_, _<_}
 use mathlib.Core.Path.{_≡_, refl, sym, _∙_, ap}
 use mathlib.Core.Bool.{Bool, true, false, not, cond, _&&_, _||_, or-true, true≢false}
@@ -22,7 +22,7 @@ use Rattle.layout.specs.Entries.{Entry, max-tier, no-entry}
 use Rattle.layout.specs.Layout.{family-of, slots-of, slot-entry, stash-entries, Spot, slot-spots, place-spots, spots}
 use Rattle.layout.specs.Layout.{spot-key, looked-at}
 use Rattle.layout.specs.Standing.{not-blank}
-use Rattle.survivors.specs.Salvage.{own-place, counts, counting, standing, filled, lost-in}
+use Rattle.survivors.specs.Salvage.{own-place, counts, counting, standing, occupied, lost-in}
 use Rattle.survivors.specs.Spots.{slot-spot, in-slot-spots}
 use Rattle.survivors.specs.Surviving.{counts-sound}
 
@@ -186,18 +186,18 @@ standing-looked tabulation ws some c =
     ∙ ap (cond (is-issue (slot-entry ws (slot-1 F c)) (first-part c)) (slot-entry ws (slot-1 F c)))
     (standing-places F ws c 0 (stash-entries ws)))
 
--- What is filled counts or is lost.
-pub filled-split : (tabulation ws : List ℕ)
-    → length (keep filled (spots ws)) ≡ length (counting tabulation ws) + lost-in tabulation ws
+-- What is occupied counts or is lost.
+pub occupied-split : (tabulation ws : List ℕ)
+    → length (keep occupied (spots ws)) ≡ length (counting tabulation ws) + lost-in tabulation ws
 unfolding counting lost-in
-filled-split tabulation ws =
+occupied-split tabulation ws =
     let F = family-of tabulation ws in
-    let X = keep filled (spots ws) in
+    let X = keep occupied (spots ws) in
     let a : keep (counts F) X ≡ keep (counts F) (spots ws) =
-    keep-keep (counts F) filled (spots ws) ∙ keep-ext (λ x. filled x && counts F x) (counts F) (spots ws) (λ x i.
+    keep-keep (counts F) occupied (spots ws) ∙ keep-ext (λ x. occupied x && counts F x) (counts F) (spots ws) (λ x i.
     elim (test (counts F x)) [
-      | inl t ↦ let f : filled x ≡ true = ap not (ne-eqb _ _ (not-blank (spot-key x) (counts-sound F x t .not-blank))) in rw f
-      | inr t ↦ elim (test (filled x)) [ inl f ↦ rw f | inr f ↦ rw (f, t) ]
+      | inl t ↦ let f : occupied x ≡ true = ap not (ne-eqb _ _ (not-blank (spot-key x) (counts-sound F x t .not-blank))) in rw f
+      | inr t ↦ elim (test (occupied x)) [ inl f ↦ rw f | inr f ↦ rw (f, t) ]
     ]) in
-    let b = keep-keep (λ x. not (counts F x)) filled (spots ws) in
+    let b = keep-keep (λ x. not (counts F x)) occupied (spots ws) in
     sym (length-split (counts F) X) ∙ (rw (a, b))

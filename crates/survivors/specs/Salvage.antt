@@ -51,12 +51,12 @@ survivors tabulation ws =
     tiered (λ c. standing X c .entry .tier) (standing-keys X)
 
 -- "a card number other than zero"
-abbrev pub filled : Spot → Bool
-filled x = not (eqb (spot-key x) 0)
+abbrev pub occupied : Spot → Bool
+occupied x = not (eqb (spot-key x) 0)
 
 -- "how many pockets and drawer places held a card number other than zero that doesn't count"
 unfoldable pub lost-in : List ℕ → List ℕ → ℕ
-lost-in tabulation ws = length (keep (λ x. filled x && not (counts (family-of tabulation ws) x)) (spots ws))
+lost-in tabulation ws = length (keep (λ x. occupied x && not (counts (family-of tabulation ws) x)) (spots ws))
 
 -- the call
 
@@ -81,7 +81,7 @@ area-refusals tabulation ws n m =
 
 -- "15 (some pocket or drawer place holds a card number other than zero, yet no card counts) last"
 abbrev pub nothing-counts : List ℕ → List ℕ → Bool
-nothing-counts tabulation ws = any filled (spots ws) && not (any (counts (family-of tabulation ws)) (spots ws))
+nothing-counts tabulation ws = any occupied (spots ws) && not (any (counts (family-of tabulation ws)) (spots ws))
 
 abbrev pub salvage-refusals : List ℕ → List ℕ → ℕ → ℕ → List (ℕ × Bool)
 salvage-refusals tabulation ws n m =

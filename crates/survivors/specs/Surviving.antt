@@ -35,12 +35,12 @@ pub record FirstThatCounts (tabulation ws : List ℕ) (e : Entry) : Type 0 where
       → first-part (spot-key y) ≡ first-part (e .key) → ⊥
 
 -- The laws. What counts is sound, and in a place of its own.
-pub record Sound (F : Family) (x : Spot) : Type 0 where
+pub record SoundSpot (F : Family) (x : Spot) : Type 0 where
   pub not-blank : blank (spot-key x) ≡ false
   pub small-tier : x .entry .tier ≤ max-tier
   pub own : own-place F (x .at) (spot-key x) ≡ true
 
-pub counts-sound : (F : Family) (x : Spot) → counts F x ≡ true → Sound F x
+pub counts-sound : (F : Family) (x : Spot) → counts F x ≡ true → SoundSpot F x
 counts-sound F x e =
     let p = and-true (not (blank (spot-key x)) && leb (x .entry .tier) max-tier) (own-place F (x .at) (spot-key x)) e in
     let q = and-true (not (blank (spot-key x))) (leb (x .entry .tier) max-tier) (p .0) in
@@ -170,7 +170,7 @@ module _ (tabulation ws : List ℕ) where
   unfolding counting
   found-counts i = keep-test (counts F) (spots ws) (stands-in X i)
 
-  found-sound : {c : ℕ} → In c (standing-keys X) → Sound F (standing X c)
+  found-sound : {c : ℕ} → In c (standing-keys X) → SoundSpot F (standing X c)
   found-sound {c} i = counts-sound F (standing X c) (found-counts i)
 
   -- its entry is that of the spot

@@ -25,7 +25,7 @@ use Rattle.layout.specs.Layout.{slot-entry, stash-entries, Spot, spots, spot-ke
 use Rattle.layout.specs.Image.{image-slots, image-key}
 use Rattle.layout.specs.Standing.{at-slot, stash-key-in, not-blank, image-key-in, slot-tier, place-tier, image-in-looked}
 use Rattle.layout.specs.Standing.{places-count}
-use Rattle.survivors.specs.Salvage.{own-place, counts, counting, filled, standing, survivors, lost-in}
+use Rattle.survivors.specs.Salvage.{own-place, counts, counting, occupied, standing, survivors, lost-in}
 use Rattle.survivors.specs.Spots.{slot-spot, place-spot, SpotOf, spot-of, slot-in-spots, place-in-spots, stash-length}
 use Rattle.survivors.specs.Spots as Spots
 use Rattle.survivors.specs.Surviving.{counts-sound, standing-in, in-stands, survivor-entry, found-spot}
@@ -195,7 +195,7 @@ module _ (P : Params) (L : List Entry) (fit : fits P (keys-of L) ≡ true) (vali
   pub image-lost : lost-in (P .tabulation) ws ≡ 0
   unfolding lost-in image image-by
   image-lost =
-      ap length (keep-none (λ x. filled x && not (counts F x)) (spots ws) (λ x i. elim (image-spot x i) [
+      ap length (keep-none (λ x. occupied x && not (counts F x)) (spots ws) (λ x i. elim (image-spot x i) [
         | inl z ↦ rw (eq-eqb _ _ z)
-        | inr h ↦ and-false (filled x) (not (counts F x)) (ap not (h .0))
+        | inr h ↦ and-false (occupied x) (not (counts F x)) (ap not (h .0))
       ]))

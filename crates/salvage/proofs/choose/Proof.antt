@@ -9,7 +9,7 @@ use lib.ListN.{length, getD, length-set}
 use Rattle.layout.specs.Layout.{family-of, spot-key}
 use Rattle.scratch_set.specs.Edges.{edge-of}
 use Rattle.survivors.specs.Salvage.{counting, standing}
-use Rattle.salvage.specs.Chosen.{candidates, standing-tier, ChosenTo, chosen-skip, chosen-take, formed, own-slots-in}
+use Rattle.salvage.specs.Chosen.{candidates, standing-tier, ChosenTo, chosen-skip, chosen-take, choosing-shaped, own-slots-in}
 use Rattle.salvage.specs.Chosen.{stays, edge, choosing-hashing, choosing-room, choosing-start, choosing-parts, choosing-end}
 use Rattle.salvage.specs.Chosen.{issue-packable, issue-edge, issue-stays, issue-goes}
 use borrow.Author.Needs.{needs}
@@ -54,7 +54,7 @@ second-slot-requires c κs = choosing-hashing (begin (c .before .before .before)
 issue-at-requires : tie.Need-issue-at-requires Inv-loop μ-loop
 issue-at-requires c κs =
     let C = begin (c .before .before .before .before) .pre in
-    (formed C, own-slots-in C _ (c .before .first-slot .ensures) (c .second-slot .ensures))
+    (choosing-shaped C, own-slots-in C _ (c .before .first-slot .ensures) (c .second-slot .ensures))
 
 -- the turn that looks for an issue
 abbrev turn : tie.After-issue-at Inv-loop μ-loop → tie.At-loop Inv-loop μ-loop

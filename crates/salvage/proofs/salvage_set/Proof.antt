@@ -1,4 +1,4 @@
--- `salvage::salvage_set` meets its contract: 15 by how many spots are filled and how many count, or the survivors.
+-- `salvage::salvage_set` meets its contract: 15 by how many spots are occupied and how many count, or the survivors.
 use mathlib.Core.Path.{_≡_, refl, sym, _∙_, ap}
 use native.Mathlib.Omega.{arith}
 use Rattle.layout.specs.Shape.{shape, same-header}
@@ -8,8 +8,8 @@ use borrow.Author.Needs.{needs}
 use Rattle.salvage.proofs.salvage_set.Statement.{statement}
 use Rattle.salvage.proofs.salvage_set.Tie as tie
 
-count-filled-requires : tie.Need-count-filled-requires
-count-filled-requires c κs =
+count-occupied-requires : tie.Need-count-occupied-requires
+count-occupied-requires c κs =
     let p = c .before .before .before .before .pre in
     let s = same-header (p .1) in
     (shape _ (p .0 .shape), (s .slots, s .places))
@@ -41,7 +41,7 @@ returns c =
     let h = c .before in
     let g = gathered h in
     let a = start g .args in
-    hopeless (hopeless-test (a .tabulation .now) (a .words .now) (g .before .before .count-filled .ensures .0)
+    hopeless (hopeless-test (a .tabulation .now) (a .words .now) (g .before .before .count-occupied .ensures .0)
     (g .gather-counting .ensures .1) ∙ sym (h .is-hopeless .ensures) ∙ c .if1 .taken) refl refl
 
 write-survivors-requires : tie.Need-write-survivors-requires
@@ -64,7 +64,7 @@ sub-lost : tie.Need-sub-lost
 sub-lost c =
     let g = gathered (c .before .before .before .before .before .before .before .before) in
     let a = start g .args in
-    let l = lost-left (a .tabulation .now) (a .words .now) (g .before .before .count-filled .ensures .0)
+    let l = lost-left (a .tabulation .now) (a .words .now) (g .before .before .count-occupied .ensures .0)
     (g .gather-counting .ensures .1) in
     omega (arith, l .0)
 
@@ -73,7 +73,7 @@ cast-t19 c =
     let g = gathered (c .before .before .before .before .before .before .before .before) in
     let b = start g in
     let s = same-header (b .pre .1) in
-    omega (arith, g .before .before .count-filled .ensures .1, shape _ (b .pre .0 .shape) .sizes, s .slots, s .places)
+    omega (arith, g .before .before .count-occupied .ensures .1, shape _ (b .pre .0 .shape) .sizes, s .slots, s .places)
 
 same-length-2 : tie.Need-same-length-2
 same-length-2 c = search needs
@@ -87,7 +87,7 @@ returns-2 c =
     let e = x .before .before .before in
     let g = gathered (e .before) in
     let a = start g .args in
-    let f = g .before .before .count-filled .ensures .0 in
+    let f = g .before .before .count-occupied .ensures .0 in
     let n = g .gather-counting .ensures .1 in
     saved (hopeless-test (a .tabulation .now) (a .words .now) f n ∙ sym (e .before .is-hopeless .ensures) ∙ e .if1 .left)
     (ap Lost (lost-left (a .tabulation .now) (a .words .now) f n .1)) (x .write-survivors .ensures)
@@ -96,7 +96,7 @@ pub salvage-set-spec : {M : Type 1} → statement M
 salvage-set-spec =
     tie.close
     (tie.spec
-    count-filled-requires
+    count-occupied-requires
     gather-counting-requires
     is-hopeless-requires
     same-length

@@ -3,7 +3,7 @@ use Prim.Native.Nat.{_-_}
 use native.Mathlib.Omega.{arith}
 use borrow.Rule.Slice.PartMut.{putMid}
 use lib.ListN.{length, length-take, length-drop}
-use Rattle.salvage.specs.Chosen.{CandidatesStand, formed}
+use Rattle.salvage.specs.Chosen.{CandidatesStand, choosing-shaped}
 use Rattle.salvage.specs.Salvaging.{gathered-room, gathered-candidates, chosen-few, chosen-committable, chosen-committed}
 use borrow.Author.Needs.{needs}
 use Rattle.salvage.proofs.write_survivors.Statement.{statement}
@@ -45,7 +45,7 @@ cast-with-keys : tie.Need-cast-with-keys
 cast-with-keys c =
     let x = c .before .before in
     let C = stand (made x) in
-    omega (arith, chosen-few C (x .choose .ensures .0), formed C .sizes)
+    omega (arith, chosen-few C (x .choose .ensures .0), choosing-shaped C .sizes)
 
 with-keys-requires : tie.Need-with-keys-requires
 with-keys-requires c κs = search needs

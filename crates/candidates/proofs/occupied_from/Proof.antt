@@ -1,13 +1,13 @@
--- `candidates::filled_from` meets its contract: what is counted, and what is still to be counted.
+-- `candidates::occupied_from` meets its contract: what is counted, and what is still to be counted.
 use Prim.Native.Nat.{_≤_, _+_, _*_}
 use mathlib.Core.Path.{_≡_, refl, sym, _∙_, ap}
 use native.Mathlib.Omega.{arith}
 use lib.ListN.{length}
 use Rattle.records.specs.Columns.{picked, left-next}
-use Rattle.candidates.specs.Candidates.{non-zero, filled-step, filled-end}
+use Rattle.candidates.specs.Candidates.{non-zero, occupied-step, occupied-end}
 use borrow.Author.Needs.{needs}
-use Rattle.candidates.proofs.filled_from.Statement.{statement}
-use Rattle.candidates.proofs.filled_from.Tie as tie
+use Rattle.candidates.proofs.occupied_from.Statement.{statement}
+use Rattle.candidates.proofs.occupied_from.Tie as tie
 
 abbrev Inv-loop : tie.InvT-loop
 Inv-loop words from step count total₀ at₀ left₀ total at left =
@@ -59,18 +59,18 @@ loop-again c =
       omega arith,
       omega arith,
       l .loop .inv .2
-          ∙ filled-step (a .words .now) (a .step) (l .loop .at) (l .loop .left) (omega arith) (l .loop .total) (c .differs .ensures .0),
+          ∙ occupied-step (a .words .now) (a .step) (l .loop .at) (l .loop .left) (omega arith) (l .loop .total) (c .differs .ensures .0),
     )
 
 returns : tie.Need-returns Inv-loop μ-loop
 returns c =
     let l = c .before in
     let a = start l .args in
-    let e = filled-end (a .words .now) (a .step) (l .loop .at) (l .loop .left) (l .loop .total) (omega arith) in
+    let e = occupied-end (a .words .now) (a .step) (l .loop .at) (l .loop .left) (l .loop .total) (omega arith) in
     (sym (l .loop .inv .2 ∙ e), omega arith)
 
-pub filled-from-spec : {M : Type 1} → statement M
-filled-from-spec =
+pub occupied-from-spec : {M : Type 1} → statement M
+occupied-from-spec =
     tie.close
     (tie.spec
     Inv-loop
