@@ -126,6 +126,11 @@ module _ (tabulation ws target scratch : List ℕ) where
     unfolding salvage-outcome
     salvage-any-target e = rw (← same, ← room, e)
 
+pub salvage-any-scratch : (tabulation ws target scratch sheet : List ℕ) → length scratch ≡ length sheet
+    → salvage-outcome tabulation ws target scratch ≡ salvage-outcome tabulation ws target sheet
+unfolding salvage-outcome
+salvage-any-scratch tabulation ws target scratch sheet e = rw e
+
 -- Nor have the words themselves but by their spots, r, s and station: the number of keys, that of stashed ones and the
 -- next numbers may be anything.
 module _ (tabulation ws vs : List ℕ) (long : length ws ≡ length vs)
