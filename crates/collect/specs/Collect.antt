@@ -2,7 +2,7 @@
 -- never more keys than slots and places, so that scratch has room. Assumes nothing.
 use Prim.Native.Nat.{ℕ, zero, suc, _+_, _*_, _-_, _≤_, _<_}
 use mathlib.Core.Path.{_≡_, refl, sym, _∙_, ap}
-use mathlib.Core.Bool.{not, cond}
+use mathlib.Core.Bool.{Bool, true, false, not, cond}
 use mathlib.Core.Logic.{inl, inr}
 use mathlib.Core.List.{List, [], _∷_, _++_, map, append-assoc, append-nil}
 use native.Mathlib.Nat.{le-refl, add-zero}
@@ -36,14 +36,14 @@ non-blank-few ws from step count =
     let xs = picked ws from step count in
     let l = length-keep (λ w. not (blank w)) xs in omega (arith, picked-length ws from step count)
 
-picked-slots : (ws : List ℕ) (v count : ℕ) → picked ws (key-at v) slot-width count ≡ map spot-key (slot-spots ws v count)
+pub picked-slots : (ws : List ℕ) (v count : ℕ) → picked ws (key-at v) slot-width count ≡ map spot-key (slot-spots ws v count)
 unfolding picked slot-spots
 picked-slots ws v zero = refl
 picked-slots ws v (suc count) =
     let e : key-at v + slot-width ≡ key-at (suc v) = omega arith in
     rw (e, picked-slots ws (suc v) count)
 
-picked-places : (ws : List ℕ) (from count : ℕ) → picked ws from place-width count ≡ keys-of (place-entries count (drop from ws))
+pub picked-places : (ws : List ℕ) (from count : ℕ) → picked ws from place-width count ≡ keys-of (place-entries count (drop from ws))
 unfolding picked place-entries
 picked-places ws from zero = refl
 picked-places ws from (suc count) =
@@ -54,8 +54,15 @@ picked-places ws from (suc count) =
 unfoldable pub gathering : (ws : List ℕ) (step : ℕ) (scratch : List ℕ) (end at left : ℕ) → List ℕ
 gathering ws step scratch end at left = take end scratch ++ non-blank (picked ws at step left)
 
+-- a word that is written in any case behind what is gathered, and stays if t says so
+pub gathered-word : (t : Bool) (scratch : List ℕ) (end word : ℕ) (more : List ℕ) → end < length scratch
+    → take end scratch ++ cond t (word ∷ more) more ≡ take (end + cond t 1 0) (set scratch end word) ++ more
+gathered-word true scratch end word more h =
+    rw (add-one end, take-suc-set) (sym (append-assoc (take end scratch) (word ∷ []) more))
+gathered-word false scratch end word more h = rw (add-zero, take-set-le end scratch end word (le-refl end))
+
 module _ (ws : List ℕ) (step at left : ℕ) (l : 0 < left) where
-  picked-next : picked ws at step left ≡ getD ws at 0 ∷ picked ws (at + step) step (left - 1)
+  pub picked-next : picked ws at step left ≡ getD ws at 0 ∷ picked ws (at + step) step (left - 1)
   unfolding picked
   picked-next = let e : left ≡ suc (left - 1) = omega arith in ap (picked ws at step) e
 
@@ -66,9 +73,10 @@ module _ (ws : List ℕ) (step at left : ℕ) (l : 0 < left) where
       ≡ gathering ws step (set scratch end (getD ws at 0)) (end + cond (blank (getD ws at 0)) 0 1) (at + step) (left - 1)
   unfolding gathering
   gathering-step scratch end h =
+      let more = non-blank (picked ws (at + step) step (left - 1)) in
       rw picked-next (elim (test (blank (getD ws at 0))) [
-        | inl e ↦ rw (e, add-zero, take-set-le end scratch end (getD ws at 0) (le-refl end))
-        | inr n ↦ rw (n, add-one end, take-suc-set) (sym (append-assoc (take end scratch) (getD ws at 0 ∷ []) _))
+        | inl e ↦ rw e (gathered-word false scratch end (getD ws at 0) more h)
+        | inr n ↦ rw n (gathered-word true scratch end (getD ws at 0) more h)
       ])
 
 pub gathering-end :
@@ -123,23 +131,22 @@ front-split : (n : ℕ) (xs zs : List ℕ) → take (n + 1) xs ≡ 0 ∷ zs → 
 front-split n [] zs e = let f = rw (add-one n) at e in absurd (zero-one (cc))
 front-split n (x ∷ xs) zs e = let f = rw (add-one n) at e in (cc, cc)
 
--- what `make_set` makes of the gathered words: all but the word 0 is lent to it
-module _ (ws scratch : List ℕ) (n : ℕ) (room : n < length scratch) (gathered : take (n + 1) scratch ≡ 0 ∷ non-blank (key-words ws)) where
+-- What `make_set` makes of words that were gathered behind word 0: all but the word 0 is lent to it.
+module _ (zs scratch : List ℕ) (n : ℕ) (room : n < length scratch) (gathered : take (n + 1) scratch ≡ 0 ∷ zs) where
   abbrev lent : List ℕ
   lent = midOf 1 (length scratch - 1) scratch
 
-  lent-keys : take n lent ≡ non-blank (key-words ws)
-  lent-keys = take-take n (length scratch - 1) (drop 1 scratch) (omega arith) ∙ front-split n scratch (non-blank (key-words ws)) gathered .1
+  lent-keys : take n lent ≡ zs
+  lent-keys = take-take n (length scratch - 1) (drop 1 scratch) (omega arith) ∙ front-split n scratch zs gathered .1
 
   pub collected :
       (ys : List ℕ) (k : ℕ) → length ys ≡ length lent → k ≡ length (distinct (sorted (take n lent))) → take k ys ≡ distinct (sorted (take n lent))
-      → (take (k + 1) (putMid 1 (length scratch - 1) scratch ys) ≡ 0 ∷ keys-in ws) × (k ≡ length (keys-in ws))
-  unfolding keys-in
+      → (take (k + 1) (putMid 1 (length scratch - 1) scratch ys) ≡ 0 ∷ distinct (sorted zs)) × (k ≡ length (distinct (sorted zs)))
   collected ys k l c f =
       let d = distinct-length (sorted (take n lent)) in
-      let g : distinct (sorted (take n lent)) ≡ distinct (sorted (non-blank (key-words ws))) = ap (λ (l : List ℕ). distinct (sorted l)) lent-keys in
+      let g : distinct (sorted (take n lent)) ≡ distinct (sorted zs) = ap (λ (l : List ℕ). distinct (sorted l)) lent-keys in
       let few : k ≤ length ys = omega (arith, sorted-length (take n lent), length-take n lent) in (
-        rw (front-split n scratch (non-blank (key-words ws)) gathered .0, add-one k, take-append-le k ys (drop (length scratch - 1) (drop 1 scratch)) few)
+        rw (front-split n scratch zs gathered .0, add-one k, take-append-le k ys (drop (length scratch - 1) (drop 1 scratch)) few)
             (ap (λ (l : List ℕ). 0 ∷ l) (f ∙ g)),
         c ∙ ap length g,
       )

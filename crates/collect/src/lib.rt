@@ -92,7 +92,7 @@ fn gather_keys(words: &[u32], scratch: &mut [u32]) -> usize
 
 // The set of the first n keys: ascending at their front, each once. The answer is how many they are. The words behind
 // the n are free to be used.
-fn make_set(keys: &mut [u32], n: usize) -> usize
+pub fn make_set(keys: &mut [u32], n: usize) -> usize
     requires { ⌜ n ≤ length (now keys) ⌝ }
     ensures front { λ k. ⌜ take k (now (keys .exit)) ≡ distinct (sorted (take n (now (keys .entry)))) ⌝ }
     ensures counted { λ k. ⌜ k ≡ length (distinct (sorted (take n (now (keys .entry))))) ⌝ }

@@ -8,12 +8,13 @@ use lib.ListN.{length}
 use Rattle.refusals.specs.Refusal.{done}
 use Rattle.hashing.specs.Hash.{tabulation-length}
 use Rattle.layout.specs.Entries.{Entry}
-use Rattle.layout.specs.Layout.{Params}
+use Rattle.layout.specs.Layout.{Params, params-of}
 use Rattle.layout.specs.Answers.{lookup-refusal, lookup-values, view-refusal, view-of, fresh-refusal, fresh-words}
 use Rattle.outcome.specs.declared.Change.{Change}
 use Rattle.counters.specs.declared.Counters.{Counters}
 use Rattle.outcome.specs.Outcome.{change-outcome, check-outcome}
 use Rattle.bulk.specs.Bulk.{input-set, bulk-outcome}
+use Rattle.survivors.specs.Salvage.{survivors, salvage-outcome}
 
 -- "One book of the right length goes through it; a call may lend one of a wrong length instead."
 pub data Lent : Type 0 where
@@ -95,12 +96,17 @@ pub data Allowed (t : List ℕ) : List ℕ → List Call → Type 0 where
   more : {ws : List ℕ} {c : Call} {cs : List Call} → MayStand ws c → Allowed t (step t ws c .words) cs → Allowed t ws (c ∷ cs)
 
 -- How a sequence starts, and with which set: "It starts with the words of an accepted lay, whatever they were before",
--- which hold no key; or with those of an accepted bulk load (document 02, "Seven"), which hold its input.
+-- which hold no key; or with those of an accepted bulk load (document 02, "Seven"), which hold its input; or with those
+-- that an accepted salvage wrote (document 02, "Eight"), with the r, s and station of the damaged words: they hold the
+-- survivors.
 pub data Start (P : Params) (L : List Entry) (ws : List ℕ) : Type 0 where
   laid : (before : List ℕ) → fresh-refusal (length before) (P .slots) (P .places) (P .station) ≡ done
       → L ≡ [] → ws ≡ fresh-words before (P .slots) (P .places) (P .station) → Start P L ws
   loaded : (input before scratch : List ℕ) → bulk-outcome P input before scratch .answer ≡ done
       → L ≡ input-set input → ws ≡ bulk-outcome P input before scratch .words → Start P L ws
+  salvaged : (damaged before scratch : List ℕ) → params-of (P .tabulation) damaged ≡ P
+      → salvage-outcome (P .tabulation) damaged before scratch .number ≡ done → L ≡ survivors (P .tabulation) damaged
+      → ws ≡ salvage-outcome (P .tabulation) damaged before scratch .target → Start P L ws
 
 -- A sequence of demand 3, with the tabulation, r, s and station of P, that starts with words ws and the set L₀.
 pub record Sequence (P : Params) (L₀ : List Entry) (ws : List ℕ) (cs : List Call) : Type 0 where

@@ -1,6 +1,7 @@
 -- What else follows from the theorem about whole sequences: the answers alone; which runs are sequences; a lookup tells
 -- the set; another issue of a key excludes the key; a refused call of another kind leaves words and set; a removal undoes
--- an insert; what a trail answers; a sequence may start where another has ended; stations stay apart. Assumes nothing.
+-- an insert; what a trail answers, and a salvage; a sequence may start where another has ended; stations stay apart.
+-- Assumes nothing.
 use Prim.Native.Nat.{ℕ, _-_, _≤_}
 use mathlib.Core.Path.{_≡_, refl, sym, _∙_, ap}
 use mathlib.Core.Bool.{true, false, not}
@@ -24,6 +25,8 @@ use Rattle.counters.specs.declared.Counters.{Counters}
 use Rattle.outcome.specs.Laws.{change-tabulation}
 use Rattle.outcome.specs.Trail.{trail-of, trail-outcome}
 use Rattle.outcome.specs.TrailLaws.{trail-done, held-asked, held-trail}
+use Rattle.survivors.specs.Salvage.{salvage-outcome}
+use Rattle.survivors.specs.Laws.{untampered-number, untampered-target, untampered-values}
 use Rattle.outcome.specs.Held.{issue-absent, held-some, held-undone, insert-kept, held-reissued}
 use Rattle.history.specs.Calls.{Lent, own, wrong, lent-of, Other, Call, Answer, Step, step, run, words-left}
 use Rattle.history.specs.Calls.{MayStand, Allowed, none, more, Sequence}
@@ -168,6 +171,22 @@ module _ {P : Params} {L₀ : List Entry} {ws : List ℕ} {cs : List Call} (q : 
       ∙ ap (λ (L : List ℕ). L ++ replicate (length sheet - length L) 0) (held-asked (history q .final) key)
 
 -- starts
+
+-- What a salvage of the words answers at the end of a sequence, with a target of their length and scratch that is long
+-- enough: none is lost, and the target gets the very words.
+module _ {P : Params} {L₀ : List Entry} {ws : List ℕ} {cs : List Call} (q : Sequence P L₀ ws cs) (target scratch : List ℕ)
+    (size : length target ≡ length (words-left P ws cs))
+    (room : scratch-length (P .slots) (P .places) ≤ length scratch) where
+  pub nothing-lost :
+      let o = salvage-outcome (P .tabulation) (words-left P ws cs) target scratch in
+      (o .number ≡ done) × (o .values ≡ 0 ∷ []) × (o .target ≡ words-left P ws cs)
+  nothing-lost =
+      let h = history q .final in (
+        untampered-number h (q .full-length) target scratch size room,
+        untampered-values h (q .full-length) target scratch size room,
+        untampered-target h (q .full-length) target scratch size room,
+      )
+
 
 -- A sequence may start where another has ended: with the words that it left, and with its set.
 pub goes-on : {P : Params} {L₀ : List Entry} {ws : List ℕ} {cs ds : List Call} → Sequence P L₀ ws cs

@@ -1,6 +1,7 @@
 -- Calls of another kind in a sequence: where one may stand it agrees with the model, and like ones answer and leave the
--- same. Then four that exist today: init and bulk load, which may stand where they are refused; the hashes and the
--- trail of a key, which may stand anywhere, as any call that only reads the words. Assumes nothing.
+-- same. Then those that exist today: init, bulk load and a salvage that would write over the words, which may stand
+-- where they are refused; the hashes and the trail of a key and a salvage of the words, which may stand anywhere, as any
+-- call that only reads the words. Assumes nothing.
 use Prim.Native.Nat.{ℕ}
 use mathlib.Core.Path.{_≡_, refl}
 use mathlib.Core.List.{List, [], _++_}
@@ -17,6 +18,8 @@ use Rattle.outcome.specs.Trail.{trail-outcome}
 use Rattle.outcome.specs.TrailLaws.{trail-words, trail-any-scratch}
 use Rattle.bulk.specs.Bulk.{params-for, bulk-outcome}
 use Rattle.bulk.specs.Laws.{bulk-refused, bulk-any-scratch}
+use Rattle.survivors.specs.Salvage.{salvage-outcome}
+use Rattle.survivors.specs.Laws.{salvage-words, salvage-refused, salvage-any-scratch}
 use Rattle.history.specs.Calls.{Answer, Other, Call, step, OtherStands, refused, unchanged, Like}
 use Rattle.history.specs.Model.{Request, reply}
 use Rattle.history.specs.Agrees.{Agrees}
@@ -80,6 +83,26 @@ loading-like t tabulation r s station input scratch scratch′ e =
     (λ ws. rw (bulk-any-scratch P input ws scratch scratch′ e))
     (λ ws. rw (bulk-any-scratch P input ws scratch scratch′ e))
 
+-- a salvage of other words, over those of the sequence: "every refusal leaves the second area unchanged", and then it
+-- may stand there; accepted, it starts another sequence (`Start`)
+
+abbrev pub salvaging-over : (tabulation damaged scratch : List ℕ) → Other
+salvaging-over tabulation damaged scratch = record {
+  answer = λ ws.
+      let o = salvage-outcome tabulation damaged ws scratch in
+      record { number = o .number; values = o .values };
+  words = λ ws. salvage-outcome tabulation damaged ws scratch .target;
+  leaves = λ ws n. salvage-refused tabulation damaged ws scratch n;
+}
+
+pub salvaging-over-like : (t tabulation damaged scratch scratch′ : List ℕ) → length scratch ≡ length scratch′
+    → Like t (Call.other (salvaging-over tabulation damaged scratch))
+    (Call.other (salvaging-over tabulation damaged scratch′))
+salvaging-over-like t tabulation damaged scratch scratch′ e =
+    Like.other (salvaging-over tabulation damaged scratch) (salvaging-over tabulation damaged scratch′)
+    (λ ws. rw (salvage-any-scratch tabulation damaged ws scratch scratch′ e))
+    (λ ws. rw (salvage-any-scratch tabulation damaged ws scratch scratch′ e))
+
 -- calls that only read the words
 
 abbrev pub reads : (List ℕ → Answer) → Other
@@ -115,3 +138,26 @@ trail-like t tabulation scratch scratch′ key sheet e =
     Like.other (tracing tabulation scratch key sheet) (tracing tabulation scratch′ key sheet)
     (λ ws. rw (trail-any-scratch tabulation ws scratch scratch′ key sheet e))
     (λ ws. rw (trail-any-scratch tabulation ws scratch scratch′ key sheet e))
+
+-- A salvage of the words of the sequence, with any tabulation, target and scratch. Its values are how many are lost, none
+-- if it is refused, and the target, as it is afterwards.
+abbrev pub salvaging : (tabulation target scratch : List ℕ) → Other
+salvaging tabulation target scratch = record {
+  answer = λ ws.
+      let o = salvage-outcome tabulation ws target scratch in
+      record { number = o .number; values = o .values ++ o .target };
+  words = λ ws. salvage-outcome tabulation ws target scratch .words;
+  leaves = λ ws n. salvage-words tabulation ws target scratch;
+}
+
+-- It may stand on any words, too,
+pub salvage-stands : (tabulation ws target scratch : List ℕ) → OtherStands ws (salvaging tabulation target scratch)
+salvage-stands tabulation ws target scratch = unchanged (salvage-words tabulation ws target scratch)
+
+-- and two that differ only in what the scratch holds are like.
+pub salvaging-like : (t tabulation target scratch scratch′ : List ℕ) → length scratch ≡ length scratch′
+    → Like t (Call.other (salvaging tabulation target scratch)) (Call.other (salvaging tabulation target scratch′))
+salvaging-like t tabulation target scratch scratch′ e =
+    Like.other (salvaging tabulation target scratch) (salvaging tabulation target scratch′)
+    (λ ws. rw (salvage-any-scratch tabulation ws target scratch scratch′ e))
+    (λ ws. rw (salvage-any-scratch tabulation ws target scratch scratch′ e))

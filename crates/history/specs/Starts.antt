@@ -1,5 +1,5 @@
--- How a sequence may start: the words of every start hold its set, the empty one after an accepted init and the input
--- after an accepted bulk load (`start-holds`); and the image of every set that fits is a start (`holds-start`), so that
+-- How a sequence may start: the words of every start hold its set, the empty one after an accepted init, the input after
+-- an accepted bulk load, the survivors after an accepted salvage (`start-holds`); and the image of every set that fits is a start (`holds-start`), so that
 -- a sequence may start with any set. Assumes nothing.
 use Prim.Native.Nat.{ℕ}
 use mathlib.Core.Path.{_≡_, sym}
@@ -13,7 +13,8 @@ use Rattle.layout.specs.Fresh.{empty-valid, empty-fits, fresh-sizes, fresh-imag
 use Rattle.outcome.specs.Held.{Holds}
 use Rattle.bulk.specs.Input.{input-of, input-of-set}
 use Rattle.bulk.specs.Laws.{bulk-accepted, bulk-holds}
-use Rattle.history.specs.Calls.{Start, laid, loaded}
+use Rattle.survivors.specs.Laws.{salvage-accepted}
+use Rattle.history.specs.Calls.{Start, laid, loaded, salvaged}
 
 pub start-holds : {P : Params} {L : List Entry} {ws : List ℕ} → Start P L ws → Holds P L ws
 start-holds {P} (laid before accepted e f) = rw (e, f) (record {
@@ -21,6 +22,8 @@ start-holds {P} (laid before accepted e f) = rw (e, f) (record {
   is = record { valid = empty-valid; fit = empty-fits P; is = fresh-image P before accepted };
 })
 start-holds {P} (loaded input before scratch accepted e f) = rw (e, f) (bulk-accepted P input before scratch accepted)
+start-holds {P} {L} {ws} (salvaged damaged before scratch same accepted e f) =
+    rw (e, f) (rw same at (salvage-accepted (P .tabulation) damaged before scratch accepted))
 
 -- The image of a set that fits is what a bulk load of it leaves, whatever stood there before.
 pub holds-start : {P : Params} {L : List Entry} {ws : List ℕ} → Holds P L ws

@@ -1,5 +1,5 @@
 -- What the out-parameters of the exported calls hold afterwards. The documents decide the values of an accepted call; what a refusal leaves, and the tier of a
--- key that is not listed, are ours to say: lookup and trail leave what stood there, the view gives an empty stretch. (What a refused opening leaves of its record is
+-- key that is not listed, are ours to say: lookup, trail and salvage leave what stood there, the view gives an empty stretch. (What a refused opening leaves of its record is
 -- `sale-left`, of outcome.)
 use Prim.Native.Nat.{ℕ, _*_}
 use mathlib.Core.Path.{_≡_, refl, sym, _∙_, ap}
@@ -12,6 +12,9 @@ use Rattle.layout.specs.Layout.{slots-of, stash-count, stash-at, place-width}
 use Rattle.layout.specs.Answers.{lookup-values, view-refusal, view-of}
 use Rattle.outcome.specs.declared.Traced.{Traced}
 use Rattle.outcome.specs.Trail.{number, values, TrailOutcome, trail-outcome}
+use Rattle.survivors.specs.declared.Salvaged.{Salvaged}
+use Rattle.survivors.specs.Salvage.{SalvageOutcome, salvage-outcome}
+use Rattle.survivors.specs.Salvage as Salvage
 
 -- the values of a lookup, 1 and the tier or 0, each in its place; where there is none, what stood there before
 unfoldable pub listed-out : List ℕ → List ℕ → ℕ → ℕ → ℕ
@@ -30,6 +33,10 @@ length-out ws = cond (eqb (view-refusal ws) done) (place-width * stash-count ws)
 -- how many keys a trail has; refused, what stood there before
 unfoldable pub count-out : List ℕ → List ℕ → List ℕ → ℕ → List ℕ → ℕ → ℕ
 count-out tabulation ws scratch key sheet old = getD (trail-outcome tabulation ws scratch key sheet .values) 0 old
+
+-- how many numbers a salvage lost; refused, what stood there before
+unfoldable pub lost-out : List ℕ → List ℕ → List ℕ → List ℕ → ℕ → ℕ
+lost-out tabulation ws target scratch old = getD (salvage-outcome tabulation ws target scratch .values) 0 old
 
 -- The laws: offset and length name the very words that the view is
 pub stretch : (ws : List ℕ) → take (length-out ws) (drop (offset-out ws) ws) ≡ view-of ws
@@ -63,5 +70,26 @@ handed-trail tabulation ws scratch key sheet old q e = (
   (
     ap (λ (o : TrailOutcome). o .scratch) e,
     (ap (λ (o : TrailOutcome). o .trail) e, ap (λ (t : Traced). getD (values t) 0 old) (sym q) ∙ ap (λ (o : TrailOutcome). getD (o .values) 0 old) e),
+  ),
+)
+
+-- what is handed on of a salvage's answer f, which was found to be g
+pub handed-salvage : (tabulation ws target scratch : List ℕ) (old : ℕ) {us new left : List ℕ} {f g : Salvaged} → f ≡ g
+    → record { number = Salvage.number f; values = Salvage.values f; words = us; target = new; scratch = left }
+    ≡ salvage-outcome tabulation ws target scratch
+    → let o = salvage-outcome tabulation ws target scratch in
+    (Salvage.number g ≡ o .number)
+    × ((new ≡ o .target) × ((left ≡ o .scratch)
+    × (getD (Salvage.values g) 0 old ≡ lost-out tabulation ws target scratch old)))
+unfolding lost-out
+handed-salvage tabulation ws target scratch old q e = (
+  ap Salvage.number (sym q) ∙ ap (λ (o : SalvageOutcome). o .number) e,
+  (
+    ap (λ (o : SalvageOutcome). o .target) e,
+    (
+      ap (λ (o : SalvageOutcome). o .scratch) e,
+      ap (λ (t : Salvaged). getD (Salvage.values t) 0 old) (sym q)
+          ∙ ap (λ (o : SalvageOutcome). getD (o .values) 0 old) e,
+    ),
   ),
 )

@@ -12,7 +12,8 @@ ghost use Rattle.outcome.specs.Trail.{trail-outcome};
 ghost use Rattle.outcome.specs.Sale.{sale-refusal, sale-left, closed};
 ghost use Rattle.counters.specs.Counters.{counted};
 ghost use Rattle.pinorange.specs.House.{house-answer, housed};
-ghost use Rattle.pinorange.specs.Out.{listed-out, tier-out, offset-out, length-out, count-out};
+ghost use Rattle.survivors.specs.Salvage.{salvage-outcome};
+ghost use Rattle.pinorange.specs.Out.{listed-out, tier-out, offset-out, length-out, count-out, lost-out};
 use counters::Counters;
 use layout::Found;
 use layout::PLACE_WIDTH;
@@ -21,6 +22,7 @@ use outcome::Sale;
 use outcome::Traced;
 use ranges::TABULATION_LENGTH;
 use refusals::WRONG_TABULATION;
+use survivors::Salvaged;
 use words::wide;
 
 // The tier of a key. Done, `listed` is 1 and `tier` the tier, or `listed` is 0 and `tier` stays as it was; refused,
@@ -195,6 +197,36 @@ pub extern "C" fn pinorange_trail(
             0
         }
         Traced::Refused(n) => n,
+    }
+}
+
+// Salvages words that were damaged: document 02's number. Done, the target, as long as the words, holds the canonical
+// list of the survivors, and `lost` is how many slots and places held a number that does not count; refused, both stay.
+// The words are only read; the scratch is zero over its full length afterwards.
+#[no_mangle]
+pub extern "C" fn pinorange_salvage(
+    tabulation: &[u16],
+    words: &[u32],
+    target: &mut [u32],
+    scratch: &mut [u32],
+    lost: &mut u32,
+) -> u32
+    ensures numbered { λ n. ⌜ n ≡ salvage-outcome (now (tabulation .entry)) (now (words .entry))
+        (now (target .entry)) (now (scratch .entry)) .number ⌝ }
+    ensures written_to { λ n. ⌜ now (target .exit) ≡ salvage-outcome (now (tabulation .entry)) (now (words .entry))
+        (now (target .entry)) (now (scratch .entry)) .target ⌝ }
+    ensures cleared { λ n. ⌜ now (scratch .exit) ≡ salvage-outcome (now (tabulation .entry)) (now (words .entry))
+        (now (target .entry)) (now (scratch .entry)) .scratch ⌝ }
+    ensures told { λ n. ⌜ now (lost .exit) ≡ lost-out (now (tabulation .entry)) (now (words .entry))
+        (now (target .entry)) (now (scratch .entry)) (now (lost .entry)) ⌝ }
+{
+    let salvaged = salvage::salvage(tabulation, words, target, scratch);
+    match salvaged {
+        Salvaged::Lost(n) => {
+            *lost = n;
+            0
+        }
+        Salvaged::Refused(n) => n,
     }
 }
 

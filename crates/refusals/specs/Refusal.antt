@@ -68,6 +68,10 @@ other-issue = 13
 abbrev pub not-rising : ℕ
 not-rising = 14
 
+-- 15, "some pocket or drawer place holds a card number other than zero, yet no card counts"
+abbrev pub none-counts : ℕ
+none-counts = 15
+
 -- the number of the first refusal whose test holds, or done
 abbrev pub first-refusal : List (ℕ × Bool) → ℕ
 first-refusal [] = done
@@ -75,8 +79,8 @@ first-refusal (r ∷ rs) = cond (r .1) (r .0) (first-refusal rs)
 
 -- The laws. The numbers are those of document 01's table, and after them those of document 02.
 pub table : done ∷ wrong-tabulation ∷ wrong-shape ∷ short-scratch ∷ not-canonical ∷ blank-key ∷ key-present ∷ key-absent
-    ∷ stash-full ∷ wrong-tier ∷ other-tier ∷ short-trail ∷ wrong-price ∷ other-issue ∷ not-rising ∷ []
-    ≡ 0 ∷ 1 ∷ 2 ∷ 3 ∷ 4 ∷ 5 ∷ 6 ∷ 7 ∷ 8 ∷ 9 ∷ 10 ∷ 11 ∷ 12 ∷ 13 ∷ 14 ∷ []
+    ∷ stash-full ∷ wrong-tier ∷ other-tier ∷ short-trail ∷ wrong-price ∷ other-issue ∷ not-rising ∷ none-counts ∷ []
+    ≡ 0 ∷ 1 ∷ 2 ∷ 3 ∷ 4 ∷ 5 ∷ 6 ∷ 7 ∷ 8 ∷ 9 ∷ 10 ∷ 11 ∷ 12 ∷ 13 ∷ 14 ∷ 15 ∷ []
 table = refl
 
 -- The first that applies is given: the first of the list, if its test holds,

@@ -43,3 +43,6 @@ pub const OTHER_ISSUE: u32 = 13;
 
 // The input of a bulk load has an odd number of words, or its keys do not rise.
 pub const NOT_RISING: u32 = 14;
+
+// Something stands in the words of a salvage, and no key counts.
+pub const NONE_COUNTS: u32 = 15;

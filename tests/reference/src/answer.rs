@@ -1,14 +1,15 @@
 //! What a call gives back: accepted, one of the refusals of document 01's table (with those that
-//! requests One, Two, Four, Six and Seven add to it), or what a lookup found.
+//! requests One, Two, Four, Six, Seven and Eight add to it), or what a lookup found.
 //! Every other module names refusals by this enum; the paper's numbers stand only here.
 
 /// Why a call was refused.
 ///
 /// Paper: the table under "What a call gives back". "They are tried in this order, and none is
 /// given otherwise." Request One puts 9 and 10 between 5 and 6, request Two 11 after 7, request
-/// Four 12 after that, request Six 13 just before 10, request Seven 14 after 9 and before 13; the
-/// variants stand in the order of this table, in which they are tried. Only opening a sale tries 4
-/// after 7: "Opening checks as look-up does, then 7, then 4 if the tier found is above 7."
+/// Four 12 after that, request Six 13 just before 10, request Seven 14 after 9 and before 13,
+/// request Eight 15 last; the variants stand in the order of this table, in which they are tried.
+/// Only opening a sale tries 4 after 7: "Opening checks as look-up does, then 7, then 4 if the tier
+/// found is above 7." A salvage tries 2 for each of its two areas before 3.
 #[derive(Clone, Copy, Debug, PartialEq, Eq, PartialOrd, Ord, Hash)]
 pub enum Refusal {
     /// Paper: 1, "wrong book": "book not 2,048 long"; request Five: "The book becomes 2,560
@@ -16,7 +17,8 @@ pub enum Refusal {
     WrongTabulation = 1,
     /// Paper: 2, "wrong shape": "list shorter than 4 words, r or s outside its range, or length not
     /// 4 + 4r + s"; request One: "the length becomes 4 + 6r + 2s"; request Five: "the length grows
-    /// by one" and "a station above 255, given or in word 4, is a 2".
+    /// by one" and "a station above 255, given or in word 4, is a 2"; request Eight: "2 for the
+    /// second's length", which must be that of the first area.
     WrongShape = 2,
     /// Paper: 3, "short sheet": "work sheet shorter than 8r + 4s"; request One: "at least
     /// 12r + 8s".
@@ -50,6 +52,9 @@ pub enum Refusal {
     /// Paper: 8, "full drawer": "the new set's canonical drawer would have more than s cards". The
     /// new set of a bulk load is that of its input.
     FullStash = 8,
+    /// Request Eight: "15 (some pocket or drawer place holds a card number other than zero, yet no
+    /// card counts) last", in the words that a salvage goes over.
+    NothingCounts = 15,
 }
 
 impl Refusal {

@@ -9,6 +9,7 @@ use crate::image::Engine;
 use crate::key::is_blank;
 use crate::layout::{Shape, HEADER_LEN};
 use crate::sale::{price, Sale};
+use crate::salvage::surviving_set;
 use crate::set::{has_other_issue, members, Set, MAX_TIER};
 
 /// A call of a sequence, as the model is fed it.
@@ -85,8 +86,20 @@ pub enum Call {
         /// The record.
         sale: Sale,
     },
-    /// Paper: "any other call on it may stand there if it is refused". So may an init and a bulk
-    /// load; accepted, they start a sequence, see [`Model::new`] and [`Model::bulk_loaded`].
+    /// Request Eight's salvage of the list to another area. As with a trail: by the paper's letter
+    /// it stands in a sequence only when it is refused, it changes no word of the list either way,
+    /// and the model answers it in full.
+    Salvage {
+        /// Length of the borrowed tabulation.
+        tabulation_len: usize,
+        /// Length of the other area.
+        target_len: usize,
+        /// Length of the borrowed scratch.
+        scratch_len: usize,
+    },
+    /// Paper: "any other call on it may stand there if it is refused". So may an init, a bulk load
+    /// and a salvage of some other words to the list; accepted, they start a sequence, see
+    /// [`Model::new`], [`Model::bulk_loaded`] and [`Model::salvaged`].
     Other {
         /// The refusal the call gave.
         refusal: Refusal,
@@ -109,6 +122,8 @@ pub enum Reply {
     Open(Result<Sale, Refusal>),
     /// To the closing of a sale, which is never refused: the price.
     Close(u32),
+    /// To a salvage of the list: the words of the other area, and how many numbers were lost.
+    Salvage(Result<(Vec<u32>, u32), Refusal>),
 }
 
 /// The reference model.
@@ -117,7 +132,8 @@ pub enum Reply {
 /// Its state is a set of cards, empty at first." What init was given is r, s and, with request
 /// Five, the station. Request One: ""set" means cards with their tiers everywhere". Request Six:
 /// "a set has at most one issue of each such first part"; 13 keeps the state such a set. A sequence
-/// may also start with an accepted bulk load of request Seven; its first state is then that set.
+/// may also start with an accepted bulk load of request Seven or an accepted salvage of request
+/// Eight; its first state is then that set.
 #[derive(Clone, Debug)]
 pub struct Model<E> {
     engine: E,
@@ -161,13 +177,25 @@ impl<E: Engine> Model<E> {
         Ok(model)
     }
 
+    /// The model at the start of a sequence that an accepted salvage to the list starts, or why no
+    /// sequence starts so: the words are those that were gone over, and the lengths of the target
+    /// and the scratch are taken to be right.
+    ///
+    /// Request Eight: "The tool writes their canonical list, with the same r, s and station".
+    pub fn salvaged(engine: E, tabulation: &[u16], words: &[u32]) -> Result<Self, Refusal> {
+        refuse_tabulation(tabulation.len())?;
+        let shape = Shape::of(words)?;
+        let set = surviving_set(tabulation, shape, words)?;
+        Ok(Model { engine, tabulation: tabulation.to_vec(), shape, set })
+    }
+
     /// The set: the tier of each key.
     pub fn set(&self) -> &Set {
         &self.set
     }
 
     /// The words that a list with this set has. "With no call at all the words are the image of the
-    /// empty set", or that of the bulk load's set.
+    /// empty set", or that of the bulk load's or the salvage's set.
     pub fn words(&self) -> Vec<u32> {
         self.image(&self.set).expect("the set is kept such that it has an image")
     }
@@ -208,6 +236,9 @@ impl<E: Engine> Model<E> {
             }
             // Request Four: "closing gives the record's price, though the card may have gone".
             Call::Close { sale } => Reply::Close(sale.price),
+            Call::Salvage { tabulation_len, target_len, scratch_len } => {
+                Reply::Salvage(self.try_salvage(tabulation_len, target_len, scratch_len))
+            }
             // Paper: "For a call of another kind nothing is tried: the register is fed the refusal,
             // answers it, and the set stays."
             Call::Other { refusal } => Reply::Answer(Err(refusal)),
@@ -294,6 +325,23 @@ impl<E: Engine> Model<E> {
         };
         let price = price(tier, base, steps)?;
         Ok(Sale { key, tier, price })
+    }
+
+    /// Request Eight: "An untampered list gives itself and 0. Checks are 1, 2 for the first area, 2
+    /// for the second's length, and 3." The first 2 never applies, and neither does 15: every key
+    /// of the set counts where it stands. The second 2 is not about the list.
+    fn try_salvage(
+        &self,
+        tabulation_len: usize,
+        target_len: usize,
+        scratch_len: usize,
+    ) -> Result<(Vec<u32>, u32), Refusal> {
+        refuse_tabulation(tabulation_len)?;
+        if target_len != self.shape.words_len() {
+            return Err(Refusal::WrongShape);
+        }
+        self.refuse_lengths(tabulation_len, scratch_len)?;
+        Ok((self.words(), 0))
     }
 
     fn image(&self, set: &Set) -> Option<Vec<u32>> {

@@ -7,7 +7,7 @@ use crate::answer::Refusal;
 use crate::graph::{edges, Edge};
 use crate::layout::Slot;
 
-/// Where a placement puts a key.
+/// Where a placement puts a key, or a salvage finds one.
 #[derive(Clone, Copy, Debug, PartialEq, Eq, PartialOrd, Ord)]
 pub enum Place {
     /// In a slot (the paper's "pocket").

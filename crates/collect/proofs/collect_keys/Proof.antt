@@ -2,7 +2,8 @@
 use Prim.Native.Nat.{_<_}
 use native.Mathlib.Omega.{arith}
 use lib.ListN.{length, length-take, length-drop}
-use Rattle.collect.specs.Collect.{gathered-few, collected}
+use Rattle.layout.specs.Layout.{key-words, keys-in}
+use Rattle.collect.specs.Collect.{non-blank, gathered-few, collected}
 use borrow.Author.Needs.{needs}
 use Rattle.collect.proofs.collect_keys.Statement.{statement}
 use Rattle.collect.proofs.collect_keys.Tie as tie
@@ -33,10 +34,11 @@ same-length : tie.Need-same-length
 same-length c = search needs
 
 returns : tie.Need-returns
+unfolding keys-in
 returns c =
     let m = c .before .before .make-set in
     let g = c .before .before .before .before .before .before in
-    collected (start g .args .words .now) (g .gather-keys .last .1 .0) (g .gather-keys .result) (few g) (g .gather-keys .ensures .0)
+    collected (non-blank (key-words (start g .args .words .now))) (g .gather-keys .last .1 .0) (g .gather-keys .result) (few g) (g .gather-keys .ensures .0)
     (m .last .0) (m .result) (m .kept .0) (m .ensures .1) (m .ensures .0)
 
 pub collect-keys-spec : {M : Type 1} → statement M

@@ -1,16 +1,18 @@
 //! Document 01's "Cards on a test board": K1 to K12, each as the image of its set, as the result of
-//! inserts in every order and as laid by one bulk load, with both engines. Request One: "Document
-//! 01's board has tier 0 throughout." Request Five: "The test board runs with station 0". Request
-//! Six: "The test board [..] run[s] with every card multiplied by ten, but for the edge
-//! 4,294,967,295." Then some of the boards with other tiers, T2 to T12, and with other issues, I2
-//! to I12.
+//! inserts in every order, as laid by one bulk load and as salvaged from itself, with both engines.
+//! Request One: "Document 01's board has tier 0 throughout." Request Five: "The test board runs
+//! with station 0". Request Six: "The test board [..] run[s] with every card multiplied by ten, but
+//! for the edge 4,294,967,295." Then some of the boards with other tiers, T2 to T12, and with other
+//! issues, I2 to I12.
 
 use reference::answer::Refusal;
 use reference::bulk::input;
+use reference::rng::Rng;
 use reference::samples::test_tabulation;
 use reference::set::Member;
 
 use crate::common::{engines, hand_words, permutations, HandEntry, Harness, Tally};
+use crate::salvage::{salvage_to, salvaged, without_counts_and_next};
 
 /// A board of the paper, or one with other tiers or issues. Next numbers the paper does not write
 /// out follow from its rule.
@@ -368,6 +370,34 @@ fn boards_are_laid_by_one_bulk_load() {
                 let answer = list.bulk_load(1, 0, 0, &input(&members));
                 assert_eq!(answer, Err(Refusal::FullStash), "{} and {third}, {name}", board.name);
             }
+        }
+    }
+}
+
+/// Request Eight: "An untampered list gives itself and 0." Each board is written over all boards of
+/// its length; its counts and next numbers have no say. Nor have they with zeros in their place, or
+/// with one of a key's two copies gone.
+#[test]
+fn boards_are_salvaged_as_themselves() {
+    let (mut rng, tabulation) = (Rng::new(174), test_tabulation());
+    for board in BOARDS {
+        let (words, itself) = (board.words(), Ok((board.words(), 0)));
+        for before in BOARDS.into_iter().filter(|before| before.words().len() == words.len()) {
+            for (name, engine) in engines() {
+                let given = salvage_to(engine, &tabulation, &words, &before.words(), &[9; 64]);
+                assert_eq!(given, itself, "{} over {}, {name}", board.name, before.name);
+            }
+        }
+        for _ in 0..20 {
+            let others = without_counts_and_next(&words, &mut rng);
+            assert_eq!(salvaged(&tabulation, &others), itself, "{}, {others:?}", board.name);
+        }
+        let copies = |key: u32| board.entries.iter().filter(move |entry| entry.2 == key).count();
+        for &(table, index, key, ..) in board.entries.iter().filter(|entry| copies(entry.2) == 2) {
+            let mut others = words.clone();
+            let at = 5 + 3 * (table * board.r as usize + index);
+            others[at..at + 3].fill(0);
+            assert_eq!(salvaged(&tabulation, &others), itself, "{}, {key} once", board.name);
         }
     }
 }

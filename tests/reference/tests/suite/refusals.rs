@@ -2,7 +2,8 @@
 //! paper's order must be the answer. Some pairs cannot both apply by their nature: a blank key is
 //! in no set (5 with 6, 7, 8, 10 or 13), a listed key leaves the set as it is (6 or 10 with 8), and
 //! no other issue of it is listed (6 or 10 with 13). Opening a sale has an order of its own. The
-//! input of a bulk load can have all its defects at once.
+//! input of a bulk load can have all its defects at once. A salvage gives 2 for each of two areas;
+//! its order stands in [`crate::salvage`].
 
 use reference::answer::{number, Answer, Found};
 use reference::bulk::{self, bulk_load};

@@ -347,7 +347,7 @@ fn made(list: &mut Harness, call: &Call) -> Reply {
         Call::Trail { key, trail_sheet_len, .. } => Reply::Trail(list.trail(key, trail_sheet_len)),
         Call::Open { key, base, ref steps, .. } => Reply::Open(list.open(key, base, steps)),
         Call::Close { sale } => Reply::Close(close(sale)),
-        Call::Other { .. } => unreachable!("not drawn here"),
+        Call::Salvage { .. } | Call::Other { .. } => unreachable!("not drawn here"),
     }
 }
 

@@ -1,6 +1,6 @@
 //! Random sequences of calls on borrowed words against the reference model: every answer, the words
 //! after every call, the scratch, the trail sheet, the counters and the sales that stay open. They
-//! start with an init or a bulk load. Then calls on arbitrary borrowed memory.
+//! start with an init, a bulk load or a salvage. Then calls on arbitrary borrowed memory.
 
 use reference::answer::{number, Answer, Found, Refusal};
 use reference::bulk::{self, bulk_load};
@@ -11,12 +11,14 @@ use reference::image::{Engine, Slow};
 use reference::model::{Call, Model, Reply};
 use reference::rng::Rng;
 use reference::sale::{close, open, Sale};
+use reference::salvage::salvage;
 use reference::samples::{
     random_issue, random_keys, random_station, random_tabulation, random_tier, random_tiers,
 };
 use reference::set::{Member, Set};
 
 use crate::common::{engines, hand_price, other_issues, random_prices, small_key, Tally};
+use crate::salvage::salvage_to;
 
 /// A tier for an insert: mostly one of three, so that a listed key comes again with its own tier
 /// and with another; now and then one above 7.
@@ -125,7 +127,7 @@ impl<'a> Sequence<'a> {
         let (tabulation_len, scratch_len) = (tabulation.len(), scratch.len());
         let (key, trail_sheet) = (small_key(rng, 7), self.input_trail_sheet(rng));
         let (words, counters) = (&mut self.words, &mut self.counters);
-        let (call, reply) = match rng.below(18) {
+        let (call, reply) = match rng.below(19) {
             0..=4 => {
                 let tier = input_tier(rng);
                 let answer =
@@ -158,6 +160,16 @@ impl<'a> Sequence<'a> {
             }
             13 | 14 => return self.open(rng, &tabulation, key),
             15 | 16 => return self.close(rng),
+            17 => {
+                let mut target: Vec<u32> = words.iter().map(|_| rng.next_u32()).collect();
+                if rng.one_in(8) {
+                    target.resize(rng.below(2 * words.len()), 3);
+                }
+                let salvaged = salvage_to(self.engine, &tabulation, words, &target, &scratch);
+                let target_len = target.len();
+                let call = Call::Salvage { tabulation_len, target_len, scratch_len };
+                return (call, Reply::Salvage(salvaged));
+            }
             _ => {
                 // A call of another kind that is refused: an init with another shape.
                 let (r, s, station) = rng.pick(&[
@@ -222,6 +234,33 @@ impl<'a> Sequence<'a> {
         answer
     }
 
+    /// Makes a salvage of some other words to the list's words. Accepted, it starts the next
+    /// sequence, as a bulk load does; refused, it stands in this one as a call of another kind.
+    fn salvage(&mut self, rng: &mut Rng) -> Answer {
+        let tabulation = self.input_tabulation(rng);
+        let mut others = almost_image(&self.tabulation, rng).unwrap_or_else(|| any_words(rng));
+        if rng.one_in(3) {
+            others = self.words.clone();
+            let at = rng.below(others.len());
+            others[at] = small_word(rng);
+        }
+        let (mut scratch, before) = (self.input_scratch(rng), self.words.clone());
+        let lost = salvage(&self.engine, &tabulation, &others, &mut self.words, &mut scratch);
+        assert!(scratch.iter().all(|&word| word == 0), "the scratch ends as zeros");
+        match lost {
+            Ok(_) => {
+                self.model = Model::salvaged(Slow, &tabulation, &others).unwrap();
+                (self.r, self.s, self.station) = (others[0], others[1], others[4]);
+            }
+            Err(refusal) => {
+                assert_eq!(self.words, before, "a refusal leaves the target");
+                let reply = self.model.feed(&Call::Other { refusal });
+                assert_eq!(reply, Reply::Answer(Err(refusal)));
+            }
+        }
+        lost.map(|_| ())
+    }
+
     /// Opens a sale with random prices and keeps it; mostly for a listed key instead of this one.
     fn open(&mut self, rng: &mut Rng, tabulation: &[u16], key: u32) -> (Call, Reply) {
         let listed: Vec<u32> = self.model.set().keys().copied().collect();
@@ -280,6 +319,7 @@ fn plain_label(call: &Call, reply: &Reply, set: &Set) -> String {
             Some(_) => "close, other tier",
             None => "close, key gone",
         },
+        Call::Salvage { .. } => "salvage of the list",
         Call::Other { .. } => "other",
     };
     match reply {
@@ -293,6 +333,8 @@ fn plain_label(call: &Call, reply: &Reply, set: &Set) -> String {
         Reply::Trail(Err(refusal)) => format!("{kind} {}", refusal.number()),
         Reply::Open(opened) => format!("{kind} {}", number(opened.map(|_| ()))),
         Reply::Close(_) => kind.to_string(),
+        Reply::Salvage(Ok(_)) => format!("{kind} 0"),
+        Reply::Salvage(Err(refusal)) => format!("{kind} {}", refusal.number()),
     }
 }
 
@@ -321,6 +363,13 @@ fn sequences_answer_as_the_reference_model() {
                     assert_eq!(sequence.words, sequence.model.words(), "{name}, a bulk load");
                     assert_eq!(sequence.counters, counters, "{name}, a bulk load");
                     tally.add(format!("bulk load {}", number(answer)));
+                    continue;
+                }
+                if rng.one_in(15) {
+                    let answer = sequence.salvage(&mut rng);
+                    assert_eq!(sequence.words, sequence.model.words(), "{name}, a salvage");
+                    assert_eq!(sequence.counters, counters, "{name}, a salvage");
+                    tally.add(format!("salvage to the list {}", number(answer)));
                     continue;
                 }
                 let (call, reply) = sequence.call(&mut rng);
@@ -391,6 +440,15 @@ fn sequences_answer_as_the_reference_model() {
         "bulk load 9",
         "bulk load 13",
         "bulk load 14",
+        "salvage of the list 0",
+        "salvage of the list 1",
+        "salvage of the list 2",
+        "salvage of the list 3",
+        "salvage to the list 0",
+        "salvage to the list 1",
+        "salvage to the list 2",
+        "salvage to the list 3",
+        "salvage to the list 15",
     ];
     tally.report("sequences", &wanted);
 }
