@@ -93,7 +93,7 @@ pub fn print(measured: &Measured) {
     print_goal("lookup to the twins, instructions", 1.1, lookups_by_instructions(measured));
     print_goal("lookup to the twins, time", 1.1, lookups_by_time(measured));
     print_goal("bulk load to an insert into the same set, instructions", 0.6, bulk_loads_to_inserts(measured));
-    print_goal("salvage to a check of the untampered words, instructions", 2.0, salvages_to_checks(measured));
+    print_goal("salvage to a check of the untampered words, instructions", 1.5, salvages_to_checks(measured));
     print_goal("from r = 128 to r = 1,024, 12 to 49 %, instructions", 12.0, growth(measured, 0));
     print_goal("from r = 128 to r = 1,024, 12 to 49 %, time", 12.0, growth(measured, 1));
 }
