@@ -7,3 +7,4 @@ pub mod Surviving
 pub mod Untampered
 pub mod Laws
 pub mod Looked
+pub mod Damage
