@@ -8,3 +8,4 @@ pub mod Untampered
 pub mod Laws
 pub mod Looked
 pub mod Damage
+pub mod Rows
