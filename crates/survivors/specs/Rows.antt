@@ -1,19 +1,24 @@
--- Salvage at work on document 01's board, each card multiplied by ten: damaged words with what survives, how many are
--- lost and the answer, by computation; and that the bounds of Damage are reached. Assumes nothing.
-use Prim.Native.Nat.{ℕ, zero, suc, _+_, _*_}
-use mathlib.Core.Path.{_≡_, refl}
+-- Salvage at work on document 01's board, each card multiplied by ten: every row gives itself and 0; damaged words with
+-- what survives, how many are lost and the answer, by computation; and the bounds of Damage are reached. Assumes nothing.
+use Prim.Native.Nat.{ℕ, _≤_}
+use mathlib.Core.Path.{_≡_, refl, sym}
 use mathlib.Core.Bool.{Bool, true, not, _&&_}
-use mathlib.Core.List.{List, [], _∷_, _++_}
+use mathlib.Core.List.{List, [], _∷_, _++_, List·Memᴰ as In}
 use lib.Dec.{T, eqb}
 use lib.ListN.{length}
 use Rattle.basics.specs.Sets.{keep}
+use Rattle.refusals.specs.Refusal.{done}
 use Rattle.basics.specs.Lists.{same, upto}
 use Rattle.ordered.specs.Keys.{put, sorted, distinct}
 use Rattle.hashing.specs.Hash.{slots-in-range, station-in-range, hash, blank}
 use Rattle.layout.specs.Entries.{Entry}
-use Rattle.layout.specs.Layout.{sizes-in-range, params-in-range, shaped, place-entries, slot-spots}
-use Rattle.layout.specs.Board.{board-tabulation}
+use Rattle.layout.specs.Layout.{sizes-in-range, params-in-range, scratch-length, shaped, place-entries, slot-spots}
+use Rattle.layout.specs.Board.{Row, RowHolds, board-tabulation, board-length, board, board-rows}
+use Rattle.layout.specs.Board as Board
+use Rattle.outcome.specs.Held.{Holds}
 use Rattle.survivors.specs.Salvage.{counting, standing, survivors, lost-in, salvage-refusal}
+use Rattle.survivors.specs.Salvage.{salvage-outcome}
+use Rattle.survivors.specs.Laws.{untampered-number, untampered-target, untampered-values}
 use Rattle.survivors.specs.Damage.{changed-words, listed, part-listed}
 
 -- damaged words with r = 4, s = 1 and station 0: words 2 and 3, a record of three words for each slot of table 0 and of
@@ -106,7 +111,30 @@ rows =
     }
     ∷ []
 
--- The laws.
+-- A row is salvaged to a target of its length, with scratch that is long enough: its words, and 0. (A set that does not
+-- fit has no words.)
+abbrev pub RowSalvages : Row → Type 0
+RowSalvages (Row.shows r s L ws) = (target scratch : List ℕ) → params-in-range r s 0 ≡ true
+    → length target ≡ length ws → scratch-length r s ≤ length scratch
+    → let o = salvage-outcome board-tabulation ws target scratch in
+    (o .number ≡ done) × (o .target ≡ ws) × (o .values ≡ 0 ∷ [])
+RowSalvages (Row.full r s L) = Unit {0}
+
+-- The laws. K1 to K12.
+salvages : (R : Row) → RowHolds R → RowSalvages R
+salvages (Row.shows r s L ws) h = λ target scratch range size room.
+    let H : Holds (board r s) L ws =
+    record { range = range; is = record { valid = h .valid; fit = h .fit; is = sym (h .words-are) } } in (
+      untampered-number H board-length target scratch size room,
+      untampered-target H board-length target scratch size room,
+      untampered-values H board-length target scratch size room,
+    )
+salvages (Row.full r s L) h = tt
+
+pub board-salvages : (R : Row) → In R Board.rows → RowSalvages R
+board-salvages R i = salvages R (board-rows R i)
+
+-- damaged words
 pub salvage-rows : T (all rows)
 unfolding survivors counting standing lost-in salvage-refusal same sorted put distinct blank shaped params-in-range sizes-in-range slots-in-range station-in-range place-entries slot-spots hash board-tabulation
 salvage-rows = tt
