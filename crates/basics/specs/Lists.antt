@@ -242,7 +242,7 @@ pigeonhole f M (some {c} {R} h k) into apart =
     )
 
 -- 0 .. n - 1
-pub upto : ℕ → List ℕ
+unfoldable pub upto : ℕ → List ℕ
 upto zero = []
 upto (suc n) = n ∷ upto n
 

@@ -298,6 +298,11 @@ held-spot {P} {L} {ws} h x i =
       | inr c ↦ inr (q ∙ c .0, c .1)
     ]
 
+-- and its set survives
+pub held-survivors : {P : Params} {L : List Entry} {ws : List ℕ} → Holds P L ws → survivors (P .tabulation) ws ≡ L
+held-survivors {P} {L} h =
+    ap (survivors (P .tabulation)) (h .is .is) ∙ image-survivors P L (h .is .fit) (h .is .valid) (held-some h)
+
 -- "An untampered list gives itself and 0."
 module _ {P : Params} {L : List Entry} {ws : List ℕ} (h : Holds P L ws)
     (full-length : length (P .tabulation) ≡ tabulation-length) (target scratch : List ℕ)
@@ -329,9 +334,7 @@ module _ {P : Params} {L : List Entry} {ws : List ℕ} (h : Holds P L ws)
 
   pub untampered-target : salvage-outcome t ws target scratch .target ≡ ws
   untampered-target =
-      let s : survivors t ws ≡ L =
-      ap (survivors t) (h .is .is) ∙ image-survivors P L (h .is .fit) (h .is .valid) (held-some h) in
-      salvage-done t ws target scratch untampered-number ∙ (rw (held-params h, s) (sym (h .is .is)))
+      salvage-done t ws target scratch untampered-number ∙ (rw (held-params h, held-survivors h) (sym (h .is .is)))
 
   pub untampered-values : salvage-outcome t ws target scratch .values ≡ 0 ∷ []
   untampered-values =

@@ -7,3 +7,5 @@ pub mod Surviving
 pub mod Untampered
 pub mod Laws
 pub mod Looked
+pub mod Damage
+pub mod Rows
