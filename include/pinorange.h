@@ -284,13 +284,14 @@ uint32_t pinorange_trail(const uint16_t *tabulation, size_t tabulation_length, c
  *   Neither 4 nor 8 ever comes: survivors always fit, since each stood in a slot of its own or in a place (proved).
  *
  * What is saved (proved): the words of an untampered list give themselves and 0 lost, and so do those of a salvaged
- * one. Where k words were changed, none of them word 0, 1 or 4, at most 2k of the old keys do not stand in the target
- * with their tiers, at most k first parts are gone altogether, and at most k keys with their tiers are new. A key
- * survives with its tier if a slot or place where it stands was left as it was, and nothing else of its first part was
- * written, be it in another issue, copy or tier.
+ * one. Where k words were changed, none of them word 0, 1 or 4, at most k are told as lost, at most 2k of the old keys
+ * do not stand in the target with their tiers, at most k first parts are gone altogether, and at most k keys with their
+ * tiers are new. A key survives with its tier if a slot or place where it stands was left as it was, and nothing else
+ * of its first part was written, be it in another issue, copy or tier.
  * What is not: neither 0 lost nor 0 of a check of the target says that all is as it was. A changed word may be a key
- * that counts, and another tier from 0 to 7 counts, too. So compare the target with a record, or with another head that
- * has the same keys, before it is relied on.
+ * that counts, as any number from 10 on does in a place of the stash beside a tier from 0 to 7, and another such tier
+ * counts, too. So compare the target with a record, or with another head that has the same keys, before it is relied
+ * on.
  * Before the call compare words 0, 1 and 4 with the r, s and station that the list was laid with, and where they differ
  * write these into a copy of the words, and salvage that. Another r or s in words of this length is a 2, or has the
  * tables end elsewhere; and at another station, as under another tabulation, hardly a key sits in a slot of its own. */

@@ -318,6 +318,31 @@ fn salvages_by_hand() {
     assert_eq!(saved(&torn), (0, Some(1), alone));
 }
 
+/// The damaged words of the specification, with one place: slots and places, each with its key and tier; the heading's
+/// counts are wrong.
+#[test]
+fn salvages_of_the_specification() {
+    for (slots, place, answer, lost, survivors) in [
+        (&[(1, 10, 0), (4, 650, 0)][..], (0, 0), 0, 0, &[(10, 0), (650, 0)][..]),
+        (&[(1, 651, 0), (4, 650, 0)], (0, 0), 0, 0, &[(651, 0)]),
+        (&[(1, 171, 8), (5, 172, 7)], (0, 0), 0, 1, &[(172, 7)]),
+        (&[(1, 170, 3), (5, 170, 5)], (170, 6), 0, 0, &[(170, 3)]),
+        (&[(0, 9, 0), (2, 170, 0)], (250, 4), 0, 2, &[(250, 4)]),
+        (&[(2, 170, 0)], (0, 0), 15, 1, &[]),
+        (&[], (0, 7), 0, 0, &[]),
+    ] {
+        let mut words = wet(slots, [place, (0, 0)]);
+        words.truncate(words_length(4, 1));
+        words[1..4].copy_from_slice(&[1, 99, 0]);
+        let image = reference::image::image(&test_tabulation(), 4, 1, 0, survivors);
+        let expected = match answer {
+            0 => (0, Some(lost), image.expect("survivors fit")),
+            _ => (answer, None, vec![9; words.len()]),
+        };
+        assert_eq!(saved(&words), expected, "{slots:?}, {place:?}");
+    }
+}
+
 /// The refusals of a salvage, each with causes for those that are tried behind it.
 #[test]
 fn the_refusals_of_a_salvage_in_their_order() {
