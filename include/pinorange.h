@@ -273,14 +273,13 @@ uint32_t pinorange_trail(const uint16_t *tabulation, size_t tabulation_length, c
  * neither. No counters.
  * Done (0): the target is the canonical image of the survivors, in every word, with the r, s and station of the words,
  *   whatever it held before: a list as any other, on which all calls may follow. `*lost` is how many slots and places
- *   hold a number other than 0 that does not count, at most 2r + s. A copy or another issue that counts and does not
- *   stand is not among them.
+ *   hold a number other than 0 in the place of a key that does not count, at most 2r + s. A copy or another issue that
+ *   counts and does not stand is not among them.
  * Refused (1, 2, 2, 3 or 15, tried in that order): the target and `*lost` stay as they were. Scratch as for insert.
  *   2: the words have no right shape; then, the target is not as long as the words.
  *   3: the scratch is shorter than PINORANGE_SCRATCH(r, s), for the r and s of the words.
- *   15: some slot or place holds a number other than 0, yet no key counts. There is nothing to salvage: lay the list
- *     from a record, or an empty one. Where no slot and no place holds a number other than 0, the call is done, and the
- *     target is the empty list.
+ *   15: some slot or place holds such a number, yet no key counts. There is nothing to salvage: lay the list from a
+ *     record, or an empty one. Where none holds any, the call is done, and the target is the empty list.
  *   Neither 4 nor 8 ever comes: survivors always fit, since each stood in a slot of its own or in a place (proved).
  *
  * What is saved (proved): the words of an untampered list give themselves and 0 lost, and so do those of a salvaged
