@@ -364,8 +364,8 @@ static void wrong_arguments(void)
     EXPECT_CHECK(pinorange_list_salvage(&whole, plain.words, whole.words_length, 0), "lost", "is null");
     EXPECT_CHECK(pinorange_list_salvage(&whole, plain.words, whole.words_length, ASKEW(uint32_t, plain.scratch)),
                  "lost", "is not aligned");
-    EXPECT_CHECK(pinorange_list_salvage(&whole, plain.words, whole.words_length, &plain.words[2]), "lost",
-                 "overlaps another piece");
+    EXPECT_CHECK(pinorange_list_salvage(&whole, plain.words, whole.words_length, &plain.words[whole.words_length - 1]),
+                 "lost", "overlaps another piece");
     EXPECT_CHECK(pinorange_list_salvage(&whole, plain.words, whole.words_length, &ours.counters.done), "lost",
                  "overlaps another piece");
     EXPECT_CHECK(pinorange_list_open_sale(&whole, 410017, 1000, 0, &sale), "steps", "is null");
@@ -397,6 +397,8 @@ static void touching(void)
            == PINORANGE_SHORT_SCRATCH, "an input that touches the scratch does not overlap it");
     expect(pinorange_list_bulk_load(&whole, R, S, STATION, &ours.words[5], 0) == PINORANGE_DONE,
            "an input of no length overlaps nothing");
+    expect(pinorange_list_salvage(&whole, plain.words, whole.words_length - 1, &plain.words[whole.words_length - 1])
+           == PINORANGE_WRONG_SHAPE, "a number that touches the damaged words does not overlap them");
 }
 #endif
 
