@@ -75,7 +75,8 @@ module _ (F : Family) (ws scratch : List ℕ) (end v m : ℕ) where
   slots-sift l room k e =
       let q : m - v ≡ suc (m - suc v) = omega arith in
       let more = keep (counts F) (slot-spots ws (suc v) (m - suc v)) in
-      rw (q, k, e, add-one v) (ap (λ (xs : List ℕ). take end scratch ++ xs) (map-cond (counts F (slot-spot ws v)) (slot-spot ws v) more)
+      rw (q, k, e, add-one v)
+      (ap (λ (xs : List ℕ). take end scratch ++ xs) (map-cond (counts F (slot-spot ws v)) (slot-spot ws v) more)
       ∙ gathered-word (counts F (slot-spot ws v)) scratch end (spot-key (slot-spot ws v)) (map spot-key more) room)
 
   pub slots-end : v ≡ m → slots-sifted F ws scratch end v m ≡ take end scratch
@@ -94,7 +95,15 @@ places-next ps count i l =
     let e : count - i ≡ suc (count - (i + 1)) = omega arith in
     let f : place-width * (i + 1) ≡ place-width * i + place-width = omega arith in
     let g : place-width * i + 0 ≡ place-width * i = omega arith in
-    rw (e, f, ← drop-drop place-width (place-width * i) ps, getD-drop (place-width * i) ps 0 0, getD-drop (place-width * i) ps 1 0, g)
+    rw (
+      e,
+      f,
+      ← drop-drop place-width (place-width * i) ps,
+      getD-drop (place-width * i) ps 0 0,
+      getD-drop
+          (place-width * i) ps 1 0,
+      g,
+    )
 
 pub places-start : (ps : List ℕ) (count : ℕ) → places-left ps count 0 ≡ place-entries count ps
 places-start ps count = let e : count - 0 ≡ count = omega arith in rw e
@@ -124,7 +133,8 @@ module _ (ps scratch : List ℕ) (end count i : ℕ) where
   places-end q = rw (places-done ps count i q) (append-nil (take end scratch))
 
 -- both together are the keys of the spots that count
-places-spots : (F : Family) (i : ℕ) (L : List Entry) → map spot-key (keep (counts F) (place-spots i L)) ≡ places-counting L
+places-spots : (F : Family) (i : ℕ) (L : List Entry) → map spot-key (keep (counts F) (place-spots i L))
+    ≡ places-counting L
 unfolding places-counting
 places-spots F i [] = refl
 places-spots F i (e ∷ L) = elim (test (sound e)) [
@@ -147,7 +157,13 @@ module _ (tabulation ws : List ℕ) where
 pub slots-few : (F : Family) (ws : List ℕ) (n : ℕ) → length (slots-counting F ws 0 n) ≤ n
 unfolding slots-counting
 slots-few F ws n =
-    omega (arith, length-map (keep (counts F) (slot-spots ws 0 n)) spot-key, length-keep (counts F) (slot-spots ws 0 n), slot-spots-length ws 0 n)
+    omega (
+      arith,
+      length-map (keep (counts F) (slot-spots ws 0 n)) spot-key,
+      length-keep (counts F)
+          (slot-spots ws 0 n),
+      slot-spots-length ws 0 n,
+    )
 
 -- the places as they are lent
 places-part : (n : ℕ) (ws : List ℕ) → place-entries n (take (place-width * n) ws) ≡ place-entries n ws
@@ -169,7 +185,8 @@ pub gathered-counting : (tabulation ws scratch mid zs : List ℕ) {r station sta
     → r ≡ slots-of ws → station ≡ station-of ws → start ≡ stash-at r → count ≡ places-of ws → 0 < length scratch
     → (take n mid ≡ take 1 (set scratch 0 0) ++ slots-counting (tables tabulation r station) ws 0 (r + r))
     × (n ≡ 1 + length (slots-counting (tables tabulation r station) ws 0 (r + r)))
-    → (take end zs ≡ take n mid ++ places-counting (place-entries count (midOf start (start + place-width * count - start) ws)))
+    → (take end zs ≡ take n mid ++ places-counting
+    (place-entries count (midOf start (start + place-width * count - start) ws)))
     × (end ≡ n + length (places-counting (place-entries count (midOf start (start + place-width * count - start) ws))))
     → (take (end - 1 + 1) zs ≡ 0 ∷ map spot-key (counting tabulation ws)) × (end - 1 ≡ length (counting tabulation ws))
 gathered-counting tabulation ws scratch mid zs {r} {station} {start} {count} {n} {end} er ed es ec l f g =

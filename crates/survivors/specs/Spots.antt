@@ -11,7 +11,8 @@ use Rattle.basics.specs.Tests.{eq?, zero-one}
 use Rattle.basics.specs.Sets.{length-keep}
 use Rattle.cuckoo.specs.Placement.{Place, slot, place}
 use Rattle.layout.specs.Entries.{Entry, keys-of, length-keys, no-entry}
-use Rattle.layout.specs.Layout.{family-of, slots-of, places-of, slot-entry, stash-entries, Spot, slot-spots, place-spots, spots}
+use Rattle.layout.specs.Layout.{family-of, slots-of, places-of, slot-entry, stash-entries, Spot, slot-spots}
+use Rattle.layout.specs.Layout.{place-spots, spots}
 use Rattle.layout.specs.Standing.{places-count}
 use Rattle.survivors.specs.Salvage.{counts, counting}
 

@@ -109,7 +109,8 @@ module _ (F : Family) (c : ℕ) where
           → standing (keep (counts F) (x ∷ X)) c ≡ standing (keep (counts F) X) c → (Some X → Split X) → Split (x ∷ X)
       on n e more =
           let s = more (elim (h .1) [
-            | here z ↦ absurd (n (ap (counts F) (sym z) ∙ h .2) (ap (λ (w : Spot). first-part (spot-key w)) (sym z) ∙ h .3))
+            | here z ↦ absurd (n (ap (counts F) (sym z) ∙ h .2) (ap (λ (w : Spot). first-part (spot-key w)) (sym z)
+                ∙ h .3))
             | there k ↦ (h .0, k, h .2, h .3)
           ]) in
           record {
@@ -190,7 +191,8 @@ module _ (tabulation ws : List ℕ) where
   unfolding survivors
   entry-survives c i =
       let t : Entry = record { key = c; tier = standing X c .entry .tier } in
-      let q : standing X c .entry ≡ t = ap (λ (k : ℕ). record { key = k; tier = standing X c .entry .tier }) (stands-key X i) in
+      let q : standing X c .entry
+      ≡ t = ap (λ (k : ℕ). record { key = k; tier = standing X c .entry .tier }) (stands-key X i) in
       rw q (in-tiered (λ c. standing X c .entry .tier) (standing-keys X) i)
 
   -- "Of several issues or copies of a card the first that counts stands, with its tier."
@@ -199,7 +201,8 @@ module _ (tabulation ws : List ℕ) where
   survives-iff e = (
     λ i.
         let r = survivor-entry i in
-        let s = split F (e .key) (spots ws) (standing X (e .key), found-spot (r .0), found-counts (r .0), ap first-part (stands-key X (r .0))) in
+        let s = split F (e .key) (spots ws)
+        (standing X (e .key), found-spot (r .0), found-counts (r .0), ap first-part (stands-key X (r .0))) in
         record {
           before = s .before;
           spot = standing X (e .key);
@@ -252,7 +255,8 @@ module _ (tabulation ws : List ℕ) where
       go x k o (at-place j l q) = aside j l (ap (λ (y : Spot). y .at) q)
 
   -- and no two in one.
-  found-apart : {c d : ℕ} → In c (standing-keys X) → In d (standing-keys X) → standing X c .at ≡ standing X d .at → c ≡ d
+  found-apart : {c d : ℕ} → In c (standing-keys X) → In d (standing-keys X) → standing X c .at ≡ standing X d .at → c
+      ≡ d
   found-apart i j e =
       sym (stands-key X i) ∙ ap spot-key (one-spot ws (found-spot i) (found-spot j) e) ∙ stands-key X j
 

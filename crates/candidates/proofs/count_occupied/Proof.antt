@@ -35,7 +35,11 @@ returns c =
     let a = f .before .before .before in
     let p = a .pre in
     let x = rw (f .before .wide .ensures ∙ p .1 .0) at (f .occupied-from .ensures .0) in
-    let y = rw (c .before .before .stash-start .ensures ∙ ap stash-at (p .1 .0), c .before .wide2 .ensures ∙ p .1 .1) at (c .occupied-from2 .ensures .0) in
+    let y = rw (
+      c .before .before .stash-start .ensures ∙ ap stash-at (p .1 .0),
+      c .before .wide2 .ensures
+          ∙ p .1 .1,
+    ) at (c .occupied-from2 .ensures .0) in
     (omega (arith, x, y, all-occupied (a .args .words .now)), omega arith)
 
 pub count-occupied-spec : {M : Type 1} → statement M

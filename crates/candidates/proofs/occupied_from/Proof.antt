@@ -59,7 +59,8 @@ loop-again c =
       omega arith,
       omega arith,
       l .loop .inv .2
-          ∙ occupied-step (a .words .now) (a .step) (l .loop .at) (l .loop .left) (omega arith) (l .loop .total) (c .differs .ensures .0),
+          ∙ occupied-step (a .words .now) (a .step) (l .loop .at) (l .loop .left) (omega arith) (l .loop .total)
+          (c .differs .ensures .0),
     )
 
 returns : tie.Need-returns Inv-loop μ-loop

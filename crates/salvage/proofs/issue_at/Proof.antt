@@ -29,7 +29,8 @@ returns c =
     let f = c .before in
     let w = f .before .before .before in
     let a = w .before .before .args in
-    slot-here (a .words .now) (a .first) (a .key) (slot-entry (a .words .now) (a .second) ∷ stash-entries (a .words .now))
+    slot-here (a .words .now) (a .first) (a .key)
+    (slot-entry (a .words .now) (a .second) ∷ stash-entries (a .words .now))
     (f .before .before .key-in .ensures) (f .before .slot-tier .ensures) (w .first-part .ensures) (f .is-issue .ensures)
     (c .if1 .taken)
 
@@ -46,7 +47,8 @@ missed : (e : tie.Else1) → let a = start e .args in let ws = a .words .now in
 missed e =
     let a = start e .args in
     let f = e .before in
-    slot-further (a .words .now) (a .first) (a .key) (slot-entry (a .words .now) (a .second) ∷ stash-entries (a .words .now))
+    slot-further (a .words .now) (a .first) (a .key)
+    (slot-entry (a .words .now) (a .second) ∷ stash-entries (a .words .now))
     (f .before .before .key-in .ensures) (f .before .slot-tier .ensures) (parted e .first-part .ensures)
     (f .is-issue .ensures) (e .if1 .left)
 
@@ -65,7 +67,8 @@ returns-2 c =
     let e = f .before .before .before in
     let a = start e .args in
     slot-here (a .words .now) (a .second) (a .key) (stash-entries (a .words .now)) (f .before .before .key-in2 .ensures)
-    (f .before .slot-tier2 .ensures) (parted e .first-part .ensures) (f .is-issue2 .ensures) (c .if2 .taken) ∙ sym (missed e)
+    (f .before .slot-tier2 .ensures) (parted e .first-part .ensures) (f .is-issue2 .ensures) (c .if2 .taken)
+    ∙ sym (missed e)
 
 read-header-requires : tie.Need-read-header-requires
 read-header-requires c κs = search needs

@@ -13,7 +13,8 @@ use Rattle.salvage.proofs.issue_in_places.Statement.{statement}
 use Rattle.salvage.proofs.issue_in_places.Tie as tie
 
 abbrev Inv-loop : tie.InvT-loop
-Inv-loop places count key part i₀ i = (i ≤ count) × (sound-issue (place-entries count places) key ≡ issue-left places count key i)
+Inv-loop places count key part i₀ i = (i ≤ count)
+    × (sound-issue (place-entries count places) key ≡ issue-left places count key i)
 
 abbrev μ-loop : tie.MeasureT-loop
 μ-loop places count key part i₀ i = count - i
