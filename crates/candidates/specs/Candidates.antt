@@ -2,27 +2,27 @@
 -- spots are occupied, by the words at which a key can stand. Assumes nothing.
 use Prim.Native.Nat.{ℕ, zero, suc, _+_, _*_, _-_, _≤_, _<_}
 use mathlib.Core.Path.{_≡_, refl, sym, _∙_, ap}
-use mathlib.Core.Bool.{Bool, true, false, not, cond, _&&_, _||_, or-true}
+use mathlib.Core.Bool.{Bool, true, false, not, cond}
 use mathlib.Core.Logic.{inl, inr}
 use mathlib.Core.List.{List, [], _∷_, _++_, map, map-append, append-nil}
 use native.Mathlib.Numerals.{add-one}
 use native.Mathlib.Omega.{arith}
-use borrow.Author.Tests.{eqb-true, eq-eqb, ne-eqb}
+use borrow.Author.Tests.{ne-eqb}
 use borrow.Rule.Slice.PartMut.{midOf}
 use lib.Dec.{eqb}
 use lib.ListN.{length, getD, set, take, drop, length-append, length-map}
 use lib.Seq.{drop-drop, getD-drop, take-suc-set}
-use Rattle.basics.specs.Tests.{test, bool-ext}
+use Rattle.basics.specs.Tests.{test}
 use Rattle.basics.specs.Sets.{keep, length-keep}
 use Rattle.basics.specs.Lists.{keep-append}
 use Rattle.cuckoo.specs.Placement.{slot}
 use Rattle.hashing.specs.Hash.{Family, tables}
 use Rattle.hashing.specs.Slots.{slot-0, slot-1, slot-0-lt, slot-1-le}
-use Rattle.layout.specs.Entries.{Entry, keys-of, length-keys}
+use Rattle.layout.specs.Entries.{Entry, keys-of}
 use Rattle.layout.specs.Layout.{slots-of, places-of, station-of, header-length, slot-width, place-width, stash-at}
-use Rattle.layout.specs.Layout.{place-entries, stash-entries, Spot, slot-spots, place-spots, spots, spot-key, key-words}
+use Rattle.layout.specs.Layout.{place-entries, stash-entries, Spot, slot-spots, place-spots, spots, spot-key}
 use Rattle.layout.specs.Standing.{key-words-parts}
-use Rattle.records.specs.Columns.{picked, picked-length}
+use Rattle.records.specs.Columns.{picked}
 use Rattle.collect.specs.Collect.{gathered-word, picked-next, picked-slots, picked-places}
 use Rattle.survivors.specs.Salvage.{own-place, counts, counting, occupied}
 use Rattle.survivors.specs.Spots.{slot-spot, slot-spots-length}

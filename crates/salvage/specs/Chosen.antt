@@ -19,14 +19,14 @@ use Rattle.ordered.specs.Sorting.{sorted-length}
 use Rattle.ordered.specs.Distinct.{distinct-length}
 use Rattle.hashing.specs.Hash.{tables, Hashing}
 use Rattle.hashing.specs.Slots.{slot-0, slot-1}
-use Rattle.layout.specs.Entries.{Entry, max-tier}
+use Rattle.layout.specs.Entries.{Entry}
 use Rattle.layout.specs.Layout.{params-of, family-of, slots-of, places-of, station-of, slot-entry, stash-entries}
 use Rattle.layout.specs.Layout.{Spot, spot-key, looked-at}
 use Rattle.layout.specs.Shape.{Shaped, Sized, shape, by-own-family}
 use Rattle.layout.specs.Ready.{Ready}
 use Rattle.edges.specs.Edge.{packed, Packable}
 use Rattle.build.specs.Scratch.{edges-at, used}
-use Rattle.scratch_set.specs.Edges.{edge-with, edge-of, Lined, slots-in, packable}
+use Rattle.scratch_set.specs.Edges.{edge-of, Lined, slots-in, packable}
 use Rattle.survivors.specs.Salvage.{counting, standing, standing-keys}
 use Rattle.survivors.specs.Spots.{counting-few}
 use Rattle.survivors.specs.Looked.{sound-issue, issue-small, standing-looked}

@@ -1,11 +1,11 @@
 -- From what was gathered and chosen to the outcome. Assumes nothing.
 use Prim.Native.Nat.{ℕ, _+_, _-_, _*_, _≤_, _<_}
-use mathlib.Core.Path.{_≡_, refl, sym, _∙_, ap}
-use mathlib.Core.Bool.{Bool, true, false, not, cond, _&&_}
+use mathlib.Core.Path.{_≡_, refl, sym, _∙_}
+use mathlib.Core.Bool.{Bool, true, false, not, _&&_}
 use mathlib.Core.Logic.{inl, inr}
 use mathlib.Core.List.{List, [], _∷_, map}
 use native.Mathlib.Omega.{arith}
-use borrow.Author.Tests.{eq-eqb, ne-eqb}
+use borrow.Author.Tests.{ne-eqb}
 use lib.Dec.{eqb}
 use borrow.Rule.Slice.PartMut.{midOf, putMid, same-len-mid}
 use lib.ListN.{length, take, replicate}
@@ -14,11 +14,10 @@ use Rattle.basics.specs.Sets.{keep, any, length-keep}
 use Rattle.refusals.specs.Refusal.{done, none-counts, first-refusal, front-none}
 use Rattle.hashing.specs.Hash.{Hashing}
 use Rattle.layout.specs.declared.Header.{Header}
-use Rattle.layout.specs.Entries.{keys-of, tiered, keys-tiered}
+use Rattle.layout.specs.Entries.{keys-of, tiered}
 use Rattle.layout.specs.Layout.{params-of, header-of, with-keys, family-of, slots-of, places-of, station-of}
 use Rattle.layout.specs.Layout.{fits, image, spots, spot-key}
 use Rattle.layout.specs.Shape.{shape, same-header}
-use Rattle.layout.specs.Ready.{Ready}
 use Rattle.ordered.specs.Keys.{sorted, distinct}
 use Rattle.collect.specs.Collect.{collected}
 use Rattle.scratch_set.specs.Edges.{Lined, lined-buildable}
@@ -27,9 +26,9 @@ use Rattle.survivors.specs.declared.Salvaged.{Salvaged}
 use Rattle.survivors.specs.declared.Salvaged.the-variants.{Lost, Refused}
 use Rattle.survivors.specs.Salvage.{counts, counting, standing, standing-keys, survivors, occupied, lost-in, number}
 use Rattle.survivors.specs.Salvage.{values}
-use Rattle.survivors.specs.Salvage.{area-refusals, nothing-counts, salvage-refusal, SalvageOutcome, salvage-outcome}
+use Rattle.survivors.specs.Salvage.{area-refusals, nothing-counts, salvage-refusal, salvage-outcome}
 use Rattle.survivors.specs.Spots.{counting-few}
-use Rattle.survivors.specs.Surviving.{standing-valid, survivors-fit, survivor-keys}
+use Rattle.survivors.specs.Surviving.{standing-valid, survivors-fit}
 use Rattle.survivors.specs.Laws.{Salvable, none-salvable, salvage-number, salvage-done, salvage-told, salvage-refused}
 use Rattle.survivors.specs.Laws.{salvage-untold, salvage-area, salvage-passed}
 use Rattle.survivors.specs.Looked.{occupied-split}

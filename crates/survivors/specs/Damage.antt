@@ -5,7 +5,7 @@
 use Prim.Native.Nat.{ℕ, zero, suc, _+_, _*_, _-_, _/_, _≤_, _<_}
 use mathlib.Core.Path.{_≡_, refl, sym, _∙_, ap}
 use mathlib.Core.Bool.{Bool, true, false, not, cond, _&&_, true≢false}
-use mathlib.Core.Logic.{_⊎_, inl, inr}
+use mathlib.Core.Logic.{inl, inr}
 use mathlib.Core.List.{List, [], _∷_, _++_, map, map-append, Memᴰ·map, List·Memᴰ as In, List·Memᴰ·head as here}
 use mathlib.Core.List.{List·Memᴰ·tail as there}
 use native.Mathlib.Omega.{arith}
@@ -13,20 +13,20 @@ use borrow.Author.Tests.{eqb-true, eqb-false, eq-eqb, ne-eqb, lt-ltb, le-ltb, no
 use lib.Dec.{eqb, ltb}
 use lib.ListN.{length, getD, drop, length-map}
 use lib.Seq.{getD-drop}
-use Rattle.basics.specs.Tests.{test, eq?, and-true, zero-one}
-use Rattle.basics.specs.Sets.{keep, keep-in, keep-test, in-keep, any, any-true, true-any, any-false, Asc, none, some}
+use Rattle.basics.specs.Tests.{test, eq?, and-true}
+use Rattle.basics.specs.Sets.{keep, keep-in, keep-test, in-keep, any, any-true, true-any, Asc, none, some}
 use Rattle.basics.specs.Lists.{pigeonhole, upto, in-upto, length-split}
 use Rattle.cuckoo.specs.Placement.{Place, slot, place}
 use Rattle.hashing.specs.Hash.{Family, first-part}
 use Rattle.layout.specs.Entries.{Entry, keys-of, in-key, key-in, length-keys, no-entry}
 use Rattle.layout.specs.Layout.{Params, ValidSet, family, params-of, family-of, slots-of, places-of, words-length}
 use Rattle.layout.specs.Layout.{key-at, tier-at, stash-at, place-at, place-width, place-entries, stash-entries}
-use Rattle.layout.specs.Layout.{slot-entry, Spot, slot-spots, place-spots, spots, spot-key}
+use Rattle.layout.specs.Layout.{Spot, slot-spots, place-spots, spots, spot-key}
 use Rattle.layout.specs.Shape.{shape}
 use Rattle.layout.specs.Standing.{not-blank}
 use Rattle.outcome.specs.Held.{Holds, held-params, held-shaped}
 use Rattle.survivors.specs.Salvage.{counts, counting, standing, standing-keys, survivors, occupied, lost-in}
-use Rattle.survivors.specs.Spots.{slot-spot, place-spot, SpotOf, at-slot, at-place, spot-of, slot-in-spots}
+use Rattle.survivors.specs.Spots.{slot-spot, place-spot, at-slot, at-place, spot-of, slot-in-spots}
 use Rattle.survivors.specs.Spots.{place-in-spots, one-spot}
 use Rattle.survivors.specs.Surviving.{counts-sound, standing-in, standing-part, stands-in, in-stands, stands-key}
 use Rattle.survivors.specs.Surviving.{survivor-entry, found-spot, found-counts, entry-survives, survivors-valid}

@@ -1,13 +1,12 @@
 -- Who survives: an entry survives exactly if it stands in a spot that counts, before which no spot counts with its
 -- first part (`survives-iff`). The survivors are a set (`survivors-valid`), and "The survivors always fit"
 -- (`survivors-fit`): each was found in a place of its own, which is a placement. Assumes nothing.
-use Prim.Native.Nat.{ℕ, _+_, _≤_, _<_}
+use Prim.Native.Nat.{ℕ, _+_, _≤_}
 use mathlib.Core.Path.{_≡_, refl, sym, _∙_, ap}
-use mathlib.Core.Bool.{Bool, true, false, not, cond, _&&_, _||_, true≢false}
+use mathlib.Core.Bool.{Bool, true, false, not, _&&_, true≢false}
 use mathlib.Core.Logic.{_⊎_, inl, inr, _↔_}
 use mathlib.Core.List.{List, [], _∷_, _++_, map, List·Memᴰ as In, List·Memᴰ·head as here, List·Memᴰ·tail as there}
 use mathlib.Core.List.{Memᴰ·append-right, Memᴰ·map}
-use native.Mathlib.Omega.{arith}
 use borrow.Author.Tests.{eqb-true, eq-eqb, ne-eqb, leb-true, not-true}
 use lib.Dec.{eqb, leb}
 use Rattle.basics.specs.Tests.{test, eq?, and-true, or-cases}
@@ -17,7 +16,7 @@ use Rattle.ordered.specs.Distinct.{distinct-sorted-asc, distinct-sorted-in, in-
 use Rattle.cuckoo.specs.Placement.{slot, MaySit, table-0, table-1, aside, Placement}
 use Rattle.hashing.specs.Hash.{Family, first-part, blank}
 use Rattle.hashing.specs.Slots.{slot-0, slot-1}
-use Rattle.layout.specs.Entries.{Entry, max-tier, keys-of, key-in, tiered, keys-tiered, tiered-in, in-tiered}
+use Rattle.layout.specs.Entries.{Entry, max-tier, keys-of, key-in, keys-tiered, tiered-in, in-tiered}
 use Rattle.layout.specs.Layout.{ValidKeys, ValidSet, params-of, family-of, places-of, fits, Spot, spots, spot-key}
 use Rattle.layout.specs.Fitting.{fits-placement}
 use Rattle.survivors.specs.Salvage.{own-place, counts, counting, standing, standing-keys, survivors}

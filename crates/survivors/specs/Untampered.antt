@@ -3,29 +3,28 @@
 -- (`member-survives`). Assumes nothing.
 use Prim.Native.Nat.{ℕ, zero, suc, _+_, _<_}
 use mathlib.Core.Path.{_≡_, refl, sym, _∙_, ap}
-use mathlib.Core.Bool.{Bool, true, false, not, _&&_, _||_, or-true, true≢false}
+use mathlib.Core.Bool.{true, not, _&&_, _||_, or-true}
 use mathlib.Core.Logic.{_⊎_, inl, inr}
 use mathlib.Core.List.{List, [], _∷_, List·Memᴰ as In, List·Memᴰ·head as here, List·Memᴰ·tail as there}
 use native.Mathlib.Omega.{arith}
-use borrow.Author.Tests.{eq-eqb, le-leb, not-true}
-use lib.Dec.{eqb, leb}
+use borrow.Author.Tests.{eq-eqb, le-leb}
+use lib.Dec.{eqb}
 use lib.ListN.{length, getD}
-use Rattle.basics.specs.Tests.{test, eq?, and-true, and-false}
+use Rattle.basics.specs.Tests.{eq?, and-false}
 use Rattle.basics.specs.Sets.{keep, keep-in, keep-test, in-keep, Asc, asc-ext}
 use Rattle.basics.specs.Lists.{keep-none}
 use Rattle.cuckoo.specs.Graph.{seated, slot-key}
 use Rattle.cuckoo.specs.Placement.{slot}
 use Rattle.cuckoo.specs.Seating.{from-a, from-b, occupant-from}
-use Rattle.hashing.specs.Hash.{Family, first-part, blank}
+use Rattle.hashing.specs.Hash.{Family, first-part}
 use Rattle.hashing.specs.Slots.{slot-0, slot-1, slot-0-lt, slot-1-lt}
-use Rattle.layout.specs.Entries.{Entry, max-tier, keys-of, tier-of, tiered, in-key, key-in, in-tiered, tiered-in}
+use Rattle.layout.specs.Entries.{Entry, keys-of, tier-of, in-key, key-in, in-tiered, tiered-in}
 use Rattle.layout.specs.Entries.{tiered-agree, tiered-self, no-entry}
-use Rattle.layout.specs.Layout.{Params, ValidSet, family, family-of, slots-of, places-of, fits, image, image-by}
+use Rattle.layout.specs.Layout.{Params, ValidSet, family, family-of, fits, image, image-by}
 use Rattle.layout.specs.Layout.{slot-entry, stash-entries, Spot, spots, spot-key, looked-at}
 use Rattle.layout.specs.Image.{image-slots, image-key}
 use Rattle.layout.specs.Standing.{at-slot, stash-key-in, not-blank, image-key-in, slot-tier, place-tier}
 use Rattle.layout.specs.Standing.{image-in-looked}
-use Rattle.layout.specs.Standing.{places-count}
 use Rattle.survivors.specs.Salvage.{own-place, counts, counting, occupied, standing, survivors, lost-in}
 use Rattle.survivors.specs.Spots.{slot-spot, place-spot, SpotOf, spot-of, slot-in-spots, place-in-spots}
 use Rattle.survivors.specs.Spots.{stash-length}

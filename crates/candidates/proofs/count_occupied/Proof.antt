@@ -1,6 +1,5 @@
 -- `candidates::count_occupied` meets its contract: slots and places together.
-use Prim.Native.Nat.{_*_}
-use mathlib.Core.Path.{_≡_, refl, sym, _∙_, ap}
+use mathlib.Core.Path.{_∙_, ap}
 use native.Mathlib.Omega.{arith}
 use Rattle.layout.specs.Layout.{stash-at}
 use Rattle.candidates.specs.Candidates.{all-occupied}

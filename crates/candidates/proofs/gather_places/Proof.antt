@@ -1,5 +1,5 @@
 -- `candidates::gather_places` meets its contract: as `gather_slots`, over the places that are left.
-use Prim.Native.Nat.{_≤_, _-_, _+_, _*_}
+use Prim.Native.Nat.{_≤_, _-_, _+_}
 use mathlib.Core.Path.{_≡_, refl, sym, _∙_, ap}
 use native.Mathlib.Omega.{arith}
 use lib.ListN.{length, take, length-set, length-append}

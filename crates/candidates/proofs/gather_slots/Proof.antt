@@ -1,6 +1,6 @@
 -- `candidates::gather_slots` meets its contract: what is gathered and what is still to be gathered are together what is
 -- to be gathered from the start.
-use Prim.Native.Nat.{_≤_, _-_, _+_, _*_}
+use Prim.Native.Nat.{_≤_, _-_, _+_}
 use mathlib.Core.Path.{_≡_, refl, sym, _∙_, ap}
 use native.Mathlib.Omega.{arith}
 use lib.ListN.{length, take, length-set, length-append}

@@ -1,6 +1,6 @@
 -- `candidates::occupied_from` meets its contract: what is counted, and what is still to be counted.
 use Prim.Native.Nat.{_≤_, _+_, _*_}
-use mathlib.Core.Path.{_≡_, refl, sym, _∙_, ap}
+use mathlib.Core.Path.{_≡_, sym, _∙_}
 use native.Mathlib.Omega.{arith}
 use lib.ListN.{length}
 use Rattle.records.specs.Columns.{picked, left-next}

@@ -1,7 +1,6 @@
 -- `salvage::issue_at` meets its contract: its slot in table 0, else that in table 1, else the first place.
 use mathlib.Core.Path.{_≡_, sym, _∙_, ap}
 use mathlib.Core.List.{List, _∷_}
-use native.Mathlib.Omega.{arith}
 use Rattle.layout.specs.Entries.{Entry}
 use Rattle.layout.specs.Layout.{stash-at, slot-entry, stash-entries}
 use Rattle.layout.specs.Shape.{same-header}

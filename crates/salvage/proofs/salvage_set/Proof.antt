@@ -1,5 +1,5 @@
 -- `salvage::salvage_set` meets its contract: 15 by how many spots are occupied and how many count, or the survivors.
-use mathlib.Core.Path.{_≡_, refl, sym, _∙_, ap}
+use mathlib.Core.Path.{refl, sym, _∙_, ap}
 use native.Mathlib.Omega.{arith}
 use Rattle.layout.specs.Shape.{shape, same-header}
 use Rattle.survivors.specs.declared.Salvaged.the-variants.{Lost}
