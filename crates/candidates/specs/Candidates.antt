@@ -1,6 +1,6 @@
 -- The keys that count, gathered slot by slot and then place by place, are those of the spots that count; and how many
 -- spots are occupied, by the words at which a key can stand. Assumes nothing.
-use Prim.Native.Nat.{ℕ, zero, suc, _+_, _*_, _-_, _≤_, _<_}
+use Prim.Native.Nat.{ℕ, suc, _+_, _*_, _-_, _≤_, _<_}
 use mathlib.Core.Path.{_≡_, refl, sym, _∙_, ap}
 use mathlib.Core.Bool.{Bool, true, false, not, cond}
 use mathlib.Core.Logic.{inl, inr}
@@ -21,7 +21,7 @@ use Rattle.hashing.specs.Slots.{slot-0, slot-1, slot-0-lt, slot-1-le}
 use Rattle.layout.specs.Entries.{Entry, keys-of}
 use Rattle.layout.specs.Layout.{slots-of, places-of, station-of, header-length, slot-width, place-width, stash-at}
 use Rattle.layout.specs.Layout.{place-entries, stash-entries, Spot, slot-spots, place-spots, spots, spot-key}
-use Rattle.layout.specs.Standing.{key-words-parts}
+use Rattle.layout.specs.Standing.{key-words-parts, stash-lent}
 use Rattle.records.specs.Columns.{picked}
 use Rattle.collect.specs.Collect.{gathered-word, picked-next, picked-slots, picked-places}
 use Rattle.survivors.specs.Salvage.{own-place, counts, counting, occupied}
@@ -165,21 +165,6 @@ slots-few F ws n =
       slot-spots-length ws 0 n,
     )
 
--- the places as they are lent
-places-part : (n : ℕ) (ws : List ℕ) → place-entries n (take (place-width * n) ws) ≡ place-entries n ws
-unfolding place-entries
-places-part zero ws = refl
-places-part (suc n) [] = let e : place-width * suc n ≡ suc (suc (place-width * n)) = omega arith in rw e
-places-part (suc n) (a ∷ []) = let e : place-width * suc n ≡ suc (suc (place-width * n)) = omega arith in rw e
-places-part (suc n) (a ∷ b ∷ ws) =
-    let e : place-width * suc n ≡ suc (suc (place-width * n)) = omega arith in rw (e, places-part n ws)
-
-pub places-lent : (ws : List ℕ) {start count : ℕ} → start ≡ stash-at (slots-of ws) → count ≡ places-of ws
-    → place-entries count (midOf start (start + place-width * count - start) ws) ≡ stash-entries ws
-places-lent ws {start} {count} a n =
-    let l : start + place-width * count - start ≡ place-width * count = omega arith in
-    rw (l, places-part count (drop start ws), a, n)
-
 -- Gathered behind a word 0, in two goes: first from the slots, then from the places as they are lent.
 pub gathered-counting : (tabulation ws scratch mid zs : List ℕ) {r station start count n end : ℕ}
     → r ≡ slots-of ws → station ≡ station-of ws → start ≡ stash-at r → count ≡ places-of ws → 0 < length scratch
@@ -193,7 +178,7 @@ gathered-counting tabulation ws scratch mid zs {r} {station} {start} {count} {n}
     let A = slots-counting (tables tabulation (slots-of ws) (station-of ws)) ws 0 (slots-of ws + slots-of ws) in
     let B = places-counting (stash-entries ws) in
     let f′ = rw (er, ed) at f in
-    let g′ = rw (places-lent ws {start = start} {count = count} (es ∙ ap stash-at er) ec, f′ .0) at g in
+    let g′ = rw (stash-lent ws {start = start} {count = count} (es ∙ ap stash-at er) ec, f′ .0) at g in
     let h : end - 1 + 1 ≡ end = omega (arith, f′ .1, g′ .1) in (
       rw h (g′ .0 ∙ rw (take-suc-set scratch 0 0 l) (ap (λ (xs : List ℕ). 0 ∷ xs) (all-counting tabulation ws))),
       omega (

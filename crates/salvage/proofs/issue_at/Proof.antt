@@ -4,8 +4,8 @@ use mathlib.Core.List.{List, _∷_}
 use Rattle.layout.specs.Entries.{Entry}
 use Rattle.layout.specs.Layout.{stash-at, slot-entry, stash-entries}
 use Rattle.layout.specs.Shape.{same-header}
+use Rattle.layout.specs.Standing.{stash-lent}
 use Rattle.survivors.specs.Looked.{sound-issue}
-use Rattle.candidates.specs.Candidates.{places-lent}
 use Rattle.salvage.specs.Issue.{slot-here, slot-further}
 use borrow.Author.Needs.{needs}
 use Rattle.salvage.proofs.issue_at.Statement.{statement}
@@ -107,7 +107,7 @@ returns-3 c =
     let f = l .before in
     let e = f .before .before .before in
     let a = start e .args in
-    let p = places-lent (a .words .now) (c .before .before .before .stash-start .ensures ∙ ap stash-at (h .slots))
+    let p = stash-lent (a .words .now) (c .before .before .before .stash-start .ensures ∙ ap stash-at (h .slots))
     (c .before .before .wide .ensures ∙ h .places) in
     c .issue-in-places .ensures ∙ ap (λ (L : List Entry). sound-issue L (a .key)) p
     ∙ sym (missed e ∙ slot-further (a .words .now) (a .second) (a .key) (stash-entries (a .words .now))
