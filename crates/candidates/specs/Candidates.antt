@@ -1,28 +1,28 @@
 -- The keys that count, gathered slot by slot and then place by place, are those of the spots that count; and how many
 -- spots are occupied, by the words at which a key can stand. Assumes nothing.
-use Prim.Native.Nat.{ℕ, zero, suc, _+_, _*_, _-_, _≤_, _<_}
+use Prim.Native.Nat.{ℕ, suc, _+_, _*_, _-_, _≤_, _<_}
 use mathlib.Core.Path.{_≡_, refl, sym, _∙_, ap}
-use mathlib.Core.Bool.{Bool, true, false, not, cond, _&&_, _||_, or-true}
+use mathlib.Core.Bool.{Bool, true, false, not, cond}
 use mathlib.Core.Logic.{inl, inr}
 use mathlib.Core.List.{List, [], _∷_, _++_, map, map-append, append-nil}
 use native.Mathlib.Numerals.{add-one}
 use native.Mathlib.Omega.{arith}
-use borrow.Author.Tests.{eqb-true, eq-eqb, ne-eqb}
+use borrow.Author.Tests.{ne-eqb}
 use borrow.Rule.Slice.PartMut.{midOf}
 use lib.Dec.{eqb}
 use lib.ListN.{length, getD, set, take, drop, length-append, length-map}
 use lib.Seq.{drop-drop, getD-drop, take-suc-set}
-use Rattle.basics.specs.Tests.{test, bool-ext}
+use Rattle.basics.specs.Tests.{test}
 use Rattle.basics.specs.Sets.{keep, length-keep}
 use Rattle.basics.specs.Lists.{keep-append}
 use Rattle.cuckoo.specs.Placement.{slot}
 use Rattle.hashing.specs.Hash.{Family, tables}
 use Rattle.hashing.specs.Slots.{slot-0, slot-1, slot-0-lt, slot-1-le}
-use Rattle.layout.specs.Entries.{Entry, keys-of, length-keys}
+use Rattle.layout.specs.Entries.{Entry, keys-of}
 use Rattle.layout.specs.Layout.{slots-of, places-of, station-of, header-length, slot-width, place-width, stash-at}
-use Rattle.layout.specs.Layout.{place-entries, stash-entries, Spot, slot-spots, place-spots, spots, spot-key, key-words}
-use Rattle.layout.specs.Standing.{key-words-parts}
-use Rattle.records.specs.Columns.{picked, picked-length}
+use Rattle.layout.specs.Layout.{place-entries, stash-entries, Spot, slot-spots, place-spots, spots, spot-key}
+use Rattle.layout.specs.Standing.{key-words-parts, stash-lent}
+use Rattle.records.specs.Columns.{picked}
 use Rattle.collect.specs.Collect.{gathered-word, picked-next, picked-slots, picked-places}
 use Rattle.survivors.specs.Salvage.{own-place, counts, counting, occupied}
 use Rattle.survivors.specs.Spots.{slot-spot, slot-spots-length}
@@ -75,7 +75,8 @@ module _ (F : Family) (ws scratch : List ℕ) (end v m : ℕ) where
   slots-sift l room k e =
       let q : m - v ≡ suc (m - suc v) = omega arith in
       let more = keep (counts F) (slot-spots ws (suc v) (m - suc v)) in
-      rw (q, k, e, add-one v) (ap (λ (xs : List ℕ). take end scratch ++ xs) (map-cond (counts F (slot-spot ws v)) (slot-spot ws v) more)
+      rw (q, k, e, add-one v)
+      (ap (λ (xs : List ℕ). take end scratch ++ xs) (map-cond (counts F (slot-spot ws v)) (slot-spot ws v) more)
       ∙ gathered-word (counts F (slot-spot ws v)) scratch end (spot-key (slot-spot ws v)) (map spot-key more) room)
 
   pub slots-end : v ≡ m → slots-sifted F ws scratch end v m ≡ take end scratch
@@ -94,7 +95,15 @@ places-next ps count i l =
     let e : count - i ≡ suc (count - (i + 1)) = omega arith in
     let f : place-width * (i + 1) ≡ place-width * i + place-width = omega arith in
     let g : place-width * i + 0 ≡ place-width * i = omega arith in
-    rw (e, f, ← drop-drop place-width (place-width * i) ps, getD-drop (place-width * i) ps 0 0, getD-drop (place-width * i) ps 1 0, g)
+    rw (
+      e,
+      f,
+      ← drop-drop place-width (place-width * i) ps,
+      getD-drop (place-width * i) ps 0 0,
+      getD-drop
+          (place-width * i) ps 1 0,
+      g,
+    )
 
 pub places-start : (ps : List ℕ) (count : ℕ) → places-left ps count 0 ≡ place-entries count ps
 places-start ps count = let e : count - 0 ≡ count = omega arith in rw e
@@ -124,7 +133,8 @@ module _ (ps scratch : List ℕ) (end count i : ℕ) where
   places-end q = rw (places-done ps count i q) (append-nil (take end scratch))
 
 -- both together are the keys of the spots that count
-places-spots : (F : Family) (i : ℕ) (L : List Entry) → map spot-key (keep (counts F) (place-spots i L)) ≡ places-counting L
+places-spots : (F : Family) (i : ℕ) (L : List Entry) → map spot-key (keep (counts F) (place-spots i L))
+    ≡ places-counting L
 unfolding places-counting
 places-spots F i [] = refl
 places-spots F i (e ∷ L) = elim (test (sound e)) [
@@ -147,36 +157,28 @@ module _ (tabulation ws : List ℕ) where
 pub slots-few : (F : Family) (ws : List ℕ) (n : ℕ) → length (slots-counting F ws 0 n) ≤ n
 unfolding slots-counting
 slots-few F ws n =
-    omega (arith, length-map (keep (counts F) (slot-spots ws 0 n)) spot-key, length-keep (counts F) (slot-spots ws 0 n), slot-spots-length ws 0 n)
-
--- the places as they are lent
-places-part : (n : ℕ) (ws : List ℕ) → place-entries n (take (place-width * n) ws) ≡ place-entries n ws
-unfolding place-entries
-places-part zero ws = refl
-places-part (suc n) [] = let e : place-width * suc n ≡ suc (suc (place-width * n)) = omega arith in rw e
-places-part (suc n) (a ∷ []) = let e : place-width * suc n ≡ suc (suc (place-width * n)) = omega arith in rw e
-places-part (suc n) (a ∷ b ∷ ws) =
-    let e : place-width * suc n ≡ suc (suc (place-width * n)) = omega arith in rw (e, places-part n ws)
-
-pub places-lent : (ws : List ℕ) {start count : ℕ} → start ≡ stash-at (slots-of ws) → count ≡ places-of ws
-    → place-entries count (midOf start (start + place-width * count - start) ws) ≡ stash-entries ws
-places-lent ws {start} {count} a n =
-    let l : start + place-width * count - start ≡ place-width * count = omega arith in
-    rw (l, places-part count (drop start ws), a, n)
+    omega (
+      arith,
+      length-map (keep (counts F) (slot-spots ws 0 n)) spot-key,
+      length-keep (counts F)
+          (slot-spots ws 0 n),
+      slot-spots-length ws 0 n,
+    )
 
 -- Gathered behind a word 0, in two goes: first from the slots, then from the places as they are lent.
 pub gathered-counting : (tabulation ws scratch mid zs : List ℕ) {r station start count n end : ℕ}
     → r ≡ slots-of ws → station ≡ station-of ws → start ≡ stash-at r → count ≡ places-of ws → 0 < length scratch
     → (take n mid ≡ take 1 (set scratch 0 0) ++ slots-counting (tables tabulation r station) ws 0 (r + r))
     × (n ≡ 1 + length (slots-counting (tables tabulation r station) ws 0 (r + r)))
-    → (take end zs ≡ take n mid ++ places-counting (place-entries count (midOf start (start + place-width * count - start) ws)))
+    → (take end zs ≡ take n mid ++ places-counting
+    (place-entries count (midOf start (start + place-width * count - start) ws)))
     × (end ≡ n + length (places-counting (place-entries count (midOf start (start + place-width * count - start) ws))))
     → (take (end - 1 + 1) zs ≡ 0 ∷ map spot-key (counting tabulation ws)) × (end - 1 ≡ length (counting tabulation ws))
 gathered-counting tabulation ws scratch mid zs {r} {station} {start} {count} {n} {end} er ed es ec l f g =
     let A = slots-counting (tables tabulation (slots-of ws) (station-of ws)) ws 0 (slots-of ws + slots-of ws) in
     let B = places-counting (stash-entries ws) in
     let f′ = rw (er, ed) at f in
-    let g′ = rw (places-lent ws {start = start} {count = count} (es ∙ ap stash-at er) ec, f′ .0) at g in
+    let g′ = rw (stash-lent ws {start = start} {count = count} (es ∙ ap stash-at er) ec, f′ .0) at g in
     let h : end - 1 + 1 ≡ end = omega (arith, f′ .1, g′ .1) in (
       rw h (g′ .0 ∙ rw (take-suc-set scratch 0 0 l) (ap (λ (xs : List ℕ). 0 ∷ xs) (all-counting tabulation ws))),
       omega (

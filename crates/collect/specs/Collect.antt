@@ -36,14 +36,16 @@ non-blank-few ws from step count =
     let xs = picked ws from step count in
     let l = length-keep (λ w. not (blank w)) xs in omega (arith, picked-length ws from step count)
 
-pub picked-slots : (ws : List ℕ) (v count : ℕ) → picked ws (key-at v) slot-width count ≡ map spot-key (slot-spots ws v count)
+pub picked-slots : (ws : List ℕ) (v count : ℕ) → picked ws (key-at v) slot-width count
+    ≡ map spot-key (slot-spots ws v count)
 unfolding picked slot-spots
 picked-slots ws v zero = refl
 picked-slots ws v (suc count) =
     let e : key-at v + slot-width ≡ key-at (suc v) = omega arith in
     rw (e, picked-slots ws (suc v) count)
 
-pub picked-places : (ws : List ℕ) (from count : ℕ) → picked ws from place-width count ≡ keys-of (place-entries count (drop from ws))
+pub picked-places : (ws : List ℕ) (from count : ℕ) → picked ws from place-width count
+    ≡ keys-of (place-entries count (drop from ws))
 unfolding picked place-entries
 picked-places ws from zero = refl
 picked-places ws from (suc count) =
@@ -141,12 +143,19 @@ module _ (zs scratch : List ℕ) (n : ℕ) (room : n < length scratch) (gathered
 
   pub collected :
       (ys : List ℕ) (k : ℕ) → length ys ≡ length lent → k ≡ length (distinct (sorted (take n lent))) → take k ys ≡ distinct (sorted (take n lent))
-      → (take (k + 1) (putMid 1 (length scratch - 1) scratch ys) ≡ 0 ∷ distinct (sorted zs)) × (k ≡ length (distinct (sorted zs)))
+      → (take (k + 1) (putMid 1 (length scratch - 1) scratch ys) ≡ 0 ∷ distinct (sorted zs))
+      × (k ≡ length (distinct (sorted zs)))
   collected ys k l c f =
       let d = distinct-length (sorted (take n lent)) in
-      let g : distinct (sorted (take n lent)) ≡ distinct (sorted zs) = ap (λ (l : List ℕ). distinct (sorted l)) lent-keys in
+      let g : distinct (sorted (take n lent))
+      ≡ distinct (sorted zs) = ap (λ (l : List ℕ). distinct (sorted l)) lent-keys in
       let few : k ≤ length ys = omega (arith, sorted-length (take n lent), length-take n lent) in (
-        rw (front-split n scratch zs gathered .0, add-one k, take-append-le k ys (drop (length scratch - 1) (drop 1 scratch)) few)
+        rw (
+          front-split n scratch zs gathered .0,
+          add-one k,
+          take-append-le k ys
+              (drop (length scratch - 1) (drop 1 scratch)) few,
+        )
             (ap (λ (l : List ℕ). 0 ∷ l) (f ∙ g)),
         c ∙ ap length g,
       )

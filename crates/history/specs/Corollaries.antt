@@ -174,7 +174,8 @@ module _ {P : Params} {L₀ : List Entry} {ws : List ℕ} {cs : List Call} (q : 
 
 -- What a salvage of the words answers at the end of a sequence, with a target of their length and scratch that is long
 -- enough: none is lost, and the target gets the very words.
-module _ {P : Params} {L₀ : List Entry} {ws : List ℕ} {cs : List Call} (q : Sequence P L₀ ws cs) (target scratch : List ℕ)
+module _ {P : Params} {L₀ : List Entry} {ws : List ℕ} {cs : List Call} (q : Sequence P L₀ ws cs)
+    (target scratch : List ℕ)
     (size : length target ≡ length (words-left P ws cs))
     (room : scratch-length (P .slots) (P .places) ≤ length scratch) where
   pub nothing-lost :
@@ -186,7 +187,6 @@ module _ {P : Params} {L₀ : List Entry} {ws : List ℕ} {cs : List Call} (q : 
         untampered-values h (q .full-length) target scratch size room,
         untampered-target h (q .full-length) target scratch size room,
       )
-
 
 -- A sequence may start where another has ended: with the words that it left, and with its set.
 pub goes-on : {P : Params} {L₀ : List Entry} {ws : List ℕ} {cs ds : List Call} → Sequence P L₀ ws cs

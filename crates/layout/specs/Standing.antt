@@ -7,7 +7,8 @@ use mathlib.Core.Logic.{inl, inr, _↔_}
 use mathlib.Core.List.{List, [], _∷_, _++_, map, map-append, List·Memᴰ as In, List·Memᴰ·head as here, List·Memᴰ·tail as there, Memᴰ·append-left, Memᴰ·append-right, List·Memᴰ·append-cases}
 use native.Mathlib.Omega.{arith}
 use borrow.Author.Tests.{ne-eqb, not-true}
-use lib.ListN.{length, getD, drop, replicate}
+use borrow.Rule.Slice.PartMut.{midOf}
+use lib.ListN.{length, getD, take, drop, replicate}
 use lib.Seq.{getD-drop}
 use Rattle.basics.specs.Tests.{eq?}
 use Rattle.basics.specs.Sets.{keep, Asc, asc-ext, keep-in, keep-test, in-keep}
@@ -112,6 +113,21 @@ module _ (ws : List ℕ) where
   key-word-in (in-stash j l e) =
       let i = getD-in (keys-of (stash-entries ws)) j (omega (arith, places-count)) in
       rw (key-words-parts ws) (Memᴰ·append-right (map spot-key (slot-spots ws 0 (slots-of ws + slots-of ws))) (rw (places-at j l, e) at i))
+
+-- the places of the stash, as they are lent
+places-take : (n : ℕ) (us : List ℕ) → place-entries n (take (place-width * n) us) ≡ place-entries n us
+unfolding place-entries
+places-take zero us = refl
+places-take (suc n) [] = let e : place-width * suc n ≡ suc (suc (place-width * n)) = omega arith in rw e
+places-take (suc n) (x ∷ []) = let e : place-width * suc n ≡ suc (suc (place-width * n)) = omega arith in rw e
+places-take (suc n) (x ∷ y ∷ us) =
+    let e : place-width * suc n ≡ suc (suc (place-width * n)) = omega arith in rw (e, places-take n us)
+
+pub stash-lent : (ws : List ℕ) {start count : ℕ} → start ≡ stash-at (slots-of ws) → count ≡ places-of ws
+    → place-entries count (midOf start (start + place-width * count - start) ws) ≡ stash-entries ws
+stash-lent ws {start} {count} a n =
+    let l : start + place-width * count - start ≡ place-width * count = omega arith in
+    rw (l, places-take count (drop start ws), a, n)
 
 -- the set of the keys that stand in given words
 

@@ -1,5 +1,5 @@
 -- What is looked at for a key, one after the other, and what is found there. Assumes nothing.
-use Prim.Native.Nat.{ℕ, zero, suc, _+_, _*_, _-_}
+use Prim.Native.Nat.{ℕ, _+_, _*_, _-_}
 use mathlib.Core.Path.{_≡_, refl, sym, _∙_, ap}
 use mathlib.Core.Bool.{Bool, true, false, cond, _||_, true≢false}
 use mathlib.Core.Logic.{_⊎_, inl, inr}
@@ -7,24 +7,17 @@ use mathlib.Core.List.{List, [], _∷_}
 use native.Mathlib.Omega.{arith}
 use borrow.Rule.Slice.PartMut.{midOf}
 use lib.Dec.{eqb}
-use lib.ListN.{length, getD, take, drop}
+use lib.ListN.{length, getD}
 use Rattle.basics.specs.Tests.{test}
 use Rattle.basics.specs.Sets.{member, in-member}
 use Rattle.layout.specs.Entries.{Entry, keys-of, tier-of, tier-absent}
 use Rattle.hashing.specs.Hash.{Family}
 use Rattle.hashing.specs.Slots.{slot-0, slot-1}
 use Rattle.layout.specs.Layout.{family-of, place-width, stash-at, slots-of, places-of, place-entries, slot-entry, stash-entries, looked-at}
+use Rattle.layout.specs.Standing.{stash-lent}
 use Rattle.layout.specs.Answers.{values, looked-up}
 use Rattle.layout.specs.declared.Found.{Found}
 use Rattle.layout.specs.declared.Found.the-variants.{Listed, Absent, Refused}
-
--- places are read from their own words alone
-places-take : (n : ℕ) (us : List ℕ) → place-entries n (take (place-width * n) us) ≡ place-entries n us
-unfolding place-entries
-places-take zero us = refl
-places-take (suc n) [] = let e : place-width * suc n ≡ suc (suc (place-width * n)) = omega arith in rw e
-places-take (suc n) (x ∷ []) = let e : place-width * suc n ≡ suc (suc (place-width * n)) = omega arith in rw e
-places-take (suc n) (x ∷ y ∷ us) = let e : place-width * suc n ≡ suc (suc (place-width * n)) = omega arith in rw (e, places-take n us)
 
 -- what is looked up always says something
 never-silent : (L : List Entry) (key : ℕ) → [] ≡ looked-up L key → ⊥
@@ -55,16 +48,10 @@ module _ (tabulation ws : List ℕ) (key : ℕ) where
     found-neither f = rw (e, f)
 
 -- and the stash, lent as a part of the words
-pub stash-part : (ws : List ℕ) {start count : ℕ} → start ≡ stash-at (slots-of ws) → count ≡ places-of ws
-    → place-entries count (midOf start (start + place-width * count - start) ws) ≡ stash-entries ws
-stash-part ws {start} {count} a n =
-    let l : start + place-width * count - start ≡ place-width * count = omega arith in
-    rw (l, places-take count (drop start ws), a, n)
-
 pub found-stash : (ws : List ℕ) (key : ℕ) {start count : ℕ} {vs : List ℕ} → start ≡ stash-at (slots-of ws) → count ≡ places-of ws
     → vs ≡ looked-up (place-entries count (midOf start (start + place-width * count - start) ws)) key
     → vs ≡ looked-up (stash-entries ws) key
-found-stash ws key a n q = q ∙ (rw (stash-part ws a n))
+found-stash ws key a n q = q ∙ (rw (stash-lent ws a n))
 
 -- Two entries before others: what is found in them counts, and where nothing is, what is found behind them.
 module _ (c d : Entry) (L : List Entry) (key : ℕ) where

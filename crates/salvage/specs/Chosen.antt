@@ -19,14 +19,14 @@ use Rattle.ordered.specs.Sorting.{sorted-length}
 use Rattle.ordered.specs.Distinct.{distinct-length}
 use Rattle.hashing.specs.Hash.{tables, Hashing}
 use Rattle.hashing.specs.Slots.{slot-0, slot-1}
-use Rattle.layout.specs.Entries.{Entry, max-tier}
+use Rattle.layout.specs.Entries.{Entry}
 use Rattle.layout.specs.Layout.{params-of, family-of, slots-of, places-of, station-of, slot-entry, stash-entries}
 use Rattle.layout.specs.Layout.{Spot, spot-key, looked-at}
 use Rattle.layout.specs.Shape.{Shaped, Sized, shape, by-own-family}
 use Rattle.layout.specs.Ready.{Ready}
 use Rattle.edges.specs.Edge.{packed, Packable}
 use Rattle.build.specs.Scratch.{edges-at, used}
-use Rattle.scratch_set.specs.Edges.{edge-with, edge-of, Lined, slots-in, packable}
+use Rattle.scratch_set.specs.Edges.{edge-of, Lined, slots-in, packable}
 use Rattle.survivors.specs.Salvage.{counting, standing, standing-keys}
 use Rattle.survivors.specs.Spots.{counting-few}
 use Rattle.survivors.specs.Looked.{sound-issue, issue-small, standing-looked}
@@ -63,7 +63,8 @@ pub record ChosenTo (p : ℕ → Bool) (f : ℕ → ℕ) (K before after : List 
 module _ (p : ℕ → Bool) (f : ℕ → ℕ) (K before : List ℕ) (to : ℕ) where
   pub chosen-start : take (length K + 1) before ≡ 0 ∷ K → ChosenTo p f K before before to 0 0
   chosen-start e =
-      let at : (k : ℕ) → k < length K + 1 → getD before k 0 ≡ getD (0 ∷ K) k 0 = λ k l. sym (getD-take (length K + 1) before k 0 l) ∙ ap (λ (X : List ℕ). getD X k 0) e in
+      let at : (k : ℕ) → k < length K + 1 → getD before k 0
+      ≡ getD (0 ∷ K) k 0 = λ k l. sym (getD-take (length K + 1) before k 0 l) ∙ ap (λ (X : List ℕ). getD X k 0) e in
       record {
         same-length = refl;
         front = at 0 (omega arith);
@@ -95,7 +96,8 @@ module _ (p : ℕ → Bool) (f : ℕ → ℕ) (K before : List ℕ) (to : ℕ) w
         }
 
     -- the key at i is kept: it goes behind the m kept ones, and its edge behind theirs
-    pub chosen-take : {x y : ℕ} → p (getD K i 0) ≡ true → y ≡ getD K i 0 → x ≡ f (getD K i 0) → length K + 1 ≤ to → to + length K ≤ length before
+    pub chosen-take : {x y : ℕ} → p (getD K i 0) ≡ true → y ≡ getD K i 0 → x ≡ f (getD K i 0) → length K + 1 ≤ to
+        → to + length K ≤ length before
         → ChosenTo p f K before (set (set after (m + 1) y) (to + m) x) to (i + 1) (m + 1)
     chosen-take {x} {y} t ey ex a b =
         let c = getD K i 0 in
@@ -107,8 +109,10 @@ module _ (p : ℕ → Bool) (f : ℕ → ℕ) (K before : List ℕ) (to : ℕ) w
         let old : (j : ℕ) → j < m → getD (keep p (take (i + 1) K)) j 0 ≡ getD A j 0 = λ j q.
         ap (λ (X : List ℕ). getD X j 0) e ∙ List·getD-append A (c ∷ []) 0 j (omega arith) in
         let new : getD (keep p (take (i + 1) K)) m 0 ≡ c =
-        let q : m ≡ length A + 0 = omega arith in ap (λ (X : List ℕ). getD X m 0) e ∙ ap (λ (k : ℕ). getD (A ++ (c ∷ [])) k 0) q ∙ getD-append-add A (c ∷ []) 0 0 in
-        let far : (k : ℕ) → (k ≡ to + m → ⊥) → (k ≡ m + 1 → ⊥) → getD (set mid (to + m) x) k 0 ≡ getD after k 0 = λ k n o.
+        let q : m ≡ length A + 0 = omega arith in ap (λ (X : List ℕ). getD X m 0) e
+        ∙ ap (λ (k : ℕ). getD (A ++ (c ∷ [])) k 0) q ∙ getD-append-add A (c ∷ []) 0 0 in
+        let far : (k : ℕ) → (k ≡ to + m → ⊥) → (k ≡ m + 1 → ⊥) → getD (set mid (to + m) x) k 0
+        ≡ getD after k 0 = λ k n o.
         getD-set-other mid (to + m) k x 0 (λ z. n z) ∙ getD-set-other after (m + 1) k y 0 (λ z. o z) in
         record {
           same-length = length-set mid (to + m) x ∙ long;
@@ -116,29 +120,38 @@ module _ (p : ℕ → Bool) (f : ℕ → ℕ) (K before : List ℕ) (to : ℕ) w
           few = omega arith;
           count = let q = length-append A (c ∷ []) in omega (arith, ap length e);
           keys = λ j q. elim (eq? j m) [
-            | inl z ↦ rw z (getD-set-other mid (to + m) (m + 1) x 0 (λ z. omega arith) ∙ getD-set-same after (m + 1) y 0 (omega (arith, T .same-length)) ∙ ey ∙ sym new)
-            | inr n ↦ far (j + 1) (λ z. omega arith) (λ z. n (omega arith)) ∙ T .keys j (omega arith) ∙ sym (old j (omega arith))
+            | inl z ↦ rw z (getD-set-other mid (to + m) (m + 1) x 0 (λ z. omega arith)
+                ∙ getD-set-same after (m + 1) y 0 (omega (arith, T .same-length)) ∙ ey ∙ sym new)
+            | inr n ↦ far (j + 1) (λ z. omega arith) (λ z. n (omega arith)) ∙ T .keys j (omega arith)
+                ∙ sym (old j (omega arith))
           ];
           edges = λ j q. elim (eq? j m) [
             | inl z ↦ rw z (getD-set-same mid (to + m) x 0 (omega arith) ∙ ex ∙ ap f (sym new))
-            | inr n ↦ far (to + j) (λ z. n (omega arith)) (λ z. omega arith) ∙ T .edges j (omega arith) ∙ ap f (sym (old j (omega arith)))
+            | inr n ↦ far (to + j) (λ z. n (omega arith)) (λ z. omega arith) ∙ T .edges j (omega arith)
+                ∙ ap f (sym (old j (omega arith)))
           ];
           rest = λ k q r. far (k + 1) (λ z. omega arith) (λ z. omega arith) ∙ T .rest k (omega arith) r;
         }
 
   -- all of them
-  pub chosen-all : {after : List ℕ} {i m : ℕ} → i ≡ length K → ChosenTo p f K before after to i m → length K + 1 ≤ to → to + length K ≤ length before
-      → (m ≡ length (keep p K)) × ((take (length (keep p K) + 1) after ≡ 0 ∷ keep p K) × (take (length (keep p K)) (drop to after) ≡ map f (keep p K)))
+  pub chosen-all : {after : List ℕ} {i m : ℕ} → i ≡ length K → ChosenTo p f K before after to i m → length K + 1 ≤ to
+      → to + length K ≤ length before
+      → (m ≡ length (keep p K))
+      × ((take (length (keep p K) + 1) after ≡ 0 ∷ keep p K)
+      × (take (length (keep p K)) (drop to after) ≡ map f (keep p K)))
   chosen-all {after} {i} {m} z T a b =
       let B = keep p K in
       let all : take i K ≡ K = ap (λ (k : ℕ). take k K) z ∙ take-length K in
       let n : m ≡ length B = T .count ∙ ap (λ (X : List ℕ). length (keep p X)) all in
       let some = length-keep p K in
-      let long : length (take (length B + 1) after) ≡ suc (length B) = simp length-take (omega (arith, T .same-length)) in
-      let size : length (take (length B) (drop to after)) ≡ length (map f B) = simp (length-take, length-drop, length-map) (omega (arith, T .same-length)) in (
+      let long : length (take (length B + 1) after) ≡ suc (length B) = simp length-take (omega (arith, T .same-length))
+      in
+      let size : length (take (length B) (drop to after))
+      ≡ length (map f B) = simp (length-take, length-drop, length-map) (omega (arith, T .same-length)) in (
         n,
         (
-          ext-getD 0 (take (length B + 1) after) (0 ∷ B) long (λ k l. getD-take (length B + 1) after k 0 (omega arith) ∙ key k (omega arith)),
+          ext-getD 0 (take (length B + 1) after) (0 ∷ B) long (λ k l. getD-take (length B + 1) after k 0 (omega arith)
+              ∙ key k (omega arith)),
           ext-getD 0 (take (length B) (drop to after)) (map f B) size (λ k l.
               let q : k < length B = omega (arith, length-map B f) in
               getD-take (length B) (drop to after) k 0 q ∙ getD-drop to after k 0 ∙ T .edges k (omega arith)
@@ -155,7 +168,8 @@ module _ (p : ℕ → Bool) (f : ℕ → ℕ) (K before : List ℕ) (to : ℕ) w
           ap (λ (j : ℕ). getD after j 0) q ∙ T .keys k (omega arith) ∙ ap (λ (X : List ℕ). getD (keep p X) k 0) all
 
 -- In scratch: the candidates and their edges have room,
-module _ {tabulation ws scratch : List ℕ} {r s station n : ℕ} (C : CandidatesStand tabulation ws scratch r s station n) where
+module _ {tabulation ws scratch : List ℕ} {r s station n : ℕ}
+    (C : CandidatesStand tabulation ws scratch r s station n) where
   abbrev X : List Spot
   X = counting tabulation ws
 
@@ -209,7 +223,8 @@ module _ {tabulation ws scratch : List ℕ} {r s station n : ℕ} (C : Candidate
         let w = slots-in tabulation r station key (z .has-slots) (z .slots-bound) f h in
         (omega (arith, w, C .slots), omega (arith, w, C .slots))
 
-    module _ {k t : ℕ} (e : entry-of k t ≡ sound-issue (slot-entry ws first ∷ slot-entry ws second ∷ stash-entries ws) key) where
+    module _ {k t : ℕ} (e : entry-of k t
+        ≡ sound-issue (slot-entry ws first ∷ slot-entry ws second ∷ stash-entries ws) key) where
       issue-stands : entry-of k t ≡ standing X key .entry
       issue-stands = e ∙ (rw own-looked (sym (standing-looked tabulation ws (choosing-shaped .sizes .has-slots) key)))
 
@@ -217,7 +232,8 @@ module _ {tabulation ws scratch : List ℕ} {r s station n : ℕ} (C : Candidate
       issue-packable =
           let z = choosing-room .0 in
           packable tabulation r station key (z .has-slots) (z .slots-bound) f h
-          (rw (ap (λ (x : Entry). x .tier) e) (issue-small (slot-entry ws first ∷ slot-entry ws second ∷ stash-entries ws) key))
+          (rw (ap (λ (x : Entry). x .tier) e)
+          (issue-small (slot-entry ws first ∷ slot-entry ws second ∷ stash-entries ws) key))
 
       pub issue-edge : {x : ℕ} → x ≡ packed first second t → x ≡ edge key
       unfolding edge-of
@@ -242,7 +258,8 @@ module _ {tabulation ws scratch : List ℕ} {r s station n : ℕ} (C : Candidate
   choosing-parts e = let c = choosing-room in (omega (arith, c, C .count), omega (arith, c, C .count))
 
   pub choosing-end : {after : List ℕ} {to i m : ℕ} → to ≡ edges-at r s → i ≡ n → Choosing after to i m
-      → (m ≡ length (standing-keys X)) × Lined (params-of tabulation ws) (standing-tier tabulation ws) (standing-keys X) after
+      → (m ≡ length (standing-keys X))
+      × Lined (params-of tabulation ws) (standing-tier tabulation ws) (standing-keys X) after
   unfolding candidates
   choosing-end {to = to} e q T =
       let c = choosing-parts e in

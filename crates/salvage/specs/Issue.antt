@@ -2,8 +2,7 @@
 use Prim.Native.Nat.{ℕ, _+_, _*_, _<_}
 use mathlib.Core.Path.{_≡_, sym, _∙_, ap}
 use mathlib.Core.Bool.{Bool, true, false}
-use mathlib.Core.List.{List, [], _∷_}
-use native.Mathlib.Omega.{arith}
+use mathlib.Core.List.{List, _∷_}
 use lib.Dec.{eqb}
 use lib.ListN.{getD}
 use Rattle.hashing.specs.Hash.{first-part}
@@ -23,7 +22,8 @@ module _ (key tier part : ℕ) where
   issue-sound b = rw b
 
 -- one entry is tried, and then the others
-module _ (x : Entry) (L : List Entry) (key : ℕ) {part : ℕ} {b : Bool} (p : part ≡ first-part key) (e : b ≡ is-issue x part) where
+module _ (x : Entry) (L : List Entry) (key : ℕ) {part : ℕ} {b : Bool} (p : part ≡ first-part key)
+    (e : b ≡ is-issue x part) where
   pub issue-here : b ≡ true → sound-issue (x ∷ L) key ≡ x
   unfolding sound-issue
   issue-here t = let q = rw p at (sym e ∙ t) in rw q
@@ -39,7 +39,8 @@ issue-left ps count key i = sound-issue (places-left ps count i) key
 module _ (ps : List ℕ) (count key i : ℕ) where
   module _ (l : i < count) {part : ℕ} {b : Bool} (p : part ≡ first-part key)
       (e : b ≡ is-issue (entry-of (getD ps (place-width * i) 0) (getD ps (place-width * i + 1) 0)) part) where
-    pub left-here : b ≡ true → issue-left ps count key i ≡ entry-of (getD ps (place-width * i) 0) (getD ps (place-width * i + 1) 0)
+    pub left-here : b ≡ true → issue-left ps count key i
+        ≡ entry-of (getD ps (place-width * i) 0) (getD ps (place-width * i + 1) 0)
     unfolding issue-left
     left-here t =
         ap (λ (L : List Entry). sound-issue L key) (places-next ps count i l)

@@ -1,11 +1,11 @@
 -- From what was gathered and chosen to the outcome. Assumes nothing.
 use Prim.Native.Nat.{ℕ, _+_, _-_, _*_, _≤_, _<_}
-use mathlib.Core.Path.{_≡_, refl, sym, _∙_, ap}
-use mathlib.Core.Bool.{Bool, true, false, not, cond, _&&_}
+use mathlib.Core.Path.{_≡_, refl, sym, _∙_}
+use mathlib.Core.Bool.{Bool, true, false, not, _&&_}
 use mathlib.Core.Logic.{inl, inr}
 use mathlib.Core.List.{List, [], _∷_, map}
 use native.Mathlib.Omega.{arith}
-use borrow.Author.Tests.{eq-eqb, ne-eqb}
+use borrow.Author.Tests.{ne-eqb}
 use lib.Dec.{eqb}
 use borrow.Rule.Slice.PartMut.{midOf, putMid, same-len-mid}
 use lib.ListN.{length, take, replicate}
@@ -14,21 +14,21 @@ use Rattle.basics.specs.Sets.{keep, any, length-keep}
 use Rattle.refusals.specs.Refusal.{done, none-counts, first-refusal, front-none}
 use Rattle.hashing.specs.Hash.{Hashing}
 use Rattle.layout.specs.declared.Header.{Header}
-use Rattle.layout.specs.Entries.{keys-of, tiered, keys-tiered}
+use Rattle.layout.specs.Entries.{keys-of, tiered}
 use Rattle.layout.specs.Layout.{params-of, header-of, with-keys, family-of, slots-of, places-of, station-of}
 use Rattle.layout.specs.Layout.{fits, image, spots, spot-key}
 use Rattle.layout.specs.Shape.{shape, same-header}
-use Rattle.layout.specs.Ready.{Ready}
 use Rattle.ordered.specs.Keys.{sorted, distinct}
 use Rattle.collect.specs.Collect.{collected}
 use Rattle.scratch_set.specs.Edges.{Lined, lined-buildable}
 use Rattle.gateway.specs.Committing.{Committable, Committed}
 use Rattle.survivors.specs.declared.Salvaged.{Salvaged}
 use Rattle.survivors.specs.declared.Salvaged.the-variants.{Lost, Refused}
-use Rattle.survivors.specs.Salvage.{counts, counting, standing, standing-keys, survivors, occupied, lost-in, number, values}
-use Rattle.survivors.specs.Salvage.{area-refusals, nothing-counts, salvage-refusal, SalvageOutcome, salvage-outcome}
+use Rattle.survivors.specs.Salvage.{counts, counting, standing, standing-keys, survivors, occupied, lost-in, number}
+use Rattle.survivors.specs.Salvage.{values}
+use Rattle.survivors.specs.Salvage.{area-refusals, nothing-counts, salvage-refusal, salvage-outcome}
 use Rattle.survivors.specs.Spots.{counting-few}
-use Rattle.survivors.specs.Surviving.{standing-valid, survivors-fit, survivor-keys}
+use Rattle.survivors.specs.Surviving.{standing-valid, survivors-fit}
 use Rattle.survivors.specs.Laws.{Salvable, none-salvable, salvage-number, salvage-done, salvage-told, salvage-refused}
 use Rattle.survivors.specs.Laws.{salvage-untold, salvage-area, salvage-passed}
 use Rattle.survivors.specs.Looked.{occupied-split}
@@ -43,7 +43,8 @@ pub record Gathered (tabulation ws target scratch : List ℕ) (h : Header) (m : 
 
 -- What is told where 1 to 3 passed, and the target: 15, and it stays; or how many are lost, and the survivors' image.
 pub data Told (tabulation ws target : List ℕ) (t : Salvaged) (us : List ℕ) : Type 0 where
-  hopeless : nothing-counts tabulation ws ≡ true → t ≡ Refused none-counts → us ≡ target → Told tabulation ws target t us
+  hopeless : nothing-counts tabulation ws ≡ true → t ≡ Refused none-counts → us ≡ target
+      → Told tabulation ws target t us
   saved : nothing-counts tabulation ws ≡ false → t ≡ Lost (lost-in tabulation ws)
       → us ≡ image (params-of tabulation ws) (survivors tabulation ws) → Told tabulation ws target t us
 
@@ -70,7 +71,14 @@ pub hopeless-test : (tabulation ws : List ℕ) {f m : ℕ} → f ≡ length (kee
 unfolding counting
 hopeless-test tabulation ws e g =
     let F = family-of tabulation ws in
-    rw (any-counted occupied (spots ws), any-counted (counts F) (spots ws), e, g, not-not (eqb (length (keep (counts F) (spots ws))) 0))
+    rw (
+      any-counted occupied (spots ws),
+      any-counted (counts F) (spots ws),
+      e,
+      g,
+      not-not
+          (eqb (length (keep (counts F) (spots ws))) 0),
+    )
 
 -- how many are lost
 pub lost-left : (tabulation ws : List ℕ) {f m : ℕ} → f ≡ length (keep occupied (spots ws))
@@ -90,7 +98,8 @@ salvable-hashing {tabulation} {ws} h e d =
     }
 
 -- The keys that count stand in scratch: they have room,
-module _ {tabulation ws target scratch : List ℕ} {h : Header} {m : ℕ} (G : Gathered tabulation ws target scratch h m) where
+module _ {tabulation ws target scratch : List ℕ} {h : Header} {m : ℕ}
+    (G : Gathered tabulation ws target scratch h m) where
   pub gathered-room : m < length scratch
   gathered-room =
       let z = shape ws (G .salvable .shape) in
@@ -121,7 +130,8 @@ module _ {tabulation ws target scratch : List ℕ} {h : Header} {m : ℕ} (G : G
       }
 
 -- no more are chosen than there are candidates
-module _ {tabulation ws scratch : List ℕ} {r s station n : ℕ} (C : CandidatesStand tabulation ws scratch r s station n) where
+module _ {tabulation ws scratch : List ℕ} {r s station n : ℕ}
+    (C : CandidatesStand tabulation ws scratch r s station n) where
   stay-few : length (standing-keys (counting tabulation ws)) ≤ length (candidates tabulation ws)
   unfolding candidates
   stay-few =
@@ -194,7 +204,14 @@ module _ (tabulation ws target scratch : List ℕ) where
       let a : salvage-outcome tabulation ws target scratch .number ≡ done =
       salvage-number tabulation ws target scratch
       ∙ salvage-passed tabulation ws (length target) (length scratch) h ∙ (rw b) in
-      rw (e, f) (sym a, (sym (salvage-told tabulation ws target scratch a), sym (salvage-done tabulation ws target scratch a)))
+      rw (e, f) (
+        sym a,
+        (
+          sym (salvage-told tabulation ws target scratch a),
+          sym
+              (salvage-done tabulation ws target scratch a),
+        ),
+      )
 
   -- and with scratch cleared that is its outcome
   pub told-cleared : (t : Salvaged) {us sheet : List ℕ} → ToldOfSalvage tabulation ws target scratch t us

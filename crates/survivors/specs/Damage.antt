@@ -5,27 +5,28 @@
 use Prim.Native.Nat.{ℕ, zero, suc, _+_, _*_, _-_, _/_, _≤_, _<_}
 use mathlib.Core.Path.{_≡_, refl, sym, _∙_, ap}
 use mathlib.Core.Bool.{Bool, true, false, not, cond, _&&_, true≢false}
-use mathlib.Core.Logic.{_⊎_, inl, inr}
-use mathlib.Core.List.{List, [], _∷_, _++_, map, map-append, Memᴰ·map, List·Memᴰ as In, List·Memᴰ·head as here, List·Memᴰ·tail as there}
+use mathlib.Core.Logic.{inl, inr}
+use mathlib.Core.List.{List, [], _∷_, _++_, map, map-append, Memᴰ·map, List·Memᴰ as In, List·Memᴰ·head as here}
+use mathlib.Core.List.{List·Memᴰ·tail as there}
 use native.Mathlib.Omega.{arith}
 use borrow.Author.Tests.{eqb-true, eqb-false, eq-eqb, ne-eqb, lt-ltb, le-ltb, not-true}
 use lib.Dec.{eqb, ltb}
 use lib.ListN.{length, getD, drop, length-map}
 use lib.Seq.{getD-drop}
-use Rattle.basics.specs.Tests.{test, eq?, and-true, zero-one}
-use Rattle.basics.specs.Sets.{keep, keep-in, keep-test, in-keep, any, any-true, true-any, any-false, Asc, none, some}
+use Rattle.basics.specs.Tests.{test, eq?, and-true}
+use Rattle.basics.specs.Sets.{keep, keep-in, keep-test, in-keep, any, any-true, true-any, Asc, none, some}
 use Rattle.basics.specs.Lists.{pigeonhole, upto, in-upto, length-split}
 use Rattle.cuckoo.specs.Placement.{Place, slot, place}
 use Rattle.hashing.specs.Hash.{Family, first-part}
 use Rattle.layout.specs.Entries.{Entry, keys-of, in-key, key-in, length-keys, no-entry}
 use Rattle.layout.specs.Layout.{Params, ValidSet, family, params-of, family-of, slots-of, places-of, words-length}
 use Rattle.layout.specs.Layout.{key-at, tier-at, stash-at, place-at, place-width, place-entries, stash-entries}
-use Rattle.layout.specs.Layout.{slot-entry, Spot, slot-spots, place-spots, spots, spot-key}
+use Rattle.layout.specs.Layout.{Spot, slot-spots, place-spots, spots, spot-key}
 use Rattle.layout.specs.Shape.{shape}
 use Rattle.layout.specs.Standing.{not-blank}
 use Rattle.outcome.specs.Held.{Holds, held-params, held-shaped}
 use Rattle.survivors.specs.Salvage.{counts, counting, standing, standing-keys, survivors, occupied, lost-in}
-use Rattle.survivors.specs.Spots.{slot-spot, place-spot, SpotOf, at-slot, at-place, spot-of, slot-in-spots}
+use Rattle.survivors.specs.Spots.{slot-spot, place-spot, at-slot, at-place, spot-of, slot-in-spots}
 use Rattle.survivors.specs.Spots.{place-in-spots, one-spot}
 use Rattle.survivors.specs.Surviving.{counts-sound, standing-in, standing-part, stands-in, in-stands, stands-key}
 use Rattle.survivors.specs.Surviving.{survivor-entry, found-spot, found-counts, entry-survives, survivors-valid}
@@ -55,7 +56,8 @@ listed-in L e t =
 
 in-listed : (L : List Entry) (e : Entry) → In e L → listed L e ≡ true
 in-listed L e i =
-    true-any (λ d. eqb (d .key) (e .key) && eqb (d .tier) (e .tier)) i (rw (eq-eqb (e .key) (e .key) refl, eq-eqb (e .tier) (e .tier) refl))
+    true-any (λ d. eqb (d .key) (e .key) && eqb (d .tier) (e .tier)) i
+    (rw (eq-eqb (e .key) (e .key) refl, eq-eqb (e .tier) (e .tier) refl))
 
 -- what is kept of a set still ascends
 keep-asc : (p : Entry → Bool) (L : List Entry) → Asc (keys-of L) → Asc (keys-of (keep p L))
@@ -200,7 +202,9 @@ module _ {P : Params} {L : List Entry} {ws : List ℕ} (h : Holds P L ws) (vs : 
       let m : i < places-of vs = omega (arith, places-same) in
       elim (eq? (getD ws a 0) (getD vs a 0)) [
         | inr k ↦ rw (ne-eqb _ _ k) (word-changed a (omega (arith, size)) k)
-        | inl k ↦ rw (eq-eqb _ _ k) (word-changed (a + 1) (omega (arith, size)) (λ e. n (rw (place-words-at ws i l, place-words-at vs i m, slots-same, k, e))))
+        | inl k ↦ rw (eq-eqb _ _ k)
+            (word-changed (a + 1) (omega (arith, size))
+            (λ e. n (rw (place-words-at ws i l, place-words-at vs i m, slots-same, k, e))))
       ]
 
   -- a spot of one of the lists is where it is,
@@ -232,8 +236,12 @@ module _ {P : Params} {L : List Entry} {ws : List ℕ} (h : Holds P L ws) (vs : 
       → ((c d : ℕ) → In c (keys-of A) → In d (keys-of A) → at c ≡ at d → c ≡ d)
       → length A ≤ length (changed-words ws vs)
   by-places A asc at in-it hit apart =
-      omega (arith, length-keys A, pigeonhole (λ c. touched (at c)) (changed-words ws vs) asc hit
-      (λ c d i j e. apart c d i j (touched-apart (in-it c i) (in-it d j) e)))
+      omega (
+        arith,
+        length-keys A,
+        pigeonhole (λ c. touched (at c)) (changed-words ws vs) asc hit
+            (λ c d i j e. apart c d i j (touched-apart (in-it c i) (in-it d j) e)),
+      )
 
   abbrev X : List Spot
   X = counting t vs
@@ -252,7 +260,7 @@ module _ {P : Params} {L : List Entry} {ws : List ℕ} (h : Holds P L ws) (vs : 
       let x : standing X c .entry ≡ e = ap (λ (k : ℕ). standing X k .entry) (sym (r .2)) ∙ s .1 in (
         k,
         λ o. true≢false (sym (in-listed L e (rw x at (old-entry (standing X c) o (found-counts t vs k))))
-        ∙ not-true _ (keep-test p (survivors t vs) (r .1))),
+            ∙ not-true _ (keep-test p (survivors t vs) (r .1))),
       )
 
   pub few-new : length new ≤ length (changed-words ws vs)
@@ -335,7 +343,8 @@ module _ {P : Params} {L : List Entry} {ws : List ℕ} (h : Holds P L ws) (vs : 
           × (first-part (spot-key (standing (counting t vs) c)) ≡ first-part c)
       stands c i =
           let r = in-key A i in
-          let u = any-true (λ f. eqb (first-part (f .key)) (first-part (r .0 .key))) (survivors t vs) (part (r .0) (r .1)) in
+          let u = any-true (λ f. eqb (first-part (f .key)) (first-part (r .0 .key))) (survivors t vs)
+          (part (r .0) (r .1)) in
           let d = survivor-entry t vs (u .1) in
           let q : first-part (spot-key (standing (counting t vs) (u .0 .key))) ≡ first-part c =
           ap first-part (stands-key (counting t vs) (d .0)) ∙ eqb-true _ _ (u .2) ∙ ap first-part (r .2) in
@@ -407,7 +416,8 @@ module _ {P : Params} {L : List Entry} {ws : List ℕ} (h : Holds P L ws) (vs : 
       let n = slots-of vs + slots-of vs in
       let r = places-ascend 0 (stash-entries vs) in
       rw (map-append f (slot-spots vs 0 n) (place-spots 0 (stash-entries vs)))
-      (slots-ascend 0 n (map f (place-spots 0 (stash-entries vs))) (r .0) (λ w i. omega (arith, r .1 w i, slots-same)) .0)
+      (slots-ascend 0 n (map f (place-spots 0 (stash-entries vs))) (r .0)
+      (λ w i. omega (arith, r .1 w i, slots-same)) .0)
 
   kept-ascend : (p : Spot → Bool) (Z : List Spot) → Asc (map (λ (x : Spot). word-of (x .at)) Z)
       → Asc (map (λ (x : Spot). word-of (x .at)) (keep p Z))
@@ -419,7 +429,8 @@ module _ {P : Params} {L : List Entry} {ws : List ℕ} (h : Holds P L ws) (vs : 
     where
       still : (w : ℕ) → In w (map (λ (x : Spot). word-of (x .at)) (keep p Z))
           → In w (map (λ (x : Spot). word-of (x .at)) Z)
-      still w i = let r = from-words (keep p Z) i in rw (r .2) at (Memᴰ·map (λ (x : Spot). word-of (x .at)) (keep-in p Z (r .1)))
+      still w i = let r = from-words (keep p Z) i
+          in rw (r .2) at (Memᴰ·map (λ (x : Spot). word-of (x .at)) (keep-in p Z (r .1)))
 
   -- and a key word tells where it is.
   abbrev place-of : ℕ → Place
@@ -442,14 +453,16 @@ module _ {P : Params} {L : List Entry} {ws : List ℕ} (h : Holds P L ws) (vs : 
         length-map Z (λ (x : Spot). word-of (x .at)),
         pigeonhole (λ w. touched (place-of w)) (changed-words ws vs) (kept-ascend lost (spots vs) spots-ascend)
             (λ w i. let r = from-words Z i in let j = keep-in lost (spots vs) (r .1) in
-            rw (← r .2, place-word (inside-new (r .0) j)) (new-changed (r .0) j (λ o. absurd (not-old (r .0) (r .1) o))))
+            rw (← r .2, place-word (inside-new (r .0) j))
+            (new-changed (r .0) j (λ o. absurd (not-old (r .0) (r .1) o))))
             (λ w u i j e.
             let a = from-words Z i in
             let b = from-words Z j in
             let x = inside-new (a .0) (keep-in lost (spots vs) (a .1)) in
             let y = inside-new (b .0) (keep-in lost (spots vs) (b .1)) in
             let q : touched (a .0 .at) ≡ touched (b .0 .at) =
-            ap touched (sym (ap place-of (sym (a .2)) ∙ place-word x)) ∙ e ∙ ap touched (ap place-of (sym (b .2)) ∙ place-word y) in
+            ap touched (sym (ap place-of (sym (a .2)) ∙ place-word x)) ∙ e
+            ∙ ap touched (ap place-of (sym (b .2)) ∙ place-word y) in
             sym (a .2) ∙ ap word-of (touched-apart x y q) ∙ b .2),
       )
     where

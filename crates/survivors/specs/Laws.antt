@@ -3,12 +3,11 @@
 -- list that was salvaged. Assumes nothing.
 use Prim.Native.Nat.{ℕ, _≤_, _<_}
 use mathlib.Core.Path.{_≡_, refl, sym, _∙_, ap}
-use mathlib.Core.Bool.{Bool, true, false, not, cond, _&&_, true≢false}
+use mathlib.Core.Bool.{true, false, not, cond, _&&_}
 use mathlib.Core.Logic.{_⊎_, inl, inr, _↔_}
-use mathlib.Core.List.{List, [], _∷_, _++_, List·Memᴰ as In, List·Memᴰ·head as here, List·Memᴰ·tail as there}
+use mathlib.Core.List.{List, [], _∷_, List·Memᴰ as In, List·Memᴰ·head as here, List·Memᴰ·tail as there}
 use native.Mathlib.Omega.{arith}
 use borrow.Author.Tests.{eqb-true, eq-eqb, ne-eqb, ltb-false, lt-ltb, le-ltb, eqb-false, not-false, not-true}
-use lib.Dec.{eqb, ltb}
 use lib.ListN.{length, replicate}
 use Rattle.basics.specs.Tests.{test, and-true}
 use Rattle.basics.specs.Sets.{any, any-true, true-any, any-false, false-any, keep}
@@ -19,7 +18,7 @@ use Rattle.hashing.specs.Hash.{Family, tabulation-length}
 use Rattle.layout.specs.Entries.{Entry, tiered}
 use Rattle.layout.specs.Layout.{Params, family, params-of, family-of, slots-of, places-of, station-of, words-length}
 use Rattle.layout.specs.Layout.{scratch-length, shaped, image, Spot, spots, spot-key}
-use Rattle.layout.specs.Shape.{Shaped, shape, ranged-true}
+use Rattle.layout.specs.Shape.{shape, ranged-true}
 use Rattle.layout.specs.Answers.{lookup-values}
 use Rattle.outcome.specs.Demands.{Harmless}
 use Rattle.outcome.specs.Held.{Holds, held-some, held-params, held-shaped, held-entry}

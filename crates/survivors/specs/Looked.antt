@@ -4,9 +4,10 @@
 -- spots are occupied and how many count (`occupied-split`). Assumes nothing.
 use Prim.Native.Nat.{ℕ, zero, suc, _+_, _-_, _≤_, _<_}
 use mathlib.Core.Path.{_≡_, refl, sym, _∙_, ap}
-use mathlib.Core.Bool.{Bool, true, false, not, cond, _&&_, _||_, or-true, true≢false}
+use mathlib.Core.Bool.{Bool, true, false, not, cond, _&&_, or-true}
 use mathlib.Core.Logic.{_⊎_, inl, inr}
-use mathlib.Core.List.{List, [], _∷_, _++_, append-assoc, List·Memᴰ as In, List·Memᴰ·head as here, List·Memᴰ·tail as there}
+use mathlib.Core.List.{List, [], _∷_, _++_, append-assoc, List·Memᴰ as In, List·Memᴰ·head as here}
+use mathlib.Core.List.{List·Memᴰ·tail as there}
 use native.Mathlib.Omega.{arith}
 use borrow.Author.Tests.{eqb-true, eq-eqb, ne-eqb, leb-true}
 use lib.Dec.{eqb, leb}
@@ -180,9 +181,11 @@ standing-looked tabulation ws some c =
     let B = place-spots 0 (stash-entries ws) in
     ap (λ (X : List Spot). standing X c .entry) (keep-append (counts F) A B)
     ∙ ap (λ (x : Spot). x .entry) (slots-standing F ws c some (keep (counts F) B))
-    ∙ cond-entry (is-issue (slot-entry ws (slot-0 F c)) (first-part c)) (slot-spot ws (slot-0 F c)) (pick F ws c (slot-1 F c) (standing (keep (counts F) B) c))
+    ∙ cond-entry (is-issue (slot-entry ws (slot-0 F c)) (first-part c)) (slot-spot ws (slot-0 F c))
+    (pick F ws c (slot-1 F c) (standing (keep (counts F) B) c))
     ∙ ap (cond (is-issue (slot-entry ws (slot-0 F c)) (first-part c)) (slot-entry ws (slot-0 F c)))
-    (cond-entry (is-issue (slot-entry ws (slot-1 F c)) (first-part c)) (slot-spot ws (slot-1 F c)) (standing (keep (counts F) B) c)
+    (cond-entry (is-issue (slot-entry ws (slot-1 F c)) (first-part c)) (slot-spot ws (slot-1 F c))
+    (standing (keep (counts F) B) c)
     ∙ ap (cond (is-issue (slot-entry ws (slot-1 F c)) (first-part c)) (slot-entry ws (slot-1 F c)))
     (standing-places F ws c 0 (stash-entries ws)))
 
@@ -196,7 +199,8 @@ occupied-split tabulation ws =
     let a : keep (counts F) X ≡ keep (counts F) (spots ws) =
     keep-keep (counts F) occupied (spots ws) ∙ keep-ext (λ x. occupied x && counts F x) (counts F) (spots ws) (λ x i.
     elim (test (counts F x)) [
-      | inl t ↦ let f : occupied x ≡ true = ap not (ne-eqb _ _ (not-blank (spot-key x) (counts-sound F x t .not-blank))) in rw f
+      | inl t ↦ let f : occupied x ≡ true = ap not (ne-eqb _ _ (not-blank (spot-key x) (counts-sound F x t .not-blank)))
+          in rw f
       | inr t ↦ elim (test (occupied x)) [ inl f ↦ rw f | inr f ↦ rw (f, t) ]
     ]) in
     let b = keep-keep (λ x. not (counts F x)) occupied (spots ws) in

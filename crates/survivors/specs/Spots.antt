@@ -3,15 +3,16 @@
 use Prim.Native.Nat.{ℕ, zero, suc, _+_, _*_, _≤_, _<_}
 use mathlib.Core.Path.{_≡_, refl, sym, _∙_, ap}
 use mathlib.Core.Logic.{inl, inr}
-use mathlib.Core.List.{List, [], _∷_, _++_, List·Memᴰ as In, List·Memᴰ·head as here, List·Memᴰ·tail as there}
+use mathlib.Core.List.{List, [], _∷_, List·Memᴰ as In, List·Memᴰ·head as here, List·Memᴰ·tail as there}
 use mathlib.Core.List.{Memᴰ·append-left, Memᴰ·append-right, List·Memᴰ·append-cases}
 use native.Mathlib.Omega.{arith}
 use lib.ListN.{length, getD, length-append}
 use Rattle.basics.specs.Tests.{eq?, zero-one}
 use Rattle.basics.specs.Sets.{length-keep}
 use Rattle.cuckoo.specs.Placement.{Place, slot, place}
-use Rattle.layout.specs.Entries.{Entry, keys-of, length-keys, no-entry}
-use Rattle.layout.specs.Layout.{family-of, slots-of, places-of, slot-entry, stash-entries, Spot, slot-spots, place-spots, spots}
+use Rattle.layout.specs.Entries.{Entry, length-keys, no-entry}
+use Rattle.layout.specs.Layout.{family-of, slots-of, places-of, slot-entry, stash-entries, Spot, slot-spots}
+use Rattle.layout.specs.Layout.{place-spots, spots}
 use Rattle.layout.specs.Standing.{places-count}
 use Rattle.survivors.specs.Salvage.{counts, counting}
 

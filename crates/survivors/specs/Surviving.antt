@@ -1,13 +1,12 @@
 -- Who survives: an entry survives exactly if it stands in a spot that counts, before which no spot counts with its
 -- first part (`survives-iff`). The survivors are a set (`survivors-valid`), and "The survivors always fit"
 -- (`survivors-fit`): each was found in a place of its own, which is a placement. Assumes nothing.
-use Prim.Native.Nat.{ℕ, _+_, _≤_, _<_}
+use Prim.Native.Nat.{ℕ, _+_, _≤_}
 use mathlib.Core.Path.{_≡_, refl, sym, _∙_, ap}
-use mathlib.Core.Bool.{Bool, true, false, not, cond, _&&_, _||_, true≢false}
+use mathlib.Core.Bool.{Bool, true, false, not, _&&_, true≢false}
 use mathlib.Core.Logic.{_⊎_, inl, inr, _↔_}
 use mathlib.Core.List.{List, [], _∷_, _++_, map, List·Memᴰ as In, List·Memᴰ·head as here, List·Memᴰ·tail as there}
 use mathlib.Core.List.{Memᴰ·append-right, Memᴰ·map}
-use native.Mathlib.Omega.{arith}
 use borrow.Author.Tests.{eqb-true, eq-eqb, ne-eqb, leb-true, not-true}
 use lib.Dec.{eqb, leb}
 use Rattle.basics.specs.Tests.{test, eq?, and-true, or-cases}
@@ -17,7 +16,7 @@ use Rattle.ordered.specs.Distinct.{distinct-sorted-asc, distinct-sorted-in, in-
 use Rattle.cuckoo.specs.Placement.{slot, MaySit, table-0, table-1, aside, Placement}
 use Rattle.hashing.specs.Hash.{Family, first-part, blank}
 use Rattle.hashing.specs.Slots.{slot-0, slot-1}
-use Rattle.layout.specs.Entries.{Entry, max-tier, keys-of, key-in, tiered, keys-tiered, tiered-in, in-tiered}
+use Rattle.layout.specs.Entries.{Entry, max-tier, keys-of, key-in, keys-tiered, tiered-in, in-tiered}
 use Rattle.layout.specs.Layout.{ValidKeys, ValidSet, params-of, family-of, places-of, fits, Spot, spots, spot-key}
 use Rattle.layout.specs.Fitting.{fits-placement}
 use Rattle.survivors.specs.Salvage.{own-place, counts, counting, standing, standing-keys, survivors}
@@ -109,7 +108,8 @@ module _ (F : Family) (c : ℕ) where
           → standing (keep (counts F) (x ∷ X)) c ≡ standing (keep (counts F) X) c → (Some X → Split X) → Split (x ∷ X)
       on n e more =
           let s = more (elim (h .1) [
-            | here z ↦ absurd (n (ap (counts F) (sym z) ∙ h .2) (ap (λ (w : Spot). first-part (spot-key w)) (sym z) ∙ h .3))
+            | here z ↦ absurd (n (ap (counts F) (sym z) ∙ h .2) (ap (λ (w : Spot). first-part (spot-key w)) (sym z)
+                ∙ h .3))
             | there k ↦ (h .0, k, h .2, h .3)
           ]) in
           record {
@@ -190,7 +190,8 @@ module _ (tabulation ws : List ℕ) where
   unfolding survivors
   entry-survives c i =
       let t : Entry = record { key = c; tier = standing X c .entry .tier } in
-      let q : standing X c .entry ≡ t = ap (λ (k : ℕ). record { key = k; tier = standing X c .entry .tier }) (stands-key X i) in
+      let q : standing X c .entry
+      ≡ t = ap (λ (k : ℕ). record { key = k; tier = standing X c .entry .tier }) (stands-key X i) in
       rw q (in-tiered (λ c. standing X c .entry .tier) (standing-keys X) i)
 
   -- "Of several issues or copies of a card the first that counts stands, with its tier."
@@ -199,7 +200,8 @@ module _ (tabulation ws : List ℕ) where
   survives-iff e = (
     λ i.
         let r = survivor-entry i in
-        let s = split F (e .key) (spots ws) (standing X (e .key), found-spot (r .0), found-counts (r .0), ap first-part (stands-key X (r .0))) in
+        let s = split F (e .key) (spots ws)
+        (standing X (e .key), found-spot (r .0), found-counts (r .0), ap first-part (stands-key X (r .0))) in
         record {
           before = s .before;
           spot = standing X (e .key);
@@ -252,7 +254,8 @@ module _ (tabulation ws : List ℕ) where
       go x k o (at-place j l q) = aside j l (ap (λ (y : Spot). y .at) q)
 
   -- and no two in one.
-  found-apart : {c d : ℕ} → In c (standing-keys X) → In d (standing-keys X) → standing X c .at ≡ standing X d .at → c ≡ d
+  found-apart : {c d : ℕ} → In c (standing-keys X) → In d (standing-keys X) → standing X c .at ≡ standing X d .at → c
+      ≡ d
   found-apart i j e =
       sym (stands-key X i) ∙ ap spot-key (one-spot ws (found-spot i) (found-spot j) e) ∙ stands-key X j
 

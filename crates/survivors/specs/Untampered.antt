@@ -3,30 +3,31 @@
 -- (`member-survives`). Assumes nothing.
 use Prim.Native.Nat.{ℕ, zero, suc, _+_, _<_}
 use mathlib.Core.Path.{_≡_, refl, sym, _∙_, ap}
-use mathlib.Core.Bool.{Bool, true, false, not, _&&_, _||_, or-true, true≢false}
+use mathlib.Core.Bool.{true, not, _&&_, _||_, or-true}
 use mathlib.Core.Logic.{_⊎_, inl, inr}
 use mathlib.Core.List.{List, [], _∷_, List·Memᴰ as In, List·Memᴰ·head as here, List·Memᴰ·tail as there}
 use native.Mathlib.Omega.{arith}
-use borrow.Author.Tests.{eq-eqb, le-leb, not-true}
-use lib.Dec.{eqb, leb}
+use borrow.Author.Tests.{eq-eqb, le-leb}
+use lib.Dec.{eqb}
 use lib.ListN.{length, getD}
-use Rattle.basics.specs.Tests.{test, eq?, and-true, and-false}
+use Rattle.basics.specs.Tests.{eq?, and-false}
 use Rattle.basics.specs.Sets.{keep, keep-in, keep-test, in-keep, Asc, asc-ext}
 use Rattle.basics.specs.Lists.{keep-none}
 use Rattle.cuckoo.specs.Graph.{seated, slot-key}
 use Rattle.cuckoo.specs.Placement.{slot}
 use Rattle.cuckoo.specs.Seating.{from-a, from-b, occupant-from}
-use Rattle.hashing.specs.Hash.{Family, first-part, blank}
+use Rattle.hashing.specs.Hash.{Family, first-part}
 use Rattle.hashing.specs.Slots.{slot-0, slot-1, slot-0-lt, slot-1-lt}
-use Rattle.layout.specs.Entries.{Entry, max-tier, keys-of, tier-of, tiered, in-key, key-in, in-tiered, tiered-in}
+use Rattle.layout.specs.Entries.{Entry, keys-of, tier-of, in-key, key-in, in-tiered, tiered-in}
 use Rattle.layout.specs.Entries.{tiered-agree, tiered-self, no-entry}
-use Rattle.layout.specs.Layout.{Params, ValidSet, family, family-of, slots-of, places-of, fits, image, image-by}
+use Rattle.layout.specs.Layout.{Params, ValidSet, family, family-of, fits, image, image-by}
 use Rattle.layout.specs.Layout.{slot-entry, stash-entries, Spot, spots, spot-key, looked-at}
 use Rattle.layout.specs.Image.{image-slots, image-key}
-use Rattle.layout.specs.Standing.{at-slot, stash-key-in, not-blank, image-key-in, slot-tier, place-tier, image-in-looked}
-use Rattle.layout.specs.Standing.{places-count}
+use Rattle.layout.specs.Standing.{at-slot, stash-key-in, not-blank, image-key-in, slot-tier, place-tier}
+use Rattle.layout.specs.Standing.{image-in-looked}
 use Rattle.survivors.specs.Salvage.{own-place, counts, counting, occupied, standing, survivors, lost-in}
-use Rattle.survivors.specs.Spots.{slot-spot, place-spot, SpotOf, spot-of, slot-in-spots, place-in-spots, stash-length}
+use Rattle.survivors.specs.Spots.{slot-spot, place-spot, SpotOf, spot-of, slot-in-spots, place-in-spots}
+use Rattle.survivors.specs.Spots.{stash-length}
 use Rattle.survivors.specs.Spots as Spots
 use Rattle.survivors.specs.Surviving.{counts-sound, standing-in, in-stands, survivor-entry, found-spot}
 use Rattle.survivors.specs.Surviving.{found-counts, entry-survives, survivors-valid}
@@ -78,7 +79,11 @@ module _ (tabulation ws : List ℕ) {L : List Entry} (valid : ValidSet L) where
     where
       kept : (y : Spot) → In y (keep (counts (family-of tabulation ws)) (spots ws))
           → In y (spots ws) × (counts (family-of tabulation ws) y ≡ true)
-      kept y i = (keep-in (counts (family-of tabulation ws)) (spots ws) i, keep-test (counts (family-of tabulation ws)) (spots ws) i)
+      kept y i = (
+        keep-in (counts (family-of tabulation ws)) (spots ws) i,
+        keep-test (counts (family-of tabulation ws))
+            (spots ws) i,
+      )
 
 entry-at : (L : List Entry) {e : Entry} → In e L → (i : ℕ) × (i < length L) × (getD L i no-entry ≡ e)
 entry-at (f ∷ L) (here q) = (0, omega arith, sym q)
@@ -94,7 +99,8 @@ either v a b (inl q) = rw (eq-eqb v a q)
 either v a b (inr q) = rw (eq-eqb v b q) (or-true (eqb v a))
 
 -- The image of a set.
-module _ (P : Params) (L : List Entry) (fit : fits P (keys-of L) ≡ true) (valid : ValidSet L) (some : 0 < P .slots) where
+module _ (P : Params) (L : List Entry) (fit : fits P (keys-of L) ≡ true) (valid : ValidSet L)
+    (some : 0 < P .slots) where
   abbrev ws : List ℕ
   ws = image P L
 
@@ -157,11 +163,25 @@ module _ (P : Params) (L : List Entry) (fit : fits P (keys-of L) ≡ true) (vali
   key-spot c i =
       let r = in-key (looked-at (P .tabulation) ws c) (image-in-looked P L fit (valid .keys) some i) in
       elim (r .1) [
-        | here q ↦ (slot-spot ws (slot-0 F c), slot-in-spots ws (slot-0 F c) (omega (arith, slot-0-lt F some c)), sym (ap (λ (e : Entry). e .key) q) ∙ r .2)
-        | there (here q) ↦ (slot-spot ws (slot-1 F c), slot-in-spots ws (slot-1 F c) (slot-1-lt F some c), sym (ap (λ (e : Entry). e .key) q) ∙ r .2)
+        | here q ↦ (
+          slot-spot ws (slot-0 F c),
+          slot-in-spots ws (slot-0 F c) (omega (arith, slot-0-lt F some c)),
+          sym
+              (ap (λ (e : Entry). e .key) q) ∙ r .2,
+        )
+        | there (here q) ↦ (
+          slot-spot ws (slot-1 F c),
+          slot-in-spots ws (slot-1 F c) (slot-1-lt F some c),
+          sym
+              (ap (λ (e : Entry). e .key) q) ∙ r .2,
+        )
         | there (there k) ↦
-            let w = entry-at (stash-entries ws) k in
-            (place-spot ws (w .0), place-in-spots ws (w .0) (omega (arith, w .1, stash-length ws)), ap (λ (e : Entry). e .key) (w .2) ∙ r .2)
+            let w = entry-at (stash-entries ws) k in (
+              place-spot ws (w .0),
+              place-in-spots ws (w .0)
+                  (omega (arith, w .1, stash-length ws)),
+              ap (λ (e : Entry). e .key) (w .2) ∙ r .2,
+            )
       ]
 
   pub entry-spot : {e : Entry} → In e L → (x : Spot) × In x (spots ws) × (x .entry ≡ e) × (counts F x ≡ true)
@@ -180,7 +200,8 @@ module _ (P : Params) (L : List Entry) (fit : fits P (keys-of L) ≡ true) (vali
       set-ext (survivors t ws) L (survivors-valid t ws .keys .asc) (valid .keys .asc)
       (λ e i.
       let r = survivor-entry t ws i in
-      rw (r .1) at (counted-entry (standing (counting t ws) (e .key)) (found-spot t ws (r .0)) (found-counts t ws (r .0))))
+      rw (r .1) at (counted-entry (standing (counting t ws) (e .key)) (found-spot t ws (r .0))
+      (found-counts t ws (r .0))))
       (λ e i.
       let r = entry-spot i in
       rw (r .2) at (member-survives t ws valid (r .0) (r .1) (r .3) (rw (r .2) i) (λ y j u q. counted-entry y j u)))

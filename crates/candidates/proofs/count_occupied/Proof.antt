@@ -1,6 +1,5 @@
 -- `candidates::count_occupied` meets its contract: slots and places together.
-use Prim.Native.Nat.{_*_}
-use mathlib.Core.Path.{_≡_, refl, sym, _∙_, ap}
+use mathlib.Core.Path.{_∙_, ap}
 use native.Mathlib.Omega.{arith}
 use Rattle.layout.specs.Layout.{stash-at}
 use Rattle.candidates.specs.Candidates.{all-occupied}
@@ -35,7 +34,11 @@ returns c =
     let a = f .before .before .before in
     let p = a .pre in
     let x = rw (f .before .wide .ensures ∙ p .1 .0) at (f .occupied-from .ensures .0) in
-    let y = rw (c .before .before .stash-start .ensures ∙ ap stash-at (p .1 .0), c .before .wide2 .ensures ∙ p .1 .1) at (c .occupied-from2 .ensures .0) in
+    let y = rw (
+      c .before .before .stash-start .ensures ∙ ap stash-at (p .1 .0),
+      c .before .wide2 .ensures
+          ∙ p .1 .1,
+    ) at (c .occupied-from2 .ensures .0) in
     (omega (arith, x, y, all-occupied (a .args .words .now)), omega arith)
 
 pub count-occupied-spec : {M : Type 1} → statement M

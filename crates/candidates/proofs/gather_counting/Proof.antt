@@ -55,7 +55,8 @@ gather-places-requires c κs =
     let g = c .before .before .before .before in
     let z = start g in
     let p = z .pre in
-    let few = slots-few (tables (z .args .tabulation .now) (z .args .r) (z .args .station)) (z .args .words .now) (z .args .r + z .args .r) in
+    let few = slots-few (tables (z .args .tabulation .now) (z .args .r) (z .args .station)) (z .args .words .now)
+    (z .args .r + z .args .r) in
     let e = simp length-set at (g .gather-slots .kept .1 .1 .0) in
     (simp (length-take, length-drop) (omega arith), omega arith, omega arith)
 

@@ -1,5 +1,5 @@
 -- `candidates::gather_places` meets its contract: as `gather_slots`, over the places that are left.
-use Prim.Native.Nat.{_≤_, _-_, _+_, _*_}
+use Prim.Native.Nat.{_≤_, _-_, _+_}
 use mathlib.Core.Path.{_≡_, refl, sym, _∙_, ap}
 use native.Mathlib.Omega.{arith}
 use lib.ListN.{length, take, length-set, length-append}
@@ -77,7 +77,8 @@ loop-again c =
       omega arith,
       simp length-set (l .loop .inv .2),
       l .loop .inv .3
-          ∙ places-sift (a .places .now) (l .loop .scratch) (l .loop .end) (a .count) (l .loop .i) (omega arith) (omega arith)
+          ∙ places-sift (a .places .now) (l .loop .scratch) (l .loop .end) (a .count) (l .loop .i) (omega arith)
+          (omega arith)
           (c .place-counts .ensures .0),
     )
 
@@ -89,7 +90,8 @@ unfolding places-sifted
 returns c =
     let l = c .before in
     let a = start l .args in
-    let e = l .loop .inv .3 ∙ places-end (a .places .now) (l .loop .scratch) (l .loop .end) (a .count) (l .loop .i) (omega arith) in
+    let e = l .loop .inv .3
+    ∙ places-end (a .places .now) (l .loop .scratch) (l .loop .end) (a .count) (l .loop .i) (omega arith) in
     let f = rw (places-start (a .places .now) (a .count)) at e in
     let xs = places-counting (place-entries (a .count) (a .places .now)) in (
       sym f,

@@ -1,6 +1,6 @@
 -- `candidates::gather_slots` meets its contract: what is gathered and what is still to be gathered are together what is
 -- to be gathered from the start.
-use Prim.Native.Nat.{_≤_, _-_, _+_, _*_}
+use Prim.Native.Nat.{_≤_, _-_, _+_}
 use mathlib.Core.Path.{_≡_, refl, sym, _∙_, ap}
 use native.Mathlib.Omega.{arith}
 use lib.ListN.{length, take, length-set, length-append}
@@ -69,7 +69,8 @@ loop-again c =
       omega arith,
       simp length-set (l .loop .inv .2),
       l .loop .inv .3
-          ∙ slots-sift (tables (a .tabulation .now) (a .r) (a .station)) (a .words .now) (l .loop .scratch) (l .loop .end) (l .loop .v)
+          ∙ slots-sift (tables (a .tabulation .now) (a .r) (a .station)) (a .words .now) (l .loop .scratch)
+          (l .loop .end) (l .loop .v)
           (a .r + a .r) (omega arith) (omega arith) (c .before .before .key-in .ensures)
           (rw (c .before .before .key-in .ensures, c .before .slot-tier .ensures) at (c .slot-counts .ensures .0)),
     )
@@ -83,7 +84,8 @@ returns c =
     let l = c .before in
     let a = start l .args in
     let F = tables (a .tabulation .now) (a .r) (a .station) in
-    let e = l .loop .inv .3 ∙ slots-end F (a .words .now) (l .loop .scratch) (l .loop .end) (l .loop .v) (a .r + a .r) (omega arith) in
+    let e = l .loop .inv .3
+    ∙ slots-end F (a .words .now) (l .loop .scratch) (l .loop .end) (l .loop .v) (a .r + a .r) (omega arith) in
     let z : a .r + a .r - 0 ≡ a .r + a .r = omega arith in
     let f = rw z at e in
     let xs = slots-counting F (a .words .now) 0 (a .r + a .r) in (

@@ -1,6 +1,6 @@
 -- `candidates::occupied_from` meets its contract: what is counted, and what is still to be counted.
 use Prim.Native.Nat.{_≤_, _+_, _*_}
-use mathlib.Core.Path.{_≡_, refl, sym, _∙_, ap}
+use mathlib.Core.Path.{_≡_, sym, _∙_}
 use native.Mathlib.Omega.{arith}
 use lib.ListN.{length}
 use Rattle.records.specs.Columns.{picked, left-next}
@@ -59,7 +59,8 @@ loop-again c =
       omega arith,
       omega arith,
       l .loop .inv .2
-          ∙ occupied-step (a .words .now) (a .step) (l .loop .at) (l .loop .left) (omega arith) (l .loop .total) (c .differs .ensures .0),
+          ∙ occupied-step (a .words .now) (a .step) (l .loop .at) (l .loop .left) (omega arith) (l .loop .total)
+          (c .differs .ensures .0),
     )
 
 returns : tie.Need-returns Inv-loop μ-loop

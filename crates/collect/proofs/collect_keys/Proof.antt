@@ -38,7 +38,8 @@ unfolding keys-in
 returns c =
     let m = c .before .before .make-set in
     let g = c .before .before .before .before .before .before in
-    collected (non-blank (key-words (start g .args .words .now))) (g .gather-keys .last .1 .0) (g .gather-keys .result) (few g) (g .gather-keys .ensures .0)
+    collected (non-blank (key-words (start g .args .words .now))) (g .gather-keys .last .1 .0) (g .gather-keys .result)
+    (few g) (g .gather-keys .ensures .0)
     (m .last .0) (m .result) (m .kept .0) (m .ensures .1) (m .ensures .0)
 
 pub collect-keys-spec : {M : Type 1} → statement M

@@ -16,7 +16,11 @@ is-shaped-requires : tie.Need-is-shaped-requires
 is-shaped-requires c κs = search needs
 
 returns-2 : tie.Need-returns-2
-returns-2 c = rw (eq-eqb _ _ (c .before .before .if1 .left), sym (c .before .is-shaped .ensures) ∙ not-true _ (c .if2 .taken))
+returns-2 c = rw (
+  eq-eqb _ _ (c .before .before .if1 .left),
+  sym (c .before .is-shaped .ensures)
+      ∙ not-true _ (c .if2 .taken),
+)
 
 is-formed : (e : tie.Else2) → shaped (e .before .before .before .before .before .args .words .now) ≡ true
 is-formed e = sym (e .before .is-shaped .ensures) ∙ not-false _ (e .if2 .left)
@@ -38,7 +42,13 @@ returns-4 c =
     let h = same-header (r .read-header .ensures) in
     let e = r .before in
     let short = rw (c .before .scratch-for .ensures, h .slots, h .places) at (c .if4 .taken) in
-    rw (eq-eqb _ _ (e .before .before .before .if1 .left), is-formed (e .before), eq-eqb _ _ (e .if3 .left), lt-ltb _ _ short)
+    rw (
+      eq-eqb _ _ (e .before .before .before .if1 .left),
+      is-formed (e .before),
+      eq-eqb _ _
+          (e .if3 .left),
+      lt-ltb _ _ short,
+    )
 
 returns-5 : tie.Need-returns-5
 returns-5 c =
@@ -46,7 +56,13 @@ returns-5 c =
     let h = same-header (r .read-header .ensures) in
     let e = r .before in
     let long = rw (c .before .scratch-for .ensures, h .slots, h .places) at (c .if4 .left) in
-    rw (eq-eqb _ _ (e .before .before .before .if1 .left), is-formed (e .before), eq-eqb _ _ (e .if3 .left), le-ltb _ _ long)
+    rw (
+      eq-eqb _ _ (e .before .before .before .if1 .left),
+      is-formed (e .before),
+      eq-eqb _ _
+          (e .if3 .left),
+      le-ltb _ _ long,
+    )
 
 pub area-refusal-spec : {M : Type 1} → statement M
 area-refusal-spec =

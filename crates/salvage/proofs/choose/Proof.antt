@@ -1,16 +1,18 @@
 -- `salvage::choose` meets its contract: after i turns those of the first i candidates that stand are at the front, with
 -- their edges.
-use Prim.Native.Nat.{_≤_, _<_, _-_, _+_, _*_}
+use Prim.Native.Nat.{_≤_, _<_, _-_, _+_}
 use mathlib.Core.Logic.{inl, inr}
-use mathlib.Core.Path.{_≡_, refl, sym, _∙_, ap}
+use mathlib.Core.Path.{sym, _∙_, ap}
 use native.Mathlib.Omega.{arith}
 use lib.Dec.{eqb}
 use lib.ListN.{length, getD, length-set}
 use Rattle.layout.specs.Layout.{family-of, spot-key}
 use Rattle.scratch_set.specs.Edges.{edge-of}
 use Rattle.survivors.specs.Salvage.{counting, standing}
-use Rattle.salvage.specs.Chosen.{candidates, standing-tier, ChosenTo, chosen-skip, chosen-take, choosing-shaped, own-slots-in}
-use Rattle.salvage.specs.Chosen.{stays, edge, choosing-hashing, choosing-room, choosing-start, choosing-parts, choosing-end}
+use Rattle.salvage.specs.Chosen.{candidates, standing-tier, ChosenTo, chosen-skip, chosen-take, choosing-shaped}
+use Rattle.salvage.specs.Chosen.{own-slots-in}
+use Rattle.salvage.specs.Chosen.{stays, edge, choosing-hashing, choosing-room, choosing-start, choosing-parts}
+use Rattle.salvage.specs.Chosen.{choosing-end}
 use Rattle.salvage.specs.Chosen.{issue-packable, issue-edge, issue-stays, issue-goes}
 use borrow.Author.Needs.{needs}
 use Rattle.salvage.proofs.choose.Statement.{statement}
@@ -20,14 +22,16 @@ abbrev Inv-loop : tie.InvT-loop
 Inv-loop tabulation words scratch₀ r s station n start m₀ i₀ scratch m i =
     (i ≤ n)
     × ChosenTo (λ c. eqb (spot-key (standing (counting tabulation words) c)) c)
-    (edge-of (family-of tabulation words) (standing-tier tabulation words)) (candidates tabulation words) scratch₀ scratch
+    (edge-of (family-of tabulation words) (standing-tier tabulation words))
+    (candidates tabulation words) scratch₀ scratch
     start i m
 
 abbrev μ-loop : tie.MeasureT-loop
 μ-loop tabulation words scratch₀ r s station n start m₀ i₀ scratch m i = n - i
 
 edges-start-requires : tie.Need-edges-start-requires Inv-loop μ-loop
-edges-start-requires c κs = let z = choosing-room (c .before .before .before .pre) .0 in (z .slots-bound, z .places-bound)
+edges-start-requires c κs = let z = choosing-room (c .before .before .before .pre) .0
+    in (z .slots-bound, z .places-bound)
 
 loop-holds : tie.Need-loop-holds Inv-loop μ-loop
 loop-holds c = (search needs, choosing-start (c .before .before .before .before .pre) (c .edges-start .result))
@@ -43,7 +47,8 @@ mul-key : tie.Need-mul-key Inv-loop μ-loop
 mul-key c = omega (arith, choosing-room (begin (c .before) .pre))
 
 slice-read-key : tie.Need-slice-read-key Inv-loop μ-loop
-slice-read-key c = let l = c .before .before in omega (arith, choosing-room (begin l .pre), l .loop .inv .1 .same-length)
+slice-read-key c = let l = c .before .before
+    in omega (arith, choosing-room (begin l .pre), l .loop .inv .1 .same-length)
 
 first-slot-requires : tie.Need-first-slot-requires Inv-loop μ-loop
 first-slot-requires c κs = choosing-hashing (begin (c .before .before) .pre)

@@ -1,6 +1,5 @@
 -- `salvage::is_hopeless` meets its contract.
 use borrow.Author.Tests.{eq-eqb, ne-eqb}
-use borrow.Author.Needs.{needs}
 use Rattle.salvage.proofs.is_hopeless.Statement.{statement}
 use Rattle.salvage.proofs.is_hopeless.Tie as tie
 

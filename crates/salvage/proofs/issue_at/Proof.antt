@@ -1,12 +1,11 @@
 -- `salvage::issue_at` meets its contract: its slot in table 0, else that in table 1, else the first place.
 use mathlib.Core.Path.{_≡_, sym, _∙_, ap}
 use mathlib.Core.List.{List, _∷_}
-use native.Mathlib.Omega.{arith}
 use Rattle.layout.specs.Entries.{Entry}
 use Rattle.layout.specs.Layout.{stash-at, slot-entry, stash-entries}
 use Rattle.layout.specs.Shape.{same-header}
+use Rattle.layout.specs.Standing.{stash-lent}
 use Rattle.survivors.specs.Looked.{sound-issue}
-use Rattle.candidates.specs.Candidates.{places-lent}
 use Rattle.salvage.specs.Issue.{slot-here, slot-further}
 use borrow.Author.Needs.{needs}
 use Rattle.salvage.proofs.issue_at.Statement.{statement}
@@ -29,7 +28,8 @@ returns c =
     let f = c .before in
     let w = f .before .before .before in
     let a = w .before .before .args in
-    slot-here (a .words .now) (a .first) (a .key) (slot-entry (a .words .now) (a .second) ∷ stash-entries (a .words .now))
+    slot-here (a .words .now) (a .first) (a .key)
+    (slot-entry (a .words .now) (a .second) ∷ stash-entries (a .words .now))
     (f .before .before .key-in .ensures) (f .before .slot-tier .ensures) (w .first-part .ensures) (f .is-issue .ensures)
     (c .if1 .taken)
 
@@ -46,7 +46,8 @@ missed : (e : tie.Else1) → let a = start e .args in let ws = a .words .now in
 missed e =
     let a = start e .args in
     let f = e .before in
-    slot-further (a .words .now) (a .first) (a .key) (slot-entry (a .words .now) (a .second) ∷ stash-entries (a .words .now))
+    slot-further (a .words .now) (a .first) (a .key)
+    (slot-entry (a .words .now) (a .second) ∷ stash-entries (a .words .now))
     (f .before .before .key-in .ensures) (f .before .slot-tier .ensures) (parted e .first-part .ensures)
     (f .is-issue .ensures) (e .if1 .left)
 
@@ -65,7 +66,8 @@ returns-2 c =
     let e = f .before .before .before in
     let a = start e .args in
     slot-here (a .words .now) (a .second) (a .key) (stash-entries (a .words .now)) (f .before .before .key-in2 .ensures)
-    (f .before .slot-tier2 .ensures) (parted e .first-part .ensures) (f .is-issue2 .ensures) (c .if2 .taken) ∙ sym (missed e)
+    (f .before .slot-tier2 .ensures) (parted e .first-part .ensures) (f .is-issue2 .ensures) (c .if2 .taken)
+    ∙ sym (missed e)
 
 read-header-requires : tie.Need-read-header-requires
 read-header-requires c κs = search needs
@@ -105,7 +107,7 @@ returns-3 c =
     let f = l .before in
     let e = f .before .before .before in
     let a = start e .args in
-    let p = places-lent (a .words .now) (c .before .before .before .stash-start .ensures ∙ ap stash-at (h .slots))
+    let p = stash-lent (a .words .now) (c .before .before .before .stash-start .ensures ∙ ap stash-at (h .slots))
     (c .before .before .wide .ensures ∙ h .places) in
     c .issue-in-places .ensures ∙ ap (λ (L : List Entry). sound-issue L (a .key)) p
     ∙ sym (missed e ∙ slot-further (a .words .now) (a .second) (a .key) (stash-entries (a .words .now))

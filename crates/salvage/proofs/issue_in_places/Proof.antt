@@ -1,6 +1,6 @@
 -- `salvage::issue_in_places` meets its contract: what is left to look through are the places that are left.
 use Prim.Native.Nat.{_≤_, _-_}
-use mathlib.Core.Path.{_≡_, refl, sym, _∙_, ap}
+use mathlib.Core.Path.{_≡_, sym, _∙_, ap}
 use mathlib.Core.List.{List}
 use native.Mathlib.Omega.{arith}
 use Rattle.layout.specs.Entries.{Entry}
@@ -13,7 +13,8 @@ use Rattle.salvage.proofs.issue_in_places.Statement.{statement}
 use Rattle.salvage.proofs.issue_in_places.Tie as tie
 
 abbrev Inv-loop : tie.InvT-loop
-Inv-loop places count key part i₀ i = (i ≤ count) × (sound-issue (place-entries count places) key ≡ issue-left places count key i)
+Inv-loop places count key part i₀ i = (i ≤ count)
+    × (sound-issue (place-entries count places) key ≡ issue-left places count key i)
 
 abbrev μ-loop : tie.MeasureT-loop
 μ-loop places count key part i₀ i = count - i

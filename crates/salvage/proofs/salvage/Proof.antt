@@ -1,5 +1,4 @@
 -- `salvage::salvage` meets its contract: what `salvage_words` tells and leaves, and cleared scratch.
-use mathlib.Core.Path.{sym, _∙_}
 use Rattle.salvage.specs.Salvaging.{told-cleared}
 use borrow.Author.Needs.{needs}
 use Rattle.salvage.proofs.salvage.Statement.{statement}

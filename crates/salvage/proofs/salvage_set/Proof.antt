@@ -1,5 +1,5 @@
 -- `salvage::salvage_set` meets its contract: 15 by how many spots are occupied and how many count, or the survivors.
-use mathlib.Core.Path.{_≡_, refl, sym, _∙_, ap}
+use mathlib.Core.Path.{refl, sym, _∙_, ap}
 use native.Mathlib.Omega.{arith}
 use Rattle.layout.specs.Shape.{shape, same-header}
 use Rattle.survivors.specs.declared.Salvaged.the-variants.{Lost}
@@ -89,7 +89,8 @@ returns-2 c =
     let a = start g .args in
     let f = g .before .before .count-occupied .ensures .0 in
     let n = g .gather-counting .ensures .1 in
-    saved (hopeless-test (a .tabulation .now) (a .words .now) f n ∙ sym (e .before .is-hopeless .ensures) ∙ e .if1 .left)
+    saved (hopeless-test (a .tabulation .now) (a .words .now) f n ∙ sym (e .before .is-hopeless .ensures)
+    ∙ e .if1 .left)
     (ap Lost (lost-left (a .tabulation .now) (a .words .now) f n .1)) (x .write-survivors .ensures)
 
 pub salvage-set-spec : {M : Type 1} → statement M

@@ -19,7 +19,8 @@ passed : (e : tie.Else1) → let a = e .before .before .before .before .before .
     Salvable (a .tabulation .now) (a .words .now) (length (a .target .now)) (length (a .scratch .now))
 passed e =
     let a = e .before .before .before .before .before .before .args in
-    early-salvable (a .tabulation .now) (a .words .now) (a .target .now) (a .scratch .now) (e .before .area-refusal .ensures)
+    early-salvable (a .tabulation .now) (a .words .now) (a .target .now) (a .scratch .now)
+    (e .before .area-refusal .ensures)
     (e .if1 .left)
 
 read-header-requires : tie.Need-read-header-requires

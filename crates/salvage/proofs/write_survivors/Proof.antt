@@ -4,7 +4,8 @@ use native.Mathlib.Omega.{arith}
 use borrow.Rule.Slice.PartMut.{putMid}
 use lib.ListN.{length, length-take, length-drop}
 use Rattle.salvage.specs.Chosen.{CandidatesStand, choosing-shaped}
-use Rattle.salvage.specs.Salvaging.{gathered-room, gathered-candidates, chosen-few, chosen-committable, chosen-committed}
+use Rattle.salvage.specs.Salvaging.{gathered-room, gathered-candidates, chosen-few, chosen-committable}
+use Rattle.salvage.specs.Salvaging.{chosen-committed}
 use borrow.Author.Needs.{needs}
 use Rattle.salvage.proofs.write_survivors.Statement.{statement}
 use Rattle.salvage.proofs.write_survivors.Tie as tie
@@ -29,7 +30,8 @@ start k = k .before .before .before .before .before .before
 
 stand : (k : tie.After-make-set) → let a = start k .args in
     CandidatesStand (a .tabulation .now) (a .words .now)
-    (putMid 1 (length (a .scratch .now) - 1) (a .scratch .now) (k .make-set .last .0)) (a .header .slots) (a .header .places) (a .header .station)
+    (putMid 1 (length (a .scratch .now) - 1) (a .scratch .now) (k .make-set .last .0)) (a .header .slots)
+    (a .header .places) (a .header .station)
     (k .make-set .result)
 stand k =
     let m = k .make-set in
