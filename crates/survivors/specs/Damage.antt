@@ -38,14 +38,14 @@ abbrev pub changed-words : List ℕ → List ℕ → List ℕ
 changed-words ws vs = keep (λ i. not (eqb (getD ws i 0) (getD vs i 0))) (upto (length ws))
 
 -- an entry is one of these, as a test; and one of these has its first part
-abbrev pub listed : List Entry → Entry → Bool
-listed L e = any (λ d. eqb (d .key) (e .key) && eqb (d .tier) (e .tier)) L
+abbrev pub entry-listed : List Entry → Entry → Bool
+entry-listed L e = any (λ d. eqb (d .key) (e .key) && eqb (d .tier) (e .tier)) L
 
 abbrev pub part-listed : List Entry → Entry → Bool
 part-listed L e = any (λ d. eqb (first-part (d .key)) (first-part (e .key))) L
 
 -- The laws. The tests:
-listed-in : (L : List Entry) (e : Entry) → listed L e ≡ true → In e L
+listed-in : (L : List Entry) (e : Entry) → entry-listed L e ≡ true → In e L
 listed-in L e t =
     let r = any-true (λ d. eqb (d .key) (e .key) && eqb (d .tier) (e .tier)) L t in
     let d = r .0 in
@@ -54,7 +54,7 @@ listed-in L e t =
     ∙ ap (λ (x : ℕ). record { key = e .key; tier = x }) (eqb-true _ _ (p .1)) in
     rw q at (r .1)
 
-in-listed : (L : List Entry) (e : Entry) → In e L → listed L e ≡ true
+in-listed : (L : List Entry) (e : Entry) → In e L → entry-listed L e ≡ true
 in-listed L e i =
     true-any (λ d. eqb (d .key) (e .key) && eqb (d .tier) (e .tier)) i
     (rw (eq-eqb (e .key) (e .key) refl, eq-eqb (e .tier) (e .tier) refl))
@@ -247,14 +247,14 @@ module _ {P : Params} {L : List Entry} {ws : List ℕ} (h : Holds P L ws) (vs : 
   X = counting t vs
 
   abbrev new : List Entry
-  new = keep (λ e. not (listed L e)) (survivors t vs)
+  new = keep (λ e. not (entry-listed L e)) (survivors t vs)
 
   -- a new survivor was written
   new-spot : (c : ℕ) → In c (keys-of new) → In c (standing-keys X) × (In (standing X c) (spots ws) → ⊥)
   new-spot c i =
       let r = in-key new i in
       let e = r .0 in
-      let p : Entry → Bool = λ e. not (listed L e) in
+      let p : Entry → Bool = λ e. not (entry-listed L e) in
       let s = survivor-entry t vs (keep-in p (survivors t vs) (r .1)) in
       let k : In c (standing-keys X) = rw (r .2) at (s .0) in
       let x : standing X c .entry ≡ e = ap (λ (k : ℕ). standing X k .entry) (sym (r .2)) ∙ s .1 in (
@@ -265,7 +265,7 @@ module _ {P : Params} {L : List Entry} {ws : List ℕ} (h : Holds P L ws) (vs : 
 
   pub few-new : length new ≤ length (changed-words ws vs)
   few-new =
-      by-places new (keep-asc (λ e. not (listed L e)) (survivors t vs) (survivors-valid t vs .keys .asc))
+      by-places new (keep-asc (λ e. not (entry-listed L e)) (survivors t vs) (survivors-valid t vs .keys .asc))
       (λ c. standing X c .at)
       (λ c i. inside-new (standing X c) (found-spot t vs (new-spot c i .0)))
       (λ c i. let s = new-spot c i in new-changed (standing X c) (found-spot t vs (s .0)) (s .1))
@@ -323,7 +323,7 @@ module _ {P : Params} {L : List Entry} {ws : List ℕ} (h : Holds P L ws) (vs : 
 
   -- entries of the old list that do not survive, though another issue or copy of their first part does: that was written
   parts-taken : (A : List Entry) → Asc (keys-of A) → ((e : Entry) → In e A → In e L)
-      → ((e : Entry) → In e A → listed (survivors t vs) e ≡ false)
+      → ((e : Entry) → In e A → entry-listed (survivors t vs) e ≡ false)
       → ((e : Entry) → In e A → part-listed (survivors t vs) e ≡ true) → length A ≤ length (changed-words ws vs)
   unfolding counting
   parts-taken A asc old gone part =
@@ -366,9 +366,9 @@ module _ {P : Params} {L : List Entry} {ws : List ℕ} (h : Holds P L ws) (vs : 
           true≢false (sym (in-listed (survivors t vs) (r .0) (rw e at u)) ∙ gone (r .0) (r .1))
 
   -- and with them all that no longer stand, with the tier that they had.
-  pub few-gone : length (keep (λ e. not (listed (survivors t vs) e)) L) ≤ 2 * length (changed-words ws vs)
+  pub few-gone : length (keep (λ e. not (entry-listed (survivors t vs) e)) L) ≤ 2 * length (changed-words ws vs)
   few-gone =
-      let p : Entry → Bool = λ e. not (listed (survivors t vs) e) in
+      let p : Entry → Bool = λ e. not (entry-listed (survivors t vs) e) in
       let q : Entry → Bool = part-listed (survivors t vs) in
       let n : Entry → Bool = λ e. not (q e) in
       let G = keep p L in

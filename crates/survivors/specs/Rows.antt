@@ -19,7 +19,7 @@ use Rattle.outcome.specs.Held.{Holds}
 use Rattle.survivors.specs.Salvage.{counting, standing, survivors, lost-in, salvage-refusal}
 use Rattle.survivors.specs.Salvage.{salvage-outcome}
 use Rattle.survivors.specs.Laws.{untampered-number, untampered-target, untampered-values}
-use Rattle.survivors.specs.Damage.{changed-words, listed, part-listed}
+use Rattle.survivors.specs.Damage.{changed-words, entry-listed, part-listed}
 
 -- damaged words with r = 4, s = 1 and station 0: words 2 and 3, a record of three words for each slot of table 0 and of
 -- table 1, and the place of the stash
@@ -143,8 +143,8 @@ salvage-rows = tt
 pub bounds-reached :
     let L = survivors board-tabulation wet-k4 in
     (length (changed-words k4 wet-k4) ≡ 1)
-    × (length (keep (λ e. not (listed L e)) set-k4) ≡ 2)
+    × (length (keep (λ e. not (entry-listed L e)) set-k4) ≡ 2)
     × (length (keep (λ e. not (part-listed L e)) set-k4) ≡ 1)
-    × (length (keep (λ e. not (listed set-k4 e)) L) ≡ 1)
+    × (length (keep (λ e. not (entry-listed set-k4 e)) L) ≡ 1)
 unfolding survivors counting standing sorted put distinct blank place-entries slot-spots hash board-tabulation upto
 bounds-reached = (refl, refl, refl, refl)
