@@ -1,7 +1,7 @@
 -- Demand 3 at work, so that a reader sees that its hypothesis can be met: a sequence of calls of every kind on document
 -- 01's test board, with its answers and the words that it leaves written out, and two more that leave the same words:
--- one with another past, one that starts with a bulk load. The answers are proved through the theorem, from the rows of
--- K5, with the tiers 3, 0 and 7, and K6 of layout/specs/Board.antt. Assumes nothing.
+-- one with another past, one that starts with a bulk load, or with a salvage. The answers are proved through the
+-- theorem, from the rows of K5, with the tiers 3, 0 and 7, and K6 of layout/specs/Board.antt. Assumes nothing.
 use Prim.Native.Nat.{ℕ}
 use mathlib.Core.Path.{_≡_, refl, sym, _∙_, ap}
 use mathlib.Core.Bool.{true}
@@ -20,6 +20,7 @@ use Rattle.hashing.specs.Answer.{hashes-refusal, hashes-values}
 use Rattle.hashing.specs.Slots.{slot-0, slot-1}
 use Rattle.layout.specs.Entries.{Entry, keys-of, tier-of}
 use Rattle.layout.specs.Layout.{Params, another-issue, family, sizes-in-range, params-in-range, shaped, stash-of, fits, image, place-words, place-entries, tier-in}
+use Rattle.layout.specs.Layout.{slot-spots}
 use Rattle.layout.specs.Answers.{view-refusal, view-of, fresh-refusal, fresh-words}
 use Rattle.layout.specs.Fitting.{without-valid, without-fits}
 use Rattle.layout.specs.Look.{image-view}
@@ -34,8 +35,10 @@ use Rattle.outcome.specs.Held.{Holds}
 use Rattle.bulk.specs.Bulk.{params-for, input-set, bulk-refusal, bulk-outcome}
 use Rattle.bulk.specs.Input.{input-of}
 use Rattle.bulk.specs.Laws.{bulk-holds}
+use Rattle.survivors.specs.Salvage.{salvage-outcome}
+use Rattle.survivors.specs.Laws.{alike-survivors, salvage-by-spots, held-survivors, untampered-number, untampered-target}
 use Rattle.history.specs.Calls.{own, wrong, Call, Answer, Step, step, run, words-after, words-left}
-use Rattle.history.specs.Calls.{refused, unchanged, Allowed, none, more, laid, loaded, Sequence}
+use Rattle.history.specs.Calls.{refused, unchanged, Allowed, none, more, laid, loaded, salvaged, Sequence}
 use Rattle.history.specs.Model.{Request, requests, Reply, reply, model, set-after, set-left}
 use Rattle.history.specs.History.{history}
 use Rattle.history.specs.NoTrace.{ComesToFull, step-after, NoTrace, part, alike-self, no-trace}
@@ -404,6 +407,32 @@ loaded-set =
 
 pub same-as-loaded : words-left P fresh calls ≡ words-left P words loaded-calls
 same-as-loaded = leaves-no-trace .same-words loaded-sequence .1 (set-is ∙ sym loaded-set)
+
+-- a salvage
+
+-- The counts of K5's heading are damaged. A salvage over words that were all 7 brings the list back,
+abbrev pub wet-words : List ℕ
+wet-words = 4 ∷ 1 ∷ 99 ∷ 77 ∷ 0 ∷ drop 5 words
+
+pub salvage-says : let o = salvage-outcome board-tabulation wet-words (replicate 31 7) scratch in
+    (o .number ≡ done) × (o .target ≡ words)
+unfolding slot-spots place-entries
+salvage-says =
+    let s = salvage-by-spots board-tabulation wet-words words refl refl refl (replicate 31 7) scratch in (
+      s .0 ∙ untampered-number held-K5 board-length (replicate 31 7) scratch refl (omega arith),
+      s .2 ∙ untampered-target held-K5 board-length (replicate 31 7) scratch refl (omega arith),
+    )
+
+-- and the sequence that started with a bulk load may start with this salvage as well.
+pub salvaged-sequence : Sequence P set-K5 words loaded-calls
+unfolding slot-spots place-entries
+salvaged-sequence = record {
+  full-length = board-length;
+  start = salvaged wet-words (replicate 31 7) scratch refl (salvage-says .0)
+      (sym (alike-survivors board-tabulation wet-words words refl refl refl ∙ held-survivors held-K5))
+      (sym (salvage-says .1));
+  allowed = more tt (more tt none);
+}
 
 -- a sale
 

@@ -1,7 +1,8 @@
 -- What damage can do: the words of a list were changed in k words, and neither r nor s nor the station among them. A card
 -- that stands where nothing was changed survives, if nothing else was written with its first part
 -- (`untouched-survives`). At most k survivors are new, at most k first parts are gone, and so at most 2k cards of the
--- old list no longer stand (`few-new`, `few-parts-gone`, `few-gone`). Assumes nothing.
+-- old list no longer stand (`few-new`, `few-parts-gone`, `few-gone`); at most k are told as lost (`few-lost`). Assumes
+-- nothing.
 use Prim.Native.Nat.{ℕ, zero, suc, _+_, _*_, _-_, _/_, _≤_, _<_}
 use mathlib.Core.Path.{_≡_, refl, sym, _∙_, ap}
 use mathlib.Core.Bool.{Bool, true, false, not, cond, _&&_, true≢false}
@@ -92,9 +93,9 @@ place-words-at ws i l =
     place-at-entry (places-of ws) (drop a ws) i l
     ∙ (rw (getD-drop a ws (place-width * i) 0, getD-drop a ws (place-width * i + 1) 0, e))
 
--- Two lists of one shape.
+-- Words that hold a set, and others with the same r, s and station.
 module _ {P : Params} {L : List Entry} {ws : List ℕ} (h : Holds P L ws) (vs : List ℕ)
-    (long : length vs ≡ length ws) (same : params-of (P .tabulation) vs ≡ P) where
+    (same : params-of (P .tabulation) vs ≡ P) where
   abbrev t : List ℕ
   t = P .tabulation
 
@@ -263,7 +264,8 @@ module _ {P : Params} {L : List Entry} {ws : List ℕ} (h : Holds P L ws) (vs : 
             ∙ not-true _ (keep-test p (survivors t vs) (r .1))),
       )
 
-  pub few-new : length new ≤ length (changed-words ws vs)
+  -- "add": the survivors that the old list did not have with this tier,
+  pub few-new : length (keep (λ e. not (entry-listed L e)) (survivors t vs)) ≤ length (changed-words ws vs)
   few-new =
       by-places new (keep-asc (λ e. not (entry-listed L e)) (survivors t vs) (survivors-valid t vs .keys .asc))
       (λ c. standing X c .at)
