@@ -100,8 +100,7 @@ places-next ps count i l =
       f,
       ← drop-drop place-width (place-width * i) ps,
       getD-drop (place-width * i) ps 0 0,
-      getD-drop
-          (place-width * i) ps 1 0,
+      getD-drop (place-width * i) ps 1 0,
       g,
     )
 

@@ -153,9 +153,7 @@ module _ (zs scratch : List ℕ) (n : ℕ) (room : n < length scratch) (gathered
         rw (
           front-split n scratch zs gathered .0,
           add-one k,
-          take-append-le k ys
-              (drop (length scratch - 1) (drop 1 scratch)) few,
-        )
-            (ap (λ (l : List ℕ). 0 ∷ l) (f ∙ g)),
+          take-append-le k ys (drop (length scratch - 1) (drop 1 scratch)) few,
+        ) (ap (λ (l : List ℕ). 0 ∷ l) (f ∙ g)),
         c ∙ ap length g,
       )

@@ -76,8 +76,7 @@ hopeless-test tabulation ws e g =
       any-counted (counts F) (spots ws),
       e,
       g,
-      not-not
-          (eqb (length (keep (counts F) (spots ws))) 0),
+      not-not (eqb (length (keep (counts F) (spots ws))) 0),
     )
 
 -- how many are lost
@@ -208,8 +207,7 @@ module _ (tabulation ws target scratch : List ℕ) where
         sym a,
         (
           sym (salvage-told tabulation ws target scratch a),
-          sym
-              (salvage-done tabulation ws target scratch a),
+          sym (salvage-done tabulation ws target scratch a),
         ),
       )
 

@@ -166,14 +166,12 @@ module _ (P : Params) (L : List Entry) (fit : fits P (keys-of L) ≡ true) (vali
         | here q ↦ (
           slot-spot ws (slot-0 F c),
           slot-in-spots ws (slot-0 F c) (omega (arith, slot-0-lt F some c)),
-          sym
-              (ap (λ (e : Entry). e .key) q) ∙ r .2,
+          sym (ap (λ (e : Entry). e .key) q) ∙ r .2,
         )
         | there (here q) ↦ (
           slot-spot ws (slot-1 F c),
           slot-in-spots ws (slot-1 F c) (slot-1-lt F some c),
-          sym
-              (ap (λ (e : Entry). e .key) q) ∙ r .2,
+          sym (ap (λ (e : Entry). e .key) q) ∙ r .2,
         )
         | there (there k) ↦
             let w = entry-at (stash-entries ws) k in (

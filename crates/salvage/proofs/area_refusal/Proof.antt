@@ -45,8 +45,7 @@ returns-4 c =
     rw (
       eq-eqb _ _ (e .before .before .before .if1 .left),
       is-formed (e .before),
-      eq-eqb _ _
-          (e .if3 .left),
+      eq-eqb _ _ (e .if3 .left),
       lt-ltb _ _ short,
     )
 
@@ -59,8 +58,7 @@ returns-5 c =
     rw (
       eq-eqb _ _ (e .before .before .before .if1 .left),
       is-formed (e .before),
-      eq-eqb _ _
-          (e .if3 .left),
+      eq-eqb _ _ (e .if3 .left),
       le-ltb _ _ long,
     )
 
