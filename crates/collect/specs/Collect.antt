@@ -9,7 +9,7 @@ use native.Mathlib.Nat.{le-refl, add-zero}
 use native.Mathlib.Numerals.{add-one}
 use native.Mathlib.Omega.{arith}
 use lib.ListN.{length, getD, set, take, drop, length-append, length-take}
-use lib.Seq.{getD-drop, drop-drop, take-suc-set, take-set-le, take-take, take-append-le}
+use lib.Seq.{getD-drop, drop-drop, take-suc-set, take-set-le, take-take, take-append-le, length-take-le}
 use borrow.Rule.Slice.PartMut.{midOf, putMid}
 use Rattle.basics.specs.Tests.{test, zero-one}
 use Rattle.basics.specs.Sets.{keep, length-keep}
@@ -62,6 +62,20 @@ pub gathered-word : (t : Bool) (scratch : List ℕ) (end word : ℕ) (more : Lis
 gathered-word true scratch end word more h =
     rw (add-one end, take-suc-set) (sym (append-assoc (take end scratch) (word ∷ []) more))
 gathered-word false scratch end word more h = rw (add-zero, take-set-le end scratch end word (le-refl end))
+
+-- where such a loop ends: what is gathered, and how many words that is
+pub gathered-ends : (before after xs : List ℕ) {n end : ℕ} → take n before ++ xs ≡ take end after → n ≤ length before
+    → end ≤ length after → (take end after ≡ take n before ++ xs) × (end ≡ n + length xs)
+gathered-ends before after xs {n} {end} e l m = (
+  sym e,
+  omega (
+    arith,
+    ap length e,
+    length-append (take n before) xs,
+    length-take-le n before l,
+    length-take-le end after m,
+  ),
+)
 
 module _ (ws : List ℕ) (step at left : ℕ) (l : 0 < left) where
   pub picked-next : picked ws at step left ≡ getD ws at 0 ∷ picked ws (at + step) step (left - 1)

@@ -1,5 +1,6 @@
 -- Salvage at work on document 01's board, each card multiplied by ten: every row gives itself and 0; damaged words with
--- what survives, how many are lost and the answer, by computation; and the bounds of Damage are reached. Assumes nothing.
+-- what survives, how many are lost and the answer, by computation; one word reaches what Damage says of cards. Assumes
+-- nothing.
 use Prim.Native.Nat.{ℕ, _≤_}
 use mathlib.Core.Path.{_≡_, refl, sym}
 use mathlib.Core.Bool.{Bool, true, not, _&&_}
@@ -139,7 +140,7 @@ pub salvage-rows : T (all rows)
 unfolding survivors counting standing lost-in salvage-refusal same sorted put distinct blank shaped params-in-range sizes-in-range slots-in-range station-in-range place-entries slot-spots hash board-tabulation
 salvage-rows = tt
 
--- One changed word can do all that Damage allows: two cards no longer stand, one first part is gone, and one card is new.
+-- One changed word reaches what Damage says of cards: two no longer stand, one first part is gone, and one card is new.
 pub bounds-reached :
     let L = survivors board-tabulation wet-k4 in
     (length (changed-words k4 wet-k4) ≡ 1)

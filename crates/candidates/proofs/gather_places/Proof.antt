@@ -1,11 +1,11 @@
 -- `candidates::gather_places` meets its contract: as `gather_slots`, over the places that are left.
 use Prim.Native.Nat.{_≤_, _-_, _+_}
-use mathlib.Core.Path.{_≡_, refl, sym, _∙_, ap}
+use mathlib.Core.Path.{_≡_, refl, _∙_}
 use native.Mathlib.Omega.{arith}
-use lib.ListN.{length, take, length-set, length-append}
-use lib.Seq.{length-take-le}
+use lib.ListN.{length, length-set}
 use Rattle.layout.specs.Layout.{place-entries}
 use Rattle.candidates.specs.Candidates.{places-counting, places-start, places-sifted, places-sift, places-end}
+use Rattle.collect.specs.Collect.{gathered-ends}
 use borrow.Author.Needs.{needs}
 use Rattle.candidates.proofs.gather_places.Statement.{statement}
 use Rattle.candidates.proofs.gather_places.Tie as tie
@@ -93,16 +93,8 @@ returns c =
     let e = l .loop .inv .3
     ∙ places-end (a .places .now) (l .loop .scratch) (l .loop .end) (a .count) (l .loop .i) (omega arith) in
     let f = rw (places-start (a .places .now) (a .count)) at e in
-    let xs = places-counting (place-entries (a .count) (a .places .now)) in (
-      sym f,
-      omega (
-        arith,
-        ap length f,
-        length-append (take (a .n) (a .scratch .now)) xs,
-        length-take-le (a .n) (a .scratch .now) (omega arith),
-        length-take-le (l .loop .end) (l .loop .scratch) (omega arith),
-      ),
-    )
+    let xs = places-counting (place-entries (a .count) (a .places .now)) in
+    gathered-ends (a .scratch .now) (l .loop .scratch) xs f (omega arith) (omega arith)
 
 pub gather-places-spec : {M : Type 1} → statement M
 gather-places-spec =

@@ -1,12 +1,12 @@
 -- `candidates::gather_slots` meets its contract: what is gathered and what is still to be gathered are together what is
 -- to be gathered from the start.
 use Prim.Native.Nat.{_≤_, _-_, _+_}
-use mathlib.Core.Path.{_≡_, refl, sym, _∙_, ap}
+use mathlib.Core.Path.{_≡_, refl, _∙_}
 use native.Mathlib.Omega.{arith}
-use lib.ListN.{length, take, length-set, length-append}
-use lib.Seq.{length-take-le}
+use lib.ListN.{length, length-set}
 use Rattle.hashing.specs.Hash.{tables}
 use Rattle.candidates.specs.Candidates.{slots-counting, slots-sifted, slots-sift, slots-end}
+use Rattle.collect.specs.Collect.{gathered-ends}
 use borrow.Author.Needs.{needs}
 use Rattle.candidates.proofs.gather_slots.Statement.{statement}
 use Rattle.candidates.proofs.gather_slots.Tie as tie
@@ -88,16 +88,8 @@ returns c =
     ∙ slots-end F (a .words .now) (l .loop .scratch) (l .loop .end) (l .loop .v) (a .r + a .r) (omega arith) in
     let z : a .r + a .r - 0 ≡ a .r + a .r = omega arith in
     let f = rw z at e in
-    let xs = slots-counting F (a .words .now) 0 (a .r + a .r) in (
-      sym f,
-      omega (
-        arith,
-        ap length f,
-        length-append (take 1 (a .scratch .now)) xs,
-        length-take-le 1 (a .scratch .now) (omega arith),
-        length-take-le (l .loop .end) (l .loop .scratch) (omega arith),
-      ),
-    )
+    let xs = slots-counting F (a .words .now) 0 (a .r + a .r) in
+    gathered-ends (a .scratch .now) (l .loop .scratch) xs f (omega arith) (omega arith)
 
 pub gather-slots-spec : {M : Type 1} → statement M
 gather-slots-spec =

@@ -1,13 +1,12 @@
 -- `gather` meets its contract. The invariant: what is gathered, and what is still to be gathered, are together what is to be gathered from the start;
 -- the words that are left lie inside, and scratch has room for them. Assumes nothing.
 use borrow.Author.Needs.{needs}
-use mathlib.Core.Path.{_≡_, refl, sym, _∙_, ap}
+use mathlib.Core.Path.{_≡_, refl, _∙_}
 use Prim.Native.Nat.{_≤_, _+_, _*_}
 use native.Mathlib.Omega.{arith}
-use lib.ListN.{length, take, length-set, length-append}
-use lib.Seq.{length-take-le}
+use lib.ListN.{length, length-set}
 use Rattle.records.specs.Columns.{picked, left-next}
-use Rattle.collect.specs.Collect.{non-blank, gathering, gathering-step, gathering-end}
+use Rattle.collect.specs.Collect.{non-blank, gathering, gathering-step, gathering-end, gathered-ends}
 use Rattle.collect.proofs.gather.Statement.{statement}
 use Rattle.collect.proofs.gather.Tie as tie
 
@@ -84,16 +83,8 @@ returns c =
     let a = start (c .before) .args in
     let l = c .before .loop in
     let e = l .inv .3 ∙ gathering-end (a .words .now) (a .step) (l .scratch) (l .end) (l .at) (l .left) (omega arith) in
-    let xs = non-blank (picked (a .words .now) (a .from) (a .step) (a .count)) in (
-      sym e,
-      omega (
-        arith,
-        ap length e,
-        length-append (take (a .n) (a .scratch .now)) xs,
-        length-take-le (a .n) (a .scratch .now) (omega arith),
-        length-take-le (l .end) (l .scratch) (omega arith),
-      ),
-    )
+    let xs = non-blank (picked (a .words .now) (a .from) (a .step) (a .count)) in
+    gathered-ends (a .scratch .now) (l .scratch) xs e (omega arith) (omega arith)
 
 pub gather-spec : {M : Type 1} → statement M
 gather-spec =
