@@ -14,6 +14,8 @@
  * PINORANGE_FIRST_PART(key), and another digit. A set has at most one issue of each first part, and keys below 10,
  * which have none, are blank. Issues of one first part have the same two slots. Every call means the exact key.
  *
+ * Cards that were reported stolen have a list of their own, with its calls in pinorange_stolen.h.
+ *
  * The station number, 0 to PINORANGE_MAX_STATION, is given when a dictionary is laid (init, bulk load) and stands in
  * its words (word 4). It has a part in where every key sits, so that a fleet which crowds the slots at one station is
  * spread otherwise at the next. Every other call takes it from the words. Two dictionaries of one set, with one
@@ -93,10 +95,10 @@ extern "C" {
 #endif
 
 /* The other numbers that a call answers. A call tries those that it can give in the order 1, 2, 3, 4, 5, 9, 14, 13, 10,
- * 6, 7, 11, 12, 8, 15; only the opening of a sale tries 4 behind 7. Of a call on words, PINORANGE_WRONG_SHAPE (2) says:
- * there are fewer than 5 words, word 0 (r) is not 1 to 1,024, word 1 (s) is above 64, word 4 (the station) is above
- * 255, or there are not PINORANGE_WORDS(r, s). Init and bulk load, which are given r, s and station, say what it is
- * there, and salvage what it is of its target. */
+ * 6, 16, 7, 11, 12, 8, 15; only the opening of a sale tries 4 behind 7. Of a call on words, PINORANGE_WRONG_SHAPE (2)
+ * says: there are fewer than 5 words, word 0 (r) is not 1 to 1,024, word 1 (s) is above 64, word 4 (the station) is
+ * above 255, or there are not PINORANGE_WORDS(r, s). Init and bulk load, which are given r, s and station, say what it
+ * is there, salvage what it is of its target, and the calls of pinorange_stolen.h what it is of their words. */
 #define PINORANGE_SHORT_SCRATCH 3u /* the scratch is shorter than PINORANGE_SCRATCH(r, s) */
 #define PINORANGE_NOT_CANONICAL 4u /* under the lent tabulation the words are the canonical image of no set; of a sale:
                                     * the tier found is above 7 */
@@ -105,7 +107,8 @@ extern "C" {
 #define PINORANGE_OTHER_ISSUE 13u  /* insert of a key of which the set has another issue, which stays; bulk load: the
                                     * input has two issues of one first part */
 #define PINORANGE_OTHER_TIER 10u   /* insert of a key that is in the set with another tier, which it keeps */
-#define PINORANGE_KEY_PRESENT 6u   /* insert of a key that is in the set with this tier */
+#define PINORANGE_KEY_PRESENT 6u   /* insert of a key that is in the set with this tier, or in the set of stolen ones */
+#define PINORANGE_TABLE_FULL 16u   /* insert into a stolen-card list (pinorange_stolen.h): every slot is filled */
 #define PINORANGE_KEY_ABSENT 7u    /* remove or trail of a key that is not in the set, sale of one that is not found */
 #define PINORANGE_SHORT_TRAIL 11u  /* the trail has more keys than `trail_length` */
 #define PINORANGE_WRONG_PRICE 12u  /* sale: base or a step outside its range, not eight steps, or a price below 1 */

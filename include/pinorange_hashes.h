@@ -17,9 +17,9 @@ extern "C" {
 /* The version of the library and of the layout of the words: the text, and its three numbers for #if. Words are read by
  * libraries with the same first number alone: lay a list afresh when it changes, and do not mix heads whose first
  * numbers differ. CHANGELOG.md says what each version changes. */
-#define PINORANGE_VERSION "4.4.0"
+#define PINORANGE_VERSION "4.5.0"
 #define PINORANGE_VERSION_MAJOR 4
-#define PINORANGE_VERSION_MINOR 4
+#define PINORANGE_VERSION_MINOR 5
 #define PINORANGE_VERSION_PATCH 0
 
 /* What was compiled with a header of another first number does not link: each call brings a reference to a symbol with

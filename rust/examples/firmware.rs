@@ -9,8 +9,8 @@ use pinorange::{
     bulk_load, cards, check, close_sale, hashes, house, init, insert, lookup, open_sale,
 };
 use pinorange::{first_part, place_start, scratch_length, slot_start, words_length};
-use pinorange::{remove, salvage, stash, trail};
-use pinorange::{Counters, List, Refusal, Scratch, STEPS, TABULATION_LENGTH};
+use pinorange::{remove, salvage, stash, stolen_init, stolen_insert, stolen_lookup, trail};
+use pinorange::{Counters, List, Refusal, Scratch, StolenList, STEPS, TABULATION_LENGTH};
 
 /// Where a head shows a key and a number.
 type Show = fn(u32, u32);
@@ -141,6 +141,30 @@ pub fn over_slices(
     Ok(open_sale(tabulation, words, 410_010, 1_749, &[0; STEPS])?.price)
 }
 
+/// Lays a stolen-card list, reports a card and asks for it, and takes the words up again.
+#[no_mangle]
+pub fn stolen_cards(
+    tabulation: &[u16; TABULATION_LENGTH],
+    words: &mut [u32],
+    station: u32,
+    show: Show,
+) -> Result<(), Refusal> {
+    let mut stolen = StolenList::init(tabulation, words, station)?;
+    stolen.insert(410_017)?;
+    show(410_017, stolen.is_reported(410_017)?.into());
+    let mut stolen = StolenList::open(tabulation, words, station)?;
+    stolen.check()?;
+    for key in stolen.cards() {
+        show(key, stolen.station());
+    }
+    show(stolen.slots() as u32, stolen.len() as u32);
+    show(stolen.is_empty().into(), stolen.words().len() as u32);
+    stolen_init(words)?;
+    stolen_insert(tabulation, words, station, 410_018)?;
+    show(410_018, stolen_lookup(tabulation, words, station, 410_018)?.into());
+    Ok(())
+}
+
 /// What a till needs, and the lengths of sizes that are not known before.
 #[no_mangle]
 pub fn places_of(tabulation: &[u16], r: u32, s: u32, key: u32, show: Show) -> Result<(), Refusal> {
@@ -152,11 +176,17 @@ pub fn places_of(tabulation: &[u16], r: u32, s: u32, key: u32, show: Show) -> Re
     Ok(())
 }
 
-/// A refusal in words, and a list and a scratch for a log.
+/// A refusal in words, and lists and a scratch for a log.
 #[no_mangle]
-pub fn logged(log: &mut dyn Write, refusal: u32, list: &List, scratch: &Scratch) -> Written {
+pub fn logged(
+    log: &mut dyn Write,
+    refusal: u32,
+    list: &List,
+    scratch: &Scratch,
+    stolen: &StolenList,
+) -> Written {
     if let Some(refusal) = Refusal::of(refusal) {
         write!(log, "{}: {refusal}, {refusal:?}", refusal.number())?;
     }
-    write!(log, "{list:?}, {scratch:?}")
+    write!(log, "{list:?}, {scratch:?}, {stolen:?}")
 }

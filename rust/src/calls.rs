@@ -1,5 +1,6 @@
-//! The calls on a list in the form that C has, safe: slices in, a `Result` out. `pinorange.h` says what each promises;
-//! here stands in which form it comes to Rust. [`List`](crate::List) calls these and no others.
+//! The calls on a list in the form that C has, safe: slices in, a `Result` out. `pinorange.h` and `pinorange_stolen.h`
+//! say what each promises; here stands in which form it comes to Rust. [`List`](crate::List) and
+//! [`StolenList`](crate::StolenList) call these and no others.
 //!
 //! Why they are safe: the library's calls are proved to read and write nothing outside the memory that they are lent,
 //! for every content and length, and to return. They ask for pointers that are not null, aligned, valid for their
@@ -327,6 +328,71 @@ pub fn close_sale(sale: &Sale) -> u32 {
 pub fn house(tabulation: &mut [u16]) -> Result<(), Refusal> {
     // Safe: the tabulation is lent for this call alone, and it is proved to touch nothing else.
     done(unsafe { raw::pinorange_house(tabulation.as_mut_ptr(), tabulation.len()) })
+}
+
+/// Lays an empty stolen-card list: the words, one for each slot, become zeros.
+///
+/// # Errors
+///
+/// `WrongShape`: there are not 1 to [`MAX_SLOTS`](crate::MAX_SLOTS) words, and the words stay as they were.
+#[inline]
+pub fn stolen_init(words: &mut [u32]) -> Result<(), Refusal> {
+    // Safe: the words are lent for this call alone, and it is proved to touch nothing else.
+    done(unsafe { raw::pinorange_stolen_init(words.as_mut_ptr(), words.len()) })
+}
+
+/// Puts a key into a stolen-card list, at the station that the list is for. Issues are keys of their own here.
+///
+/// A key below 10 tells whether the words are the image of a set: they stay, and the refusal is `BlankKey` if they are,
+/// and `NotCanonical` if not. [`StolenList::open`](crate::StolenList::open) asks that.
+///
+/// # Errors
+///
+/// In this order, and the words stay as they were: `WrongTabulation`; `WrongShape` (there are not 1 to
+/// [`MAX_SLOTS`](crate::MAX_SLOTS) words, or the station is outside its range); `NotCanonical`, `BlankKey`,
+/// `KeyPresent`, `TableFull`.
+///
+/// ```
+/// use pinorange::{Refusal, TABULATION_LENGTH};
+///
+/// let (mut tabulation, mut words) = ([0; TABULATION_LENGTH], [0; 16]);
+/// pinorange::house(&mut tabulation)?;
+/// pinorange::stolen_init(&mut words)?;
+/// pinorange::stolen_insert(&tabulation, &mut words, 17, 410_017)?;
+/// assert_eq!(pinorange::stolen_lookup(&tabulation, &words, 17, 410_017), Ok(true));
+/// assert_eq!(pinorange::stolen_lookup(&tabulation, &words, 17, 410_018), Ok(false));
+/// let again = pinorange::stolen_insert(&tabulation, &mut words, 17, 410_017);
+/// assert_eq!(again, Err(Refusal::KeyPresent));
+/// # Ok::<(), Refusal>(())
+/// ```
+#[inline]
+#[rustfmt::skip]
+pub fn stolen_insert(tabulation: &[u16], words: &mut [u32], station: u32, key: u32) -> Result<(), Refusal> {
+    // Safe: both are lent for this call alone and lie apart, and it is proved to touch nothing else.
+    done(unsafe {
+        raw::pinorange_stolen_insert(
+            tabulation.as_ptr(), tabulation.len(), words.as_mut_ptr(), words.len(), station, key,
+        )
+    })
+}
+
+/// Whether a key is in a stolen-card list, this issue of it. On words that are no image it may miss one that stands in
+/// them.
+///
+/// # Errors
+///
+/// In this order: `WrongTabulation`, `WrongShape` as for [`stolen_insert`], `BlankKey`.
+#[inline]
+#[rustfmt::skip]
+pub fn stolen_lookup(tabulation: &[u16], words: &[u32], station: u32, key: u32) -> Result<bool, Refusal> {
+    let mut reported = 0;
+    // Safe: both are lent for this call, and it is proved to write nothing but the number, this function's own.
+    done(unsafe {
+        raw::pinorange_stolen_lookup(
+            tabulation.as_ptr(), tabulation.len(), words.as_ptr(), words.len(), station, key, &mut reported,
+        )
+    })?;
+    Ok(reported == 1)
 }
 
 /// The part of lent memory that a call named. The library is proved to name none that is not there; one of another

@@ -1,8 +1,9 @@
 //! The card list of a fuel-pump head for Rust: a dictionary in lent memory whose words are a function of the set alone.
 //!
-//! The calls are those of a proved library (`libpinorange.a`). `pinorange.h` and `pinorange_hashes.h` are the full text
-//! of what each promises; here is what Rust adds: a `List` that keeps the lent memory together, a `Result` for a
-//! number, and a [`Refusal`] with a name. The crate allocates nothing, keeps no state and never panics.
+//! The calls are those of a proved library (`libpinorange.a`). `pinorange.h`, `pinorange_stolen.h` and
+//! `pinorange_hashes.h` are the full text of what each promises; here is what Rust adds: a `List` and a `StolenList`
+//! that keep the lent memory together, a `Result` for a number, and a [`Refusal`] with a name. The crate allocates
+//! nothing, keeps no state and never panics.
 //!
 #![cfg_attr(feature = "list", doc = "```")]
 #![cfg_attr(not(feature = "list"), doc = "```text")]
@@ -36,6 +37,7 @@
 //! - The caller lends a tabulation of [`TABULATION_LENGTH`] entries, words and scratch. All lengths are constants, so
 //!   that the memory may be arrays in a `static`.
 //! - A call either is done and gives `Ok`, or is refused and leaves the words as they were.
+//! - Cards that were reported stolen have a list of their own, a `StolenList`, in words of its own.
 //! - The functions are the same calls over slices, one for each of C's, and `List` is thin over them. [`raw`] has the
 //!   calls as C has them, and no other part of the crate has anything unsafe but to call these.
 //!
@@ -89,6 +91,8 @@ mod records;
 mod scratch;
 #[cfg(feature = "list")]
 mod sizes;
+#[cfg(feature = "list")]
+mod stolen_list;
 
 pub use hashing::{first_part, hashes, MAX_SLOTS, MAX_STATION, TABULATION_LENGTH, VERSION};
 pub use refusal::Refusal;
@@ -96,7 +100,7 @@ pub use refusal::Refusal;
 #[cfg(feature = "list")]
 pub use calls::{
     bulk_load, check, close_sale, house, init, insert, lookup, open_sale, remove, salvage, stash,
-    trail,
+    stolen_init, stolen_insert, stolen_lookup, trail,
 };
 #[cfg(feature = "list")]
 pub use cards::cards;
@@ -111,3 +115,5 @@ pub use sizes::{
     place_start, scratch_length, slot_start, words_length, HEADER_LENGTH, MAX_BASE, MAX_PLACES,
     MAX_STEP, MAX_TIER, STEPS,
 };
+#[cfg(feature = "list")]
+pub use stolen_list::StolenList;

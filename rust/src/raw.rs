@@ -1,4 +1,5 @@
-//! The calls as C has them: the declarations of `pinorange_hashes.h` and `pinorange.h`, which say what each promises.
+//! The calls as C has them: the declarations of `pinorange_hashes.h`, `pinorange.h` and `pinorange_stolen.h`, which say
+//! what each promises.
 //!
 //! What the caller sees to: no pointer is null (a length of 0 needs one, too), pointers are aligned and valid for their
 //! lengths, and no two lent pieces of memory overlap. The functions of the same names in this crate see to it.
@@ -79,4 +80,19 @@ extern "C" {
 
     /// Writes the house tabulation. 0, or 1.
     pub fn pinorange_house(tabulation: *mut u16, tabulation_length: usize) -> u32;
+
+    /// Lays an empty stolen-card list. 0, or 2.
+    pub fn pinorange_stolen_init(words: *mut u32, words_length: usize) -> u32;
+
+    /// Puts a key into a stolen-card list. 0, or the first that applies of 1, 2, 4, 5, 6, 16.
+    pub fn pinorange_stolen_insert(
+        tabulation: *const u16, tabulation_length: usize, words: *mut u32, words_length: usize,
+        station: u32, key: u32,
+    ) -> u32;
+
+    /// Whether a key is in a stolen-card list. 0, or the first that applies of 1, 2, 5.
+    pub fn pinorange_stolen_lookup(
+        tabulation: *const u16, tabulation_length: usize, words: *const u32, words_length: usize,
+        station: u32, key: u32, reported: *mut u32,
+    ) -> u32;
 }

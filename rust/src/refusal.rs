@@ -19,7 +19,7 @@ pub enum Refusal {
     NotCanonical,
     /// 5: the key, or one of a bulk load's input, is below 10.
     BlankKey,
-    /// 6: the key is in the set, with this tier.
+    /// 6: the key is in the set, with this tier; of a stolen-card list: it is in the set.
     KeyPresent,
     /// 7: the key is not in the set.
     KeyAbsent,
@@ -39,6 +39,8 @@ pub enum Refusal {
     NotRising,
     /// 15: some slot or stash place of the words to salvage holds a number other than 0, yet no key counts.
     NoneCounts,
+    /// 16: every slot of the stolen-card list is filled, and the key is not in it.
+    TableFull,
     /// A number that this version does not know: the crate is linked with a library of another version. With 0 such a
     /// library said that it is done, but named a part of the lent memory that is not there.
     Unknown(u32),
@@ -65,6 +67,7 @@ impl Refusal {
             13 => Refusal::OtherIssue,
             14 => Refusal::NotRising,
             15 => Refusal::NoneCounts,
+            16 => Refusal::TableFull,
             _ => Refusal::Unknown(number),
         })
     }
@@ -88,6 +91,7 @@ impl Refusal {
             Refusal::OtherIssue => 13,
             Refusal::NotRising => 14,
             Refusal::NoneCounts => 15,
+            Refusal::TableFull => 16,
             Refusal::Unknown(number) => number,
         }
     }
@@ -111,6 +115,7 @@ impl fmt::Display for Refusal {
             Refusal::OtherIssue => "another issue of the key is listed",
             Refusal::NotRising => "the keys do not rise, or the last has no tier",
             Refusal::NoneCounts => "no key of the damaged words counts",
+            Refusal::TableFull => "the stolen-card list has no empty slot",
             Refusal::Unknown(number) => {
                 return write!(f, "the library answered {number}, which this crate does not know");
             }
@@ -136,8 +141,8 @@ mod tests {
     #[test]
     fn any_number_is_an_answer() {
         assert_eq!(done(0), Ok(()));
-        assert_eq!(done(15), Err(Refusal::NoneCounts));
-        for number in [16, 256, u32::MAX] {
+        assert_eq!(done(16), Err(Refusal::TableFull));
+        for number in [17, 256, u32::MAX] {
             assert_eq!(done(number), Err(Refusal::Unknown(number)));
         }
     }

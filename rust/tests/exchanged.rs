@@ -20,15 +20,18 @@ pub fn head(other_words: &mut [u32; 300], keys: &mut [u32]) -> Result<(), Refusa
     let (mut scratch, mut other) = (Scratch::<[u32; 300]>::new(), Scratch::<[u32; 300]>::new());
     house(&mut tabulation)?;
     let mut list = List::init(&tabulation, &mut words, 16, 2, 17, &mut counters)?;
+    let mut stolen_words = [0; 64];
+    let mut stolen = StolenList::init(&tabulation, &mut stolen_words, 17)?;
 ";
 const AFTER: &str = "
     list.check(&mut scratch)?;
+    stolen.check()?;
     Ok(())
 }
 ";
 
 /// Lines that are right: each call that takes words or scratch, and a list that two threads read.
-const RIGHT: [&str; 10] = [
+const RIGHT: [&str; 14] = [
     "list.insert(&mut scratch, 410_017, 3)?;",
     "list.remove(&mut scratch, 410_017)?;",
     "list.check(&mut scratch)?;",
@@ -39,10 +42,14 @@ const RIGHT: [&str; 10] = [
     "List::salvage(&tabulation, other_words, &mut other, &mut other_counters, keys)?;",
     "List::salvage(&tabulation, other_words, &mut other, &mut other_counters, list.words())?;",
     "fn may_be_shared<T: Send + Sync>(_: &T) {} may_be_shared(&list);",
+    "fn may_be_shared<T: Send + Sync>(_: &T) {} may_be_shared(&stolen);",
+    "stolen.insert(410_017)?;",
+    "StolenList::init(&tabulation, other_words, 17)?;",
+    "StolenList::open(&tabulation, other_words, 17)?;",
 ];
 
 /// Lines that are wrong, with the compiler's number of what is.
-const WRONG: [(&str, &str); 24] = [
+const WRONG: [(&str, &str); 30] = [
     ("list.insert(other_words, 410_017, 3)?;", "E0308"),
     ("list.remove(other_words, 410_017)?;", "E0308"),
     ("list.check(other_words)?;", "E0308"),
@@ -70,6 +77,13 @@ const WRONG: [(&str, &str); 24] = [
     ("words[0] = 1;", "E0506"),
     ("tabulation[0] = 1;", "E0506"),
     ("counters.done = 0;", "E0506"),
+    // A stolen-card list in scratch, over the words of a list, and over its own; and its words written.
+    ("StolenList::init(&tabulation, &mut other, 17)?;", "E0308"),
+    ("StolenList::open(&tabulation, &mut other, 17)?;", "E0308"),
+    ("StolenList::init(&tabulation, &mut words, 17)?;", "E0499"),
+    ("StolenList::open(&tabulation, &mut stolen_words, 17)?;", "E0499"),
+    ("stolen_words[0] = 1;", "E0506"),
+    ("stolen.remove(410_017)?;", "E0599"),
 ];
 
 /// The errors that the compiler finds in the program with this line: the line of each in the program, and its number.
