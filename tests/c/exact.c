@@ -3,9 +3,10 @@
  * that were not either. Run under a memory checker (tests/run does) it shows what no comparison of words can: that
  * nothing is read or written outside the lent ends, that no answer and no word depends on what the scratch, the target
  * or the record held, nor those of a salvage on the counts and the next numbers of its words, and that a bulk load and
- * a salvage write every word of their target, a trail every word of its sheet, and an opening every field of its record.
- * Exits with 0 when the answers, the trails, the prices and the lists are as expected, too. */
-#include "pinorange.h"
+ * a salvage write every word of their target, a trail every word of its sheet, and an opening every field of its
+ * record; and so of stolen-card lists. Exits with 0 when the answers, the trails, the prices and the lists are as
+ * expected, too. */
+#include "pinorange_stolen.h"
 
 #include <stdio.h>
 #include <stdlib.h>
@@ -778,6 +779,98 @@ static void lengths(uint32_t r, uint32_t s, uint32_t station)
         }
 }
 
+/* A lookup in a stolen-card list over a number that was never written, if it is to be done, or one that must stay. */
+static void expect_reported(const struct board *board, uint32_t station, uint32_t key, uint32_t wanted, uint32_t told)
+{
+    uint32_t *reported = lend(sizeof *reported), answer;
+    if (wanted != PINORANGE_DONE)
+        *reported = told;
+    answer = pinorange_stolen_lookup(board->book, board->book_length, board->words, board->length, station, key,
+                                     reported);
+    expect("stolen lookup", answer, wanted);
+    if (answer == wanted) /* else it may never have been written */
+        expect("reported", *reported, told);
+    free(reported);
+}
+
+static uint32_t report(const struct board *board, uint32_t *words, uint32_t station, uint32_t key)
+{
+    return pinorange_stolen_insert(board->book, board->book_length, words, board->length, station, key);
+}
+
+/* A stolen-card list of so many slots, laid in words that were never written and filled to the last slot, where a word
+ * may be changed; with each number that a call can answer. */
+static void stolen_session(uint32_t slots, uint32_t station)
+{
+    uint16_t *book = lend_book(PINORANGE_TABULATION_LENGTH);
+    uint32_t *words = lend(slots * sizeof *words), *before = lend(slots * sizeof *before), kept;
+    const struct board board = {book, PINORANGE_TABULATION_LENGTH, words, slots, 0};
+    expect("stolen init", pinorange_stolen_init(words, slots), PINORANGE_DONE);
+    expect_zeros("a fresh stolen-card list", words, slots);
+    for (uint32_t i = 1; i <= slots; i++) {
+        expect("report", report(&board, words, station, key_of(i)), PINORANGE_DONE);
+        expect("report again", report(&board, words, station, key_of(i)), PINORANGE_KEY_PRESENT);
+        expect("no key", report(&board, words, station, i % 10), PINORANGE_BLANK_KEY);
+    }
+    expect("every slot is filled", report(&board, words, station, key_of(slots + 1)), PINORANGE_TABLE_FULL);
+    for (uint32_t i = 1; i <= 2 * slots; i++) {
+        expect_reported(&board, station, key_of(i), PINORANGE_DONE, i <= slots);
+        expect_reported(&board, station, other_issue(key_of(i)), PINORANGE_DONE, 0);
+        expect_reported(&board, station, i % 10, PINORANGE_BLANK_KEY, 77);
+    }
+    kept = words[slots - 1];
+    words[slots - 1] = 9;
+    memcpy(before, words, slots * sizeof *words);
+    expect("4", report(&board, words, station, key_of(1)), PINORANGE_NOT_CANONICAL);
+    expect("4, and not 5", report(&board, words, station, 0), PINORANGE_NOT_CANONICAL);
+    expect("the words stay", memcmp(before, words, slots * sizeof *words) == 0, 1);
+    words[slots - 1] = kept;
+    expect("5, and not 4", report(&board, words, station, 0), PINORANGE_BLANK_KEY);
+    free(before);
+    free(words);
+    free(book);
+}
+
+/* Calls on a stolen-card list of no right length, or with a tabulation or at a station that is none: nothing is read or
+ * written there, and what is there stays. */
+static void stolen_length(size_t length, int more, uint32_t station)
+{
+    size_t books = (size_t)(PINORANGE_TABULATION_LENGTH + more);
+    uint16_t *book = lend_book(books);
+    uint32_t *words = lend(length * sizeof *words);
+    const struct board board = {book, books, words, length, 0};
+    int fits = length >= 1 && length <= PINORANGE_MAX_SLOTS;
+    uint32_t shape = fits && station <= PINORANGE_MAX_STATION ? PINORANGE_DONE : PINORANGE_WRONG_SHAPE;
+    uint32_t wanted = more ? PINORANGE_WRONG_TABULATION : shape;
+    if (!fits)
+        for (size_t i = 0; i < length; i++)
+            words[i] = 1000 + (uint32_t)i;
+    expect("stolen init", pinorange_stolen_init(words, length), fits ? PINORANGE_DONE : PINORANGE_WRONG_SHAPE);
+    expect("report", report(&board, words, station, 410017), wanted);
+    for (size_t i = 0; wanted && i < length; i++)
+        expect("word", words[i], fits ? 0 : 1000 + (uint32_t)i);
+    expect("no key", report(&board, words, station, 9), wanted ? wanted : PINORANGE_BLANK_KEY);
+    expect_reported(&board, station, 410017, wanted, wanted ? 77 : 1);
+    expect_reported(&board, station, 9, wanted ? wanted : PINORANGE_BLANK_KEY, 77);
+    free(words);
+    free(book);
+}
+
+/* Stolen-card lists of some sizes; and all lengths at both ends of what is one. */
+static void stolen_lists(void)
+{
+    static const uint32_t stations[] = {0, 77, PINORANGE_MAX_STATION, PINORANGE_MAX_STATION + 1, UINT32_MAX};
+    stolen_session(1, 0);
+    stolen_session(2, 255);
+    stolen_session(40, 17);
+    stolen_session(PINORANGE_MAX_SLOTS, 128);
+    for (size_t i = 0; i < sizeof stations / sizeof *stations; i++)
+        for (int more = -1; more <= 1; more++)
+            for (size_t length = 0; length <= PINORANGE_MAX_SLOTS + 2; length++)
+                if (length <= 3 || length >= PINORANGE_MAX_SLOTS - 1)
+                    stolen_length(length, more, stations[i]);
+}
+
 int main(void)
 {
     expect("house", pinorange_house(house, PINORANGE_TABULATION_LENGTH), PINORANGE_DONE);
@@ -794,6 +887,7 @@ int main(void)
     lengths(2, 3, 0);
     lengths(2, 3, 200);
     lengths(2, 3, UINT32_MAX);
+    stolen_lists();
     printf("exact.c: %lu calls, %d failures\n", calls, failures);
     return failures != 0;
 }

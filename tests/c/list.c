@@ -1,12 +1,13 @@
-/* The inline calls of pinorange_list.h beside the plain ones, for C99, C11 and C++11: two lists with memory of their
- * own go through one session, with every refusal in it, and after each call answers, words, scratch, counters and
- * out-parameters must be the same. With PINORANGE_CHECKED each check must fire, on the piece that is wrong and on no
- * other. tests/headers compiles and runs it both ways. Exits with 0 when all holds. */
+/* The inline calls of pinorange_list.h and pinorange_stolen.h beside the plain ones, for C99, C11 and C++11: two card
+ * lists, and two stolen-card lists, with memory of their own go through one session, with every refusal in it, and
+ * after each call answers, words, scratch, counters and out-parameters must be the same. With PINORANGE_CHECKED each
+ * check must fire, on the piece that is wrong and on no other. tests/headers compiles and runs it both ways. Exits with
+ * 0 when all holds. */
 #ifdef PINORANGE_CHECKED
 static void failed(const char *piece, const char *what);
 #define PINORANGE_FAILED(piece, what) failed(piece, what)
 #endif
-#include "pinorange_list.h"
+#include "pinorange_stolen.h"
 
 #include <setjmp.h>
 #include <stdio.h>
@@ -17,8 +18,12 @@ enum { R = 8, S = 2, STATION = 17, KEYS = 40 };
 static struct PINORANGE_MEMORY(R, S) ours, plain;
 static const struct pinorange_list whole = PINORANGE_LIST(ours);
 static const int32_t steps[PINORANGE_STEPS] = {-30, -20, -10, 0, 10, 20, 30, 40};
+/* The words of the stolen-card lists, which share the tabulations. */
+enum { SLOTS = 8 };
+static uint32_t our_stolen[SLOTS], plain_stolen[SLOTS];
+static const struct pinorange_stolen_list stolen = PINORANGE_STOLEN_LIST(ours.tabulation, our_stolen, STATION);
 /* The numbers that a call answers, 0 to the last. */
-enum { ANSWERS = 16 };
+enum { ANSWERS = 17 };
 static unsigned calls, failures, seen[ANSWERS];
 
 static void expect(int holds, const char *what)
@@ -36,6 +41,7 @@ static void same(const char *what, uint32_t answer, uint32_t plain_answer)
     seen[answer < ANSWERS ? answer : 0]++;
     expect(answer == plain_answer && answer < ANSWERS, what);
     expect(memcmp(&ours, &plain, sizeof ours) == 0, what);
+    expect(memcmp(our_stolen, plain_stolen, sizeof our_stolen) == 0, what);
 }
 
 /* The pieces of the plain list, as long as those of `list`. */
@@ -162,6 +168,76 @@ static void salvage_all(const struct pinorange_list *list)
     salvage(list, damaged, whole.words_length);
 }
 
+/* A stolen-card list laid, a key reported and looked up, and the words checked. */
+static void lay_stolen(const struct pinorange_stolen_list *list)
+{
+    same("stolen init", pinorange_stolen_list_init(list), pinorange_stolen_init(plain_stolen, list->words_length));
+}
+
+static void report(const struct pinorange_stolen_list *list, uint32_t key)
+{
+    same("stolen insert", pinorange_stolen_list_insert(list, key),
+         pinorange_stolen_insert(plain.tabulation, list->tabulation_length, plain_stolen, list->words_length,
+                                 list->station, key));
+}
+
+static void look_for(const struct pinorange_stolen_list *list, uint32_t key)
+{
+    uint32_t reported = 77, plain_reported = 77;
+    same("stolen lookup", pinorange_stolen_list_lookup(list, key, &reported),
+         pinorange_stolen_lookup(plain.tabulation, list->tabulation_length, plain_stolen, list->words_length,
+                                 list->station, key, &plain_reported));
+    expect(reported == plain_reported, "what a stolen lookup tells");
+}
+
+/* What a check answers: of a plain insert without a key, which is refused with 5 where all is right. */
+static void check_stolen(const struct pinorange_stolen_list *list)
+{
+    uint32_t answer = pinorange_stolen_insert(plain.tabulation, list->tabulation_length, plain_stolen,
+                                              list->words_length, list->station, 0);
+    same("stolen check", pinorange_stolen_list_check(list), answer == PINORANGE_BLANK_KEY ? PINORANGE_DONE : answer);
+}
+
+static void ask_stolen(const struct pinorange_stolen_list *list, uint32_t key)
+{
+    report(list, key);
+    report(list, key);
+    look_for(list, key);
+    look_for(list, key + 1);
+    report(list, key % 10);
+    look_for(list, key % 10);
+    check_stolen(list);
+}
+
+/* Stolen cards: filled up to refusals; with wrong memory, with a station that is none or another one, and tampered
+ * with. */
+static void stolen_session(void)
+{
+    struct pinorange_stolen_list list = stolen;
+    uint32_t i;
+    our_stolen[3] = plain_stolen[3] = 99;
+    lay_stolen(&stolen);
+    expect(our_stolen[3] == 0, "a stolen-card list is laid");
+    for (i = 0; i <= SLOTS; i++)
+        ask_stolen(&stolen, 410017 + 7 * i);
+    list.tabulation_length--;
+    ask_stolen(&list, 410017);
+    list = stolen;
+    list.words_length = 0;
+    ask_stolen(&list, 410017);
+    lay_stolen(&list);
+    list = stolen;
+    list.station = PINORANGE_MAX_STATION + 1;
+    ask_stolen(&list, 410017);
+    list.station = STATION + 1;
+    ask_stolen(&list, 410018);
+    our_stolen[5] = plain_stolen[5] = 9;
+    ask_stolen(&stolen, 410017);
+    lay_stolen(&stolen);
+    list.station = STATION;
+    ask_stolen(&list, 410018);
+}
+
 /* Every call about one key, so that each refusal comes that it can get on this list. */
 static void ask_all(const struct pinorange_list *list, uint32_t key)
 {
@@ -233,6 +309,7 @@ static void session(void)
     look_up(&whole, 410017);
     load_all(&whole);
     check(&whole);
+    stolen_session();
     for (i = 0; i < ANSWERS; i++)
         expect(seen[i] > 0, "every number was answered");
 }
@@ -261,13 +338,16 @@ static void failed(const char *piece, const char *what)
 #define EXPECT_CHECK(call, piece, what) \
     do { \
         static struct PINORANGE_MEMORY(R, S) before; \
+        static uint32_t stolen_before[SLOTS]; \
         memcpy(&before, &ours, sizeof before); \
+        memcpy(stolen_before, our_stolen, sizeof stolen_before); \
         failed_piece = failed_what = "nothing"; \
         if (!setjmp(back)) \
             (void)(call); \
         calls++; \
         expect(strcmp(failed_piece, piece) == 0 && strcmp(failed_what, what) == 0, #call ": " piece " " what); \
         expect(memcmp(&before, &ours, sizeof before) == 0, #call ": nothing is written"); \
+        expect(memcmp(stolen_before, our_stolen, sizeof stolen_before) == 0, #call ": nothing is written"); \
     } while (0)
 
 /* All calls on one wrong list. */
@@ -375,10 +455,45 @@ static void wrong_arguments(void)
                  "sale", "overlaps another piece");
 }
 
+/* All calls on one wrong stolen-card list. */
+#define EXPECT_STOLEN_CHECKS(list, piece, what) \
+    do { \
+        uint32_t some_reported; \
+        EXPECT_CHECK(pinorange_stolen_list_init(list), piece, what); \
+        EXPECT_CHECK(pinorange_stolen_list_insert(list, 410017), piece, what); \
+        EXPECT_CHECK(pinorange_stolen_list_check(list), piece, what); \
+        EXPECT_CHECK(pinorange_stolen_list_lookup(list, 410017, &some_reported), piece, what); \
+    } while (0)
+
+static void wrong_stolen_pieces(void)
+{
+    struct pinorange_stolen_list list = stolen;
+    EXPECT_STOLEN_CHECKS((const struct pinorange_stolen_list *)0, "stolen list", "is null");
+    list.tabulation = 0;
+    EXPECT_STOLEN_CHECKS(&list, "tabulation", "is null");
+    list.tabulation = ASKEW(uint16_t, ours.tabulation);
+    EXPECT_STOLEN_CHECKS(&list, "tabulation", "is not aligned");
+    list = stolen;
+    list.words = 0;
+    EXPECT_STOLEN_CHECKS(&list, "words", "is null");
+    list.words = ASKEW(uint32_t, our_stolen);
+    EXPECT_STOLEN_CHECKS(&list, "words", "is not aligned");
+    list.words = (uint32_t *)(void *)&ours.tabulation[PINORANGE_TABULATION_LENGTH - 2];
+    EXPECT_STOLEN_CHECKS(&list, "words", "overlaps another piece");
+    EXPECT_CHECK(pinorange_stolen_list_lookup(&stolen, 410017, 0), "reported", "is null");
+    EXPECT_CHECK(pinorange_stolen_list_lookup(&stolen, 410017, ASKEW(uint32_t, plain.words)), "reported",
+                 "is not aligned");
+    EXPECT_CHECK(pinorange_stolen_list_lookup(&stolen, 410017, &our_stolen[SLOTS - 1]), "reported",
+                 "overlaps another piece");
+    EXPECT_CHECK(pinorange_stolen_list_lookup(&stolen, 410017, (uint32_t *)(void *)ours.tabulation), "reported",
+                 "overlaps another piece");
+}
+
 /* Pieces that only touch, and pieces of no length, are lent as they should be. */
 static void touching(void)
 {
     struct pinorange_list list = whole;
+    struct pinorange_stolen_list touched;
     if (setjmp(back)) {
         expect(0, failed_piece);
         return;
@@ -399,6 +514,10 @@ static void touching(void)
            "an input of no length overlaps nothing");
     expect(pinorange_list_salvage(&whole, plain.words, whole.words_length - 1, &plain.words[whole.words_length - 1])
            == PINORANGE_WRONG_SHAPE, "a number that touches the damaged words does not overlap them");
+    touched = stolen;
+    touched.words_length--;
+    expect(pinorange_stolen_list_lookup(&touched, 410017, &our_stolen[SLOTS - 1]) == PINORANGE_DONE,
+           "a number that touches the words of a stolen-card list does not overlap them");
 }
 #endif
 
@@ -415,6 +534,7 @@ int main(void)
     insert(&whole, 410017, 3);
     wrong_pieces();
     wrong_arguments();
+    wrong_stolen_pieces();
     touching();
 #endif
     printf("list.c: %u calls, %u failures\n", calls, failures);

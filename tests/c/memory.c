@@ -1,14 +1,15 @@
-/* What the largest dictionary costs in memory, with one open sale, added up and held to a pump head's 128 KiB. The
- * words, scratch and tabulation, the steps of the prices and the record of a sale are as long as the header says; the
- * stack is measured: every call runs on a stack that was painted before, and what is painted afterwards was not used.
+/* What the largest dictionary costs in memory, with one open sale and the largest stolen-card list beside it, added up
+ * and held to a pump head's 128 KiB. The words, scratch and tabulation, the steps of the prices, the record of a sale
+ * and the words of the stolen-card list are as long as the headers say; the stack is measured: every call runs on a
+ * stack that was painted before, and what is painted afterwards was not used.
  * The longest trail that there is, of 2,048 keys, has a painted stack of its own: its steps are calls in calls, so that
- * it could take more the longer it is. So has a bulk load, of the keys that the inserts before it listed, and a salvage,
- * of their words, damaged. A salvage needs the words twice: the sum with a second area is printed besides, and the
+ * it could take more the longer it is. So has a bulk load, of the keys that the inserts before it listed, a salvage, of
+ * their words, damaged, and so have the calls on the stolen-card list. A salvage needs the words twice: the sum with a second area is printed besides, and the
  * largest r with which it fits. The code's size comes in as CODE_BYTES (tests/run takes it from `size`). Exits with 0
  * when all fits, the longest trail's stack is below TRAIL_STACK_BYTES, every sale was closed at its price, the bulk load
- * laid the words that the inserts left, and the salvages gave what they must. */
+ * laid the words that the inserts left, and the salvages and the stolen-card list gave what they must. */
 #define _GNU_SOURCE
-#include "pinorange.h"
+#include "pinorange_stolen.h"
 
 #include <pthread.h>
 #include <stdio.h>
@@ -39,12 +40,15 @@ static uint32_t loaded_answer, full_answer, odd_answer;
 /* A second area, and damaged words. What the salvages answered: of a list, of a damaged one, of one without a key. */
 static uint32_t target[PINORANGE_WORDS(R, S)], wet[PINORANGE_WORDS(R, S)], whole_lost, wet_lost, saved;
 static uint32_t whole_answer, wet_answer, none_answer;
+/* The largest stolen-card list, and how many of its calls gave what they must. */
+static uint32_t stolen[PINORANGE_MAX_SLOTS], reports, reported_right, stolen_refusals;
 
 static unsigned char *base; /* where the calls' own stack begins: a local of the function that calls them */
 
 _Static_assert(sizeof words == 25108, "the words of the largest dictionary");
 _Static_assert(sizeof scratch == 51200, "the scratch of the largest dictionary");
 _Static_assert(sizeof tabulation == 5120, "a tabulation");
+_Static_assert(sizeof stolen == 4096, "the words of the largest stolen-card list");
 
 static int by_key(const void *one, const void *other)
 {
@@ -129,6 +133,40 @@ static int is_saved(void)
     return whole_answer == PINORANGE_DONE && whole_lost == 0 && wet_answer == PINORANGE_DONE && wet_lost > 0
            && saved < words[2] && saved + PINORANGE_WORDS(R, S) / 50 >= words[2]
            && none_answer == PINORANGE_NONE_COUNTS;
+}
+
+static uint32_t report(uint32_t key, uint32_t station)
+{
+    return pinorange_stolen_insert(tabulation, PINORANGE_TABULATION_LENGTH, stolen, PINORANGE_MAX_SLOTS, station, key);
+}
+
+/* The calls on a stolen-card list alone: filled to the last slot, with each refusal, and every key looked up and as many
+ * others. */
+static void *stolen_calls(void *unused)
+{
+    unsigned char local;
+    base = &local;
+    pinorange_stolen_init(stolen, PINORANGE_MAX_SLOTS);
+    for (uint32_t i = 1; i <= PINORANGE_MAX_SLOTS; i++)
+        reports += report(i * 2654435761u, STATION) == PINORANGE_DONE;
+    for (uint32_t i = 1; i <= 2 * PINORANGE_MAX_SLOTS; i++) {
+        uint32_t told = 77;
+        pinorange_stolen_lookup(tabulation, PINORANGE_TABULATION_LENGTH, stolen, PINORANGE_MAX_SLOTS, STATION,
+                                i * 2654435761u, &told);
+        reported_right += told == (i <= PINORANGE_MAX_SLOTS);
+    }
+    stolen_refusals += report(2654435761u, STATION) == PINORANGE_KEY_PRESENT;
+    stolen_refusals += report(10, STATION) == PINORANGE_TABLE_FULL;
+    stolen_refusals += report(9, STATION) == PINORANGE_BLANK_KEY;
+    stolen_refusals += report(10, STATION + 1) == PINORANGE_WRONG_SHAPE;
+    stolen_refusals += report(10, 0) == PINORANGE_NOT_CANONICAL;
+    return unused;
+}
+
+/* Whether the stolen-card list gave what it must. */
+static int is_stolen_right(void)
+{
+    return reports == PINORANGE_MAX_SLOTS && reported_right == 2 * PINORANGE_MAX_SLOTS && stolen_refusals == 5;
 }
 
 /* Sales of all keys, of those that are in the set and of those that are not; each that is opened is closed. */
@@ -248,7 +286,7 @@ static size_t stack_of(void *(*calls)(void *))
 
 int main(void)
 {
-    size_t other_stack = stack_of(other_calls), load_stack, salvage_stack, trail_stack, stack, sum;
+    size_t other_stack = stack_of(other_calls), load_stack, salvage_stack, stolen_stack, trail_stack, stack, sum;
     uint32_t refused = counters.refused, r = R;
     int loaded;
     take_input();
@@ -256,29 +294,35 @@ int main(void)
     loaded = is_loaded();
     get_wet();
     salvage_stack = stack_of(salvages);
-    loaded = loaded && is_saved();
+    stolen_stack = stack_of(stolen_calls);
+    loaded = loaded && is_saved() && is_stolen_right();
     lay_cycle();
     trail_stack = stack_of(longest_trail);
     stack = other_stack < load_stack ? load_stack : other_stack;
     stack = stack < salvage_stack ? salvage_stack : stack;
+    stack = stack < stolen_stack ? stolen_stack : stack;
     stack = stack < trail_stack ? trail_stack : stack;
     /* The stack is the deepest of all calls, the longest trail among them. The words of a trail are not counted: the caller lends them on the bench only, where
      * somebody asks why a key sits where it sits. */
-    sum = CODE_BYTES + sizeof words + sizeof scratch + sizeof tabulation + sizeof counters + sizeof steps + sizeof sale + stack;
+    sum = CODE_BYTES + sizeof words + sizeof scratch + sizeof tabulation + sizeof counters + sizeof steps + sizeof sale
+          + sizeof stolen + stack;
 
-    printf("code and constants %u\nwords %zu\nscratch %zu\ntabulation %zu\ncounters %zu\nsteps %zu\nsale %zu\nstack %zu\n", CODE_BYTES, sizeof words,
-           sizeof scratch, sizeof tabulation, sizeof counters, sizeof steps, sizeof sale, stack);
-    printf("stack of the longest trail %zu\nstack of a bulk load %zu\nstack of a salvage %zu\nstack of the other calls "
-           "%zu\n", trail_stack, load_stack, salvage_stack, other_stack);
+    printf("code and constants %u\nwords %zu\nscratch %zu\ntabulation %zu\ncounters %zu\nsteps %zu\nsale %zu\n"
+           "stolen-card list %zu\nstack %zu\n", CODE_BYTES, sizeof words, sizeof scratch, sizeof tabulation,
+           sizeof counters, sizeof steps, sizeof sale, sizeof stolen, stack);
+    printf("stack of the longest trail %zu\nstack of a bulk load %zu\nstack of a salvage %zu\nstack of the calls on the "
+           "stolen-card list %zu\nstack of the other calls %zu\n", trail_stack, load_stack, salvage_stack, stolen_stack,
+           other_stack);
     /* With a second area and the number that a salvage tells: each slot less, one in each table, is 24 bytes of words
      * less, twice, and 48 of scratch. */
     while (sum + sizeof target + sizeof wet_lost - (R - r) * (2 * 24 + 48) > HEAD_BYTES)
         r--;
     printf("with a second area %zu; it fits with r = %u\n", sum + sizeof target + sizeof wet_lost, (unsigned)r);
     printf("memory.c: %zu of %u bytes; %u keys accepted, %u calls refused, %u of them for another tier, %u for another "
-           "issue; the longest trail has %u keys; %u sales; %u keys in one call; %u of %u saved\n", sum, HEAD_BYTES,
-           (unsigned)accepted, (unsigned)refused, (unsigned)other_tier, (unsigned)other_issue, (unsigned)longest,
-           (unsigned)sales, (unsigned)input_length / 2, (unsigned)saved, (unsigned)input_length / 2);
+           "issue; the longest trail has %u keys; %u sales; %u keys in one call; %u of %u saved; %u reported stolen\n",
+           sum, HEAD_BYTES, (unsigned)accepted, (unsigned)refused, (unsigned)other_tier, (unsigned)other_issue,
+           (unsigned)longest, (unsigned)sales, (unsigned)input_length / 2, (unsigned)saved, (unsigned)input_length / 2,
+           (unsigned)reports);
     return sum > HEAD_BYTES || trail_stack >= TRAIL_STACK_BYTES || !is_longest() || accepted < 1200 || other_tier == 0
            || other_issue == 0 || refused == other_tier + other_issue || sales != accepted || closed_right != sales
            || !loaded || input_length < 2400;

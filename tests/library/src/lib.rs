@@ -7,6 +7,7 @@ mod inputs;
 mod issues;
 pub mod room;
 mod safe;
+pub mod stolen;
 pub mod wet;
 
 use pinorange::raw;
@@ -154,6 +155,31 @@ pub fn hashes(tabulation: &[u16], r: u32, station: u32, key: u32, old: [u32; 2])
         raw::pinorange_hashes(tabulation.as_ptr(), tabulation.len(), r, station, key, &mut table0, &mut table1)
     };
     (answer, [table0, table1])
+}
+
+/// Lays an empty stolen-card list.
+pub fn stolen_init(words: &mut [u32]) -> u32 {
+    unsafe { raw::pinorange_stolen_init(words.as_mut_ptr(), words.len()) }
+}
+
+/// Puts a key into a stolen-card list, at a station.
+#[rustfmt::skip]
+pub fn stolen_insert(tabulation: &[u16], words: &mut [u32], station: u32, key: u32) -> u32 {
+    unsafe {
+        raw::pinorange_stolen_insert(
+            tabulation.as_ptr(), tabulation.len(), words.as_mut_ptr(), words.len(), station, key,
+        )
+    }
+}
+
+/// Says whether a key is in a stolen-card list.
+#[rustfmt::skip]
+pub fn stolen_lookup(tabulation: &[u16], words: &[u32], station: u32, key: u32, reported: &mut u32) -> u32 {
+    unsafe {
+        raw::pinorange_stolen_lookup(
+            tabulation.as_ptr(), tabulation.len(), words.as_ptr(), words.len(), station, key, reported,
+        )
+    }
 }
 
 /// Fills a tabulation with the house tabulation.

@@ -172,6 +172,32 @@ pub fn hashes(tabulation: &[u16], r: u32, station: u32, key: u32) -> Result<[u32
     both
 }
 
+/// What a call that may write a stolen-card list gave: its answer, and the words after it.
+pub type Stolen = (Result<(), Refusal>, Vec<u32>);
+
+pub fn stolen_init(words: &[u32]) -> Stolen {
+    let mut lent = Guarded::new(words, GUARD);
+    let answer = pinorange::stolen_init(lent.lent());
+    (answer, lent.content().to_vec())
+}
+
+pub fn stolen_insert(tabulation: &[u16], words: &[u32], station: u32, key: u32) -> Stolen {
+    let mut book = Guarded::new(tabulation, GUARD_ENTRY);
+    let mut lent = Guarded::new(words, GUARD);
+    let answer = pinorange::stolen_insert(book.lent(), lent.lent(), station, key);
+    assert_eq!(book.content(), tabulation, "the tabulation changed");
+    (answer, lent.content().to_vec())
+}
+
+#[rustfmt::skip]
+pub fn stolen_lookup(tabulation: &[u16], words: &[u32], station: u32, key: u32) -> Result<bool, Refusal> {
+    let mut book = Guarded::new(tabulation, GUARD_ENTRY);
+    let mut lent = Guarded::new(words, GUARD);
+    let told = pinorange::stolen_lookup(book.lent(), lent.lent(), station, key);
+    assert_eq!((book.content(), lent.content()), (tabulation, words), "lookup changed memory");
+    told
+}
+
 /// The house tabulation, written over another content: its answer, and what is there after it.
 pub fn house(tabulation: &[u16]) -> (Result<(), Refusal>, Vec<u16>) {
     let mut lent = Guarded::new(tabulation, GUARD_ENTRY);

@@ -1,4 +1,4 @@
-//! The crate against the text of the two headers: version, limits, lengths, refusals by name and number, the records,
+//! The crate against the text of three headers: version, limits, lengths, refusals by name and number, the records,
 //! and every declaration.
 
 use std::collections::BTreeMap;
@@ -7,9 +7,10 @@ use std::mem::{offset_of, size_of};
 use pinorange::{first_part, place_start, scratch_length, slot_start, words_length};
 use pinorange::{Counters, Refusal, Sale};
 
-const HEADERS: [&str; 2] = [
+const HEADERS: [&str; 3] = [
     include_str!("../../../include/pinorange_hashes.h"),
     include_str!("../../../include/pinorange.h"),
+    include_str!("../../../include/pinorange_stolen.h"),
 ];
 const DECLARED: &str = include_str!("../../../rust/src/raw.rs");
 
@@ -19,9 +20,17 @@ fn defines() -> BTreeMap<&'static str, &'static str> {
     lines.filter_map(|line| line.strip_prefix("#define PINORANGE_")).filter_map(define).collect()
 }
 
-/// Name and text of one definition; none of those that only guard a header.
+/// Name and text of one definition; none of those that only guard a header, of those of several lines, which are for C
+/// alone, and of those for the inside of a header, which are undefined again.
 fn define(line: &str) -> Option<(&str, &str)> {
     let line = line.split("/*").next()?.trim_end();
+    let is_undefined = |name: &str| {
+        let undefined = format!("#undef PINORANGE_{name}\n");
+        HEADERS.iter().any(|header| header.contains(&undefined))
+    };
+    if line.ends_with('\\') || is_undefined(line.split([' ', '(']).next()?) {
+        return None;
+    }
     let name_end = line.find(' ')?;
     // With parameters the name ends at the first ')', which stands behind a space if there are two of them.
     let end = if line[..name_end].contains('(') { line.find(')')? + 1 } else { name_end };
@@ -37,7 +46,7 @@ fn numbers() -> BTreeMap<String, i64> {
 
 /// All refusals that this version knows, by their numbers.
 fn refusals() -> impl Iterator<Item = (u32, Refusal)> {
-    (1..=15).map(|number| (number, Refusal::of(number).expect("a refusal")))
+    (1..=16).map(|number| (number, Refusal::of(number).expect("a refusal")))
 }
 
 /// A case's name in the letters of a macro: `KEY_ABSENT` for `KeyAbsent`.
@@ -145,7 +154,7 @@ fn refusals_there_and_back() {
         let error: &dyn std::error::Error = &refusal;
         sentences.push(error.to_string());
     }
-    for number in [16, 17, 18, 256, 65_536, u32::MAX] {
+    for number in [17, 18, 19, 256, 65_536, u32::MAX] {
         let refusal = Refusal::of(number).expect("a refusal");
         assert_eq!((refusal, refusal.number()), (Refusal::Unknown(number), number));
         assert!(refusal.to_string().contains(&number.to_string()), "{refusal}");
@@ -153,7 +162,7 @@ fn refusals_there_and_back() {
     let shown = sentences.len();
     sentences.sort_unstable();
     sentences.dedup();
-    assert_eq!((shown, sentences.len()), (15, 15), "two refusals say the same: {sentences:?}");
+    assert_eq!((shown, sentences.len()), (16, 16), "two refusals say the same: {sentences:?}");
 }
 
 /// The fields of a struct of pinorange.h, in their order; each must be a `uint32_t`.
@@ -233,6 +242,6 @@ fn the_declarations() {
     headers.sort_unstable();
     let declared = without_comments(DECLARED);
     assert_eq!(calls(&declared, "pub fn pinorange_", in_rust), headers);
-    assert!(headers.len() >= 13, "not all declarations were read");
+    assert!(headers.len() >= 16, "not all declarations were read");
     assert_eq!(declared.matches(") -> u32;").count(), headers.len(), "an answer is no u32");
 }

@@ -14,5 +14,6 @@ mod salvage;
 mod sequences;
 mod sizes;
 mod stations;
+mod stolen;
 mod tiers;
 mod trails;
