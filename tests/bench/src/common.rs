@@ -46,7 +46,25 @@ pub struct Hashing<'a> {
     station: u8,
 }
 
-impl Hashing<'_> {
+impl<'a> Hashing<'a> {
+    /// For a stolen-card list of so many slots, or what refuses it: 1 or 2.
+    #[inline]
+    pub fn of(tabulation: &'a [u16], slots: usize, station: u32) -> Result<Hashing<'a>, u32> {
+        let tabulation = <&Tabulation>::try_from(tabulation).map_err(|_| 1u32)?;
+        match u8::try_from(station) {
+            Ok(station) if (1..=1_024).contains(&slots) => {
+                Ok(Hashing { tabulation, r: slots as u32, station })
+            }
+            _ => Err(2),
+        }
+    }
+
+    /// The slot in which the way of a key starts in a stolen-card list.
+    #[inline]
+    pub fn start(self, key: u32) -> usize {
+        self.hash(0, key) as usize
+    }
+
     /// The slot of a key in a table. Its issue has no part in it.
     #[inline]
     fn hash(self, table: usize, key: u32) -> u32 {

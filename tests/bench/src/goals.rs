@@ -3,6 +3,7 @@
 use crate::cases::{Case, Load, LOADS};
 use crate::partners::Call;
 use crate::salvage::Words;
+use crate::stolen::Counted;
 use crate::tables::{head, row, Measured, ASKED};
 use crate::timing::{CHANGES, TIMED};
 
@@ -79,7 +80,7 @@ fn print_goal(goal: &str, most: f64, found: Vec<Found>) {
 }
 
 #[rustfmt::skip]
-pub fn print(measured: &Measured) {
+pub fn print(measured: &Measured, stolen: &Counted) {
     let instructions = |who: usize| {
         move |case: usize, call: Call| measured.instructions.ratio(case, who, call)
     };
@@ -94,6 +95,8 @@ pub fn print(measured: &Measured) {
     print_goal("lookup to the twins, time", 1.1, lookups_by_time(measured));
     print_goal("bulk load to an insert into the same set, instructions", 0.6, bulk_loads_to_inserts(measured));
     print_goal("salvage to a check of the untampered words, instructions", 1.5, salvages_to_checks(measured));
+    print_goal("stolen list: lookup to the twin, instructions", 1.1, stolen.to_twin(true));
+    print_goal("stolen list: insert to the twin, instructions", 1.1, stolen.to_twin(false));
     print_goal("from r = 128 to r = 1,024, 12 to 49 %, instructions", 12.0, growth(measured, 0));
     print_goal("from r = 128 to r = 1,024, 12 to 49 %, time", 12.0, growth(measured, 1));
 }

@@ -1,10 +1,11 @@
 //! The benchmark: the library beside two twins in Rust. `tests/bench/run` uses it, in this order: `compare N` has all
 //! partners refuse issues of one first part, and makes N random calls that they must answer alike; `counts` prints what
 //! a build does, in a build with the feature of that name; `wanted` lists the calls whose instructions are to be
-//! counted, trails and salvages by the library among them, and `one CASE PARTNER CALL` makes one of them; `tables FILE BULK` takes
-//! what was counted from files, takes times, and prints the tables; `picture FILE` draws times against keys. For bulk
-//! loads beside inserts `bulk-wanted` lists what is to be counted, into the file BULK, and `one LIST bulk CALL` makes
-//! one of them. For the dearest calls `worst-wanted` lists what is to be counted, `one SIZE worst NUMBER` makes one of
+//! counted, trails and salvages by the library among them, and `one CASE PARTNER CALL` makes one of them; `tables FILE
+//! BULK STOLEN` takes what was counted from files, takes times, and prints the tables; `picture FILE` draws times
+//! against keys. For bulk loads beside inserts `bulk-wanted` lists what is to be counted, into the file BULK, and `one
+//! LIST bulk CALL` makes one of them; for the stolen-card list so do `stolen-wanted`, into the file STOLEN, and `one
+//! CASE stolen CALL`, and `stolen FILE` prints its table alone. For the dearest calls `worst-wanted` lists what is to be counted, `one SIZE worst NUMBER` makes one of
 //! them, and `worst FILE` prints the most that was counted for each call.
 
 mod bulk;
@@ -19,6 +20,7 @@ mod picture;
 mod plain;
 mod ranks;
 mod salvage;
+mod stolen;
 mod tables;
 mod tally;
 mod timing;
@@ -34,17 +36,25 @@ fn main() {
     match words[..] {
         ["compare", calls] => {
             issues::run();
-            compare::run(calls.parse().expect("how many calls"));
+            let calls = calls.parse().expect("how many calls");
+            compare::run(calls);
+            stolen::compare(calls);
         }
         ["counts"] => tables::print_counts(),
         ["wanted"] => instructions::print_wanted(),
         ["bulk-wanted"] => bulk::print_wanted(),
+        ["stolen-wanted"] => stolen::print_wanted(),
+        ["stolen", file] => stolen::Counted::read(file).print(),
         ["worst-wanted"] => worst::print_wanted(),
         ["worst", file] => worst::print(file),
         ["one", r, worst::NAME, number] => worst::one(r, number),
         ["one", list, bulk::NAME, way] => bulk::one(list, way),
+        ["one", case, stolen::NAME, call] => stolen::one(case, call),
         ["one", case, partner, call] => instructions::one(case, partner, call),
-        ["tables", file, bulk] => tables::print(Instructions::read(file), Counted::read(bulk)),
+        ["tables", file, bulk, stolen] => {
+            let stolen = stolen::Counted::read(stolen);
+            tables::print(Instructions::read(file), Counted::read(bulk), stolen);
+        }
         ["picture", file] => picture::draw(file),
         _ => panic!("see the top of main.rs"),
     }

@@ -6,6 +6,7 @@ use crate::goals;
 use crate::instructions::Instructions;
 use crate::partners::{Call, PARTNERS};
 use crate::salvage::Words;
+use crate::stolen;
 use crate::tally::{self, Tally};
 use crate::timing::{both_lookups, changes, Changes, Lookups, CHANGES, ROUNDS};
 use crate::trails::shortest_and_typical;
@@ -162,7 +163,7 @@ impl Measured {
 }
 
 /// Measures the times, and prints all tables.
-pub fn print(instructions: Instructions, bulk: Counted) {
+pub fn print(instructions: Instructions, bulk: Counted, stolen: stolen::Counted) {
     let cases: Vec<Case> = (0..CASES).map(|number| numbered(number, SETS)).collect();
     let times = cases.iter().map(|case| changes(case, ROUNDS)).collect();
     let lookups = cases.iter().map(|case| both_lookups(case, 20 * ROUNDS)).collect();
@@ -175,7 +176,8 @@ pub fn print(instructions: Instructions, bulk: Counted) {
     measured.print_times();
     measured.print_bulk_times();
     measured.print_growth();
-    goals::print(&measured);
+    stolen.print();
+    goals::print(&measured, &stolen);
 }
 
 /// What one build of each board of a case takes: a check is one build.

@@ -9,7 +9,7 @@ use std::collections::BTreeMap;
 
 use crate::cases::{grouped, Load, PLACES};
 use crate::tables::{head, row};
-use calls::{Call, Key};
+use calls::{Call, Key, Stolen};
 use lists::{Kind, List};
 
 /// What stands in the place of a partner where these calls are counted.
@@ -165,6 +165,24 @@ const ROWS: &[Row] = &[
     ] },
     Row { name: "house", candidates: &[
         on(Kind::Full, Call::House, 0, "every accepted call"),
+    ] },
+    Row { name: "stolen list, r slots: init", candidates: &[
+        on(Kind::Full, Call::StolenInit, 0, "every accepted call"),
+    ] },
+    Row { name: "stolen list: insert, accepted", candidates: &[
+        on(Kind::Full, Call::StolenInsert(Stolen::SmallestComes), 0,
+            "all keys start alike, and the smallest comes for the last slot"),
+        on(Kind::Full, Call::StolenInsert(Stolen::LargestComes), 0,
+            "all keys start alike, and the largest comes for the last slot"),
+    ] },
+    Row { name: "stolen list: insert, refused", candidates: &[
+        on(Kind::Full, Call::StolenInsert(Stolen::Larger), 16, "16, all keys start alike, a larger one comes"),
+        on(Kind::Full, Call::StolenInsert(Stolen::Largest), 6, "6, all keys start alike, the largest comes again"),
+        on(Kind::Full, Call::StolenInsert(Stolen::Twice), 4, "4, all keys start alike, the last slot has one twice"),
+    ] },
+    Row { name: "stolen list: lookup", candidates: &[
+        on(Kind::Full, Call::StolenLookup(Stolen::Largest), 0, "every slot filled, the key at the end of a round"),
+        on(Kind::Full, Call::StolenLookup(Stolen::Larger), 0, "every slot filled, absent, with smaller keys alone"),
     ] },
 ];
 

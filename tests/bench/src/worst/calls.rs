@@ -6,8 +6,9 @@ use reference::hash::{hashes, TABULATION_LEN};
 use reference::set::Member;
 
 use super::lists::List;
-use crate::cases::{input_of, PLACES, STATION};
+use crate::cases::{an_issue, input_of, PLACES, STATION};
 use crate::common::{HEADER, SLOT};
+use crate::stolen;
 
 /// A key to ask for.
 #[derive(Clone, Copy)]
@@ -65,6 +66,59 @@ pub enum Call {
     Close,
     Hashes,
     House,
+    StolenInit,
+    StolenInsert(Stolen),
+    StolenLookup(Stolen),
+}
+
+/// Stolen-card lists of r slots on which calls are dear, under a book of zeros: all ways start at the first slot, so
+/// that a key with so many smaller ones goes past all of them.
+#[derive(Clone, Copy)]
+pub enum Stolen {
+    /// All slots filled but one; the smallest key comes, and moves all others.
+    SmallestComes,
+    /// The same, and the largest key comes, to the last slot.
+    LargestComes,
+    /// Every slot filled; the largest key is asked for, which is in the last slot.
+    Largest,
+    /// Every slot filled; a larger key is asked for, which is in none.
+    Larger,
+    /// Every slot filled, the last with the key before it once more; a larger key comes.
+    Twice,
+}
+
+impl Stolen {
+    /// The words, and the key that comes or is asked for. The keys are those of the first parts from 2 on.
+    fn words_and_key(self, r: u32) -> (Vec<u32>, u32) {
+        let most =
+            if matches!(self, Stolen::SmallestComes | Stolen::LargestComes) { r } else { r + 1 };
+        let keys: Vec<u32> = (2..=most).map(an_issue).collect();
+        let mut words = stolen::image(&[0; TABULATION_LEN], r as usize, &keys);
+        let key = match self {
+            Stolen::SmallestComes => an_issue(1),
+            Stolen::Largest => an_issue(most),
+            Stolen::LargestComes | Stolen::Larger | Stolen::Twice => an_issue(most + 1),
+        };
+        if let (Stolen::Twice, [.., before, last]) = (self, &mut words[..]) {
+            *last = *before;
+        }
+        (words, key)
+    }
+
+    fn insert(self, r: u32) -> u32 {
+        let (mut words, key) = self.words_and_key(r);
+        library::stolen_insert(&[0; TABULATION_LEN], &mut words, STATION, key)
+    }
+
+    /// Whether it is told what it must, and its answer.
+    fn lookup(self, r: u32) -> u32 {
+        let (words, key) = self.words_and_key(r);
+        let mut reported = u32::MAX;
+        let answer =
+            library::stolen_lookup(&[0; TABULATION_LEN], &words, STATION, key, &mut reported);
+        assert_eq!(reported, u32::from(matches!(self, Stolen::Largest)), "what is looked up");
+        answer
+    }
 }
 
 /// Whether a lookup of a key finds it, and its answer.
@@ -112,6 +166,9 @@ impl Call {
             Call::Close => "pinorange_close_sale",
             Call::Hashes => "pinorange_hashes",
             Call::House => "pinorange_house",
+            Call::StolenInit => "pinorange_stolen_init",
+            Call::StolenInsert(_) => "pinorange_stolen_insert",
+            Call::StolenLookup(_) => "pinorange_stolen_lookup",
         }
     }
 
@@ -148,6 +205,9 @@ impl Call {
             Call::Close => u32::from(library::close_sale(&sale) != sale.price),
             Call::Hashes => library::hashes(book, r, STATION, Key::Largest.of(list), [0; 2]).0,
             Call::House => library::house(&mut [0; TABULATION_LEN]),
+            Call::StolenInit => library::stolen_init(&mut words[..r as usize]),
+            Call::StolenInsert(stolen) => stolen.insert(r),
+            Call::StolenLookup(stolen) => stolen.lookup(r),
         }
     }
 }
