@@ -132,12 +132,38 @@ static void saves(void) {
     expect(!save_list() && strcmp(printed, "nothing to save: 15\n") == 0, "no card is left");
 }
 
+/* Stolen cards: a card that was reported buys nothing, another issue of it does; and the list moves to other words. */
+static void stolen_cards(void) {
+    static uint32_t fewer_words[4], other_words[1024];
+    const struct pinorange_stolen_list fewer = PINORANGE_STOLEN_LIST(memory.tabulation, fewer_words, STATION);
+    const struct pinorange_stolen_list other = PINORANGE_STOLEN_LIST(memory.tabulation, other_words, STATION + 1);
+    struct pinorange_sale sale;
+    uint32_t reported;
+    memset(stolen_words, 0x5a, sizeof stolen_words);
+    expect(lay_stolen() == PINORANGE_DONE && stolen_words[0] == 0 && stolen_words[1023] == 0, "an empty stolen list");
+    expect(nozzle_lift(410017, &sale) && sale.price == 1699, "nothing was reported");
+    expect(report_stolen(410017) == PINORANGE_DONE && report_stolen(410017) == PINORANGE_KEY_PRESENT, "a report");
+    expect(!nozzle_lift(410017, &sale), "a stolen card buys nothing");
+    expect(replace_card(410017, 410018, 3) == PINORANGE_DONE && nozzle_lift(410018, &sale), "a new issue does");
+    expect(report_stolen(410018) == PINORANGE_DONE && !nozzle_lift(410018, &sale), "until it is stolen, too");
+    expect(!nozzle_lift(733001, &sale) && !nozzle_lift(9, &sale), "a card that is not listed, and no card");
+    for (uint32_t i = 0; i < 3; i++)
+        expect(report_stolen(500000 + 10 * i) == PINORANGE_DONE, "other reports");
+    expect(move_stolen(&fewer, stolen_words, 1024) == PINORANGE_TABLE_FULL, "five cards do not fit into four slots");
+    expect(move_stolen(&other, stolen_words, 1024) == PINORANGE_DONE, "the list moves");
+    expect(pinorange_stolen_list_check(&other) == PINORANGE_DONE, "and is one at the other station");
+    expect(pinorange_stolen_list_lookup(&other, 410018, &reported) == PINORANGE_DONE && reported, "with its cards");
+    expect(pinorange_stolen_list_lookup(&other, 410019, &reported) == PINORANGE_DONE && !reported, "and no other");
+    expect(replace_card(410018, 410017, 3) == PINORANGE_DONE, "the card list as it was");
+}
+
 int main(void) {
     expect(page_main() == 0, "the head's main");
     expect(strcmp(printed, "410017 is listed at tier 3\n") == 0, "what it prints");
     list_cards();
     expect(strcmp(printed, "card 410017, tier 3\n") == 0, "a lone card is listed once");
     expect(price_of_sale(410017) == 1699 && price_of_sale(410018) == 0, "the price of a sale");
+    stolen_cards();
     forget();
     expect(show_trail(410017) == 0 && strcmp(printed, "410017\n") == 0, "the trail of a lone card");
     expect(replace_card(410018, 410019, 5) == PINORANGE_KEY_ABSENT, "a card that is not listed is not replaced");

@@ -1,12 +1,14 @@
-//! The figures that the pages give a planner, measured anew: how many cards fit, and which changes of a single bit a
-//! check lets pass. The pages must have them word for word.
+//! The figures that the pages give a planner, measured anew: how many cards fit, how many slots of a stolen-card list a
+//! lookup looks at, and which changes of a single bit a check lets pass. The pages must have them word for word.
 
 use std::collections::BTreeSet;
 
 use library::beside::{Kind, ANSWERS};
 use library::room::Room;
+use library::stolen::model::{lay, start};
 use library::Change::Insert;
 use library::{change, check, fresh, hashes, house, scratch_length, words_length, HEADER_LENGTH};
+use library::{stolen_insert, stolen_lookup};
 use reference::rng::Rng;
 use reference::samples::random_station;
 
@@ -249,4 +251,96 @@ fn changes_that_a_check_lets_pass() {
     let empty: Vec<Vec<u32>> = lists(10).filter(|words| words[3] == 0).collect();
     let found: Vec<[usize; 3]> = empty.iter().map(|words| unnoticed(&tabulation, words)).collect();
     assert!(empty.len() > 50 && found.iter().all(|counts| counts[1] == 0 && counts[2] == 0));
+}
+
+/// How many slots of a stolen-card list a lookup looks at: up to the key, an empty slot or a larger key, or all.
+fn looked_at(tabulation: &[u16], words: &[u32], station: u32, key: u32) -> usize {
+    let start = start(tabulation, station, words.len(), key);
+    let mut way = words[start..].iter().chain(&words[..start]);
+    way.position(|word| *word == 0 || *word >= key).map_or(words.len(), |before| before + 1)
+}
+
+/// A stolen-card list of so many random cards, its station, its cards and as many others. The first lists of each size
+/// are made and asked by the library, too.
+fn stolen_list(
+    tabulation: &[u16],
+    slots: usize,
+    cards: usize,
+    list: usize,
+) -> (Vec<u32>, u32, [Vec<u32>; 2]) {
+    let seed = (slots << 32 | cards << 16 | list) as u64;
+    let station = random_station(&mut Rng::new(!seed));
+    let mut all: Vec<u32> = Cards::new(seed).take(2 * cards).collect();
+    let others = all.split_off(cards);
+    let words = lay(tabulation, station, slots, &all);
+    if list < 2 {
+        let mut made = vec![0; slots];
+        for card in &all {
+            assert_eq!(stolen_insert(tabulation, &mut made, station, *card), 0);
+        }
+        assert_eq!(made, words);
+        for (asked, is_listed) in [(&all, 1), (&others, 0)] {
+            for card in asked {
+                let mut told = 77;
+                assert_eq!(stolen_lookup(tabulation, &words, station, *card, &mut told), 0);
+                assert_eq!(told, is_listed, "{card}");
+            }
+        }
+    }
+    (words, station, [all, others])
+}
+
+/// A row of the table of the stolen list: mean and most for its cards, and for as many others.
+fn stolen_row(slots: usize, percent: usize) -> String {
+    let tabulation = house_tabulation();
+    let cards = slots * percent / 100;
+    let (mut sums, mut most) = ([0; 2], [0; 2]);
+    for list in 0..LISTS {
+        let (words, station, asked) = stolen_list(&tabulation, slots, cards, list);
+        for (i, cards) in asked.iter().enumerate() {
+            for card in cards {
+                let count = looked_at(&tabulation, &words, station, *card);
+                (sums[i], most[i]) = (sums[i] + count, most[i].max(count));
+            }
+        }
+    }
+    let means = sums.map(|sum| format!("{:.1}", sum as f64 / (LISTS * cards) as f64));
+    let [slots, cards] = [slots, cards].map(grouped);
+    let [of_listed, of_others] = most.map(grouped);
+    format!(
+        "| {slots} | {percent} % | {cards} | {} | {of_listed} | {} | {of_others} |",
+        means[0], means[1]
+    )
+}
+
+#[test]
+fn how_full_a_stolen_list_may_be() {
+    let rows: Vec<String> = [128, 1_024]
+        .into_iter()
+        .flat_map(|slots| [50, 75, 90, 100].map(|percent| stolen_row(slots, percent)))
+        .collect();
+    page_has(FIGURES, &rows);
+}
+
+/// Single bits of stolen-card lists that a check lets pass: 100 lists of 48 cards in 64 slots. Of those most are in the
+/// last digit of a card, which has no part in where its way starts.
+#[test]
+fn changes_of_a_stolen_list_that_pass() {
+    let tabulation = house_tabulation();
+    let (mut bits, mut passed, mut digits) = (0, 0, 0);
+    for list in 0..100 {
+        let (words, station, _) = stolen_list(&tabulation, 64, 48, list);
+        for bit in 0..32 * words.len() {
+            let (at, mut changed) = (bit / 32, words.clone());
+            changed[at] ^= 1 << (bit % 32);
+            let answer = stolen_insert(&tabulation, &mut changed, station, 0);
+            assert!(answer == 4 || answer == 5, "{answer}");
+            bits += 1;
+            passed += usize::from(answer == 5);
+            digits += usize::from(answer == 5 && changed[at] / 10 == words[at] / 10);
+        }
+    }
+    let [bits, passed, digits] = [bits, passed, digits].map(grouped);
+    let text = format!("of {bits} single bits {passed} are not found, {digits} of them in the last digit of a card");
+    page_has(C, &[text]);
 }
