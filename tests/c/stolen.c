@@ -153,6 +153,27 @@ static uint32_t differences(const struct head *one, const struct head *other)
     return count;
 }
 
+/* Every card sits by the rule: from its pocket in rack 0, by the head's own number of slots and station, to just before
+ * the slot where it is there are smaller cards alone. */
+static void expect_rule(const struct head *head)
+{
+    uint32_t cards = 0;
+    for (uint32_t at = 0; at < SLOTS; at++) {
+        uint32_t number = head->stolen[at], slot, unused, steps;
+        if (number == 0)
+            continue;
+        cards++;
+        expect("hashes", pinorange_hashes(tabulation, PINORANGE_TABULATION_LENGTH, SLOTS, STATION, number, &slot,
+                                          &unused), PINORANGE_DONE);
+        for (steps = 0; slot != at && steps < SLOTS; steps++) {
+            expect("a smaller card before it", head->stolen[slot] != 0 && head->stolen[slot] < number, 1);
+            slot = (slot + 1) % SLOTS;
+        }
+        expect("it is on its way", slot, at);
+    }
+    expect("every card sits once", cards, STOLEN);
+}
+
 /* A head that missed the last report differs, and is alike once it came. */
 static void missed(struct head *late)
 {
@@ -217,6 +238,7 @@ int main(void)
     }
     for (uint32_t h = 1; h < HEADS; h++)
         expect("heads are alike, word by word", differences(&heads[0], &heads[h]), 0);
+    expect_rule(&heads[0]);
     expect("some cards were sold to, some kept", sales > 0 && refused > 0 && unlisted > 0, 1);
     missed(&heads[1]);
     damaged(&heads[2]);

@@ -234,12 +234,21 @@ impl Counted {
             let case = Case::numbered(number);
             let cells = Asked::ALL.into_iter().flat_map(|asked| {
                 let mean = self.0[&(number, 0, asked)] as f64 / case.calls(asked) as f64;
-                let ratio = |partner: usize| format!("{:.2}", self.ratio(number, partner, asked));
+                let ratio = |partner: usize| told(self.ratio(number, partner, asked));
                 [grouped(mean.round() as u64), ratio(1), ratio(2)]
             });
             let name = [case.name(), grouped(case.keys.len() as u64)];
             row(name.into_iter().chain(cells));
         }
+    }
+}
+
+/// A ratio in a table: large ones as whole numbers.
+fn told(ratio: f64) -> String {
+    if ratio < 100.0 {
+        format!("{ratio:.2}")
+    } else {
+        grouped(ratio.round() as u64)
     }
 }
 
