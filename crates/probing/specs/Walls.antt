@@ -174,3 +174,7 @@ module _ (m : ℕ) (ws : List ℕ) (b : ℕ) where
           λ o. let r = passes-behind j (slot-turn-lt m b inside s k) e o in (r .1, r .0),
           λ w. rw e at (behind-passes (i - j) j (omega (arith, w .1)) (w .0)),
         )
+
+-- the walls of the turns before turn n
+pub record Walled (m : ℕ) (ws : List ℕ) (b : ℕ) (walls : List ℕ) (n : ℕ) : Type 0 where
+  pub each : (i : ℕ) → i < n → getD walls i 0 ≡ wall m ws b (turn-word m ws b i) i
