@@ -12,7 +12,7 @@ use Rattle.basics.specs.Tests.{eq?, and-true}
 use Rattle.basics.specs.Sets.{Asc, none, asc-ext, in?}
 use Rattle.ordered.specs.Place.{with-cases, with-here, with-there, asc-with, with-same, length-with}
 use Rattle.probing.specs.Rule.{look, keys-in, table-image}
-use Rattle.probing.specs.Moves.{stop, turn-slot, slot-turn, turn-word, wall, settled, all-settled}
+use Rattle.probing.specs.Moves.{stop, turn-slot, slot-turn, turn-word, wall, right, settled, all-settled}
 use Rattle.probing.specs.Way.{Passes, looks-stop}
 use Rattle.probing.specs.Walls.{Barrier, slot-turn-lt, turn-of-slot, passes-iff}
 use Rattle.probing.specs.Unique.{Contains}
@@ -91,7 +91,7 @@ arranged-keys {S = S} {ws} asc w =
 module _ (h : ℕ → ℕ) (m low : ℕ) (ws : List ℕ) (b : ℕ) (inside : b < m) (barrier : Barrier m ws b) (r : (c : ℕ) → h c < m) where
   settled-true : (i : ℕ) → i < m → settled m ws b h low i ≡ true → 0 < turn-word m ws b i
       → (low ≤ turn-word m ws b i) × Passes m ws (turn-word m ws b i) (h (turn-word m ws b i)) (turn-slot m b i)
-  unfolding settled
+  unfolding settled right
   settled-true i l e k =
       let c = turn-word m ws b i in
       let j = slot-turn m b (h c) in
@@ -102,7 +102,7 @@ module _ (h : ℕ → ℕ) (m low : ℕ) (ws : List ℕ) (b : ℕ) (inside : b <
   true-settled : (i : ℕ) → i < m
       → (0 < turn-word m ws b i → (low ≤ turn-word m ws b i) × Passes m ws (turn-word m ws b i) (h (turn-word m ws b i)) (turn-slot m b i))
       → settled m ws b h low i ≡ true
-  unfolding settled
+  unfolding settled right
   true-settled i l f =
       let c = turn-word m ws b i in
       let j = slot-turn m b (h c) in

@@ -33,25 +33,28 @@ turn-slot m b i = wrap m (i + (b + 1))
 abbrev pub slot-turn : ℕ → ℕ → ℕ → ℕ
 slot-turn m b s = wrap m (s + (m - (b + 1)))
 
+-- right at turn i are an empty slot, and a key, none below `low`, that starts behind its wall w
+unfoldable pub right : ℕ → ℕ → (ℕ → ℕ) → ℕ → ℕ → ℕ → ℕ → Bool
+right m b h low c w i =
+    let j = slot-turn m b (h c) in
+    eqb c 0 || (leb low c && (leb w j && leb j i))
+
 module _ (m : ℕ) (ws : List ℕ) (b : ℕ) where
   -- what stands at turn i
   abbrev pub turn-word : ℕ → ℕ
   turn-word i = getD ws (turn-slot m b i) 0
 
-  -- the wall of a key c that comes after n turns: up to there and with it they are no smaller keys, or the slot is empty; behind it, up to c, all are smaller
+  -- the wall of a key c that comes after n turns: the last of them with an empty slot or no smaller key, counted from 1; 0
+  -- where all are smaller
   unfoldable pub wall : ℕ → ℕ → ℕ
   wall c zero = zero
   wall c (suc n) = cond (ltb 0 (turn-word n) && ltb (turn-word n) c) (wall c n) (suc n)
 
   module _ (h : ℕ → ℕ) (low : ℕ) where
-    -- at turn i the slot is empty, or holds a key, none below `low`, that starts behind its wall
     unfoldable pub settled : ℕ → Bool
-    settled i =
-        let c = turn-word i in
-        let j = slot-turn m b (h c) in
-        eqb c 0 || (leb low c && (leb (wall c i) j && leb j i))
+    settled i = right m b h low (turn-word i) (wall (turn-word i) i) i
 
-    -- so it is at n turns from i on
+    -- n turns from i on
     unfoldable pub all-settled : ℕ → ℕ → Bool
     all-settled zero i = true
     all-settled (suc n) i = settled i && all-settled n (suc i)

@@ -6,7 +6,7 @@ use mathlib.Core.List.{List, [], _∷_}
 use lib.Dec.{T}
 use Rattle.basics.specs.Lists.{same}
 use Rattle.probing.specs.Rule.{after, place, placed, table-image, looks, look}
-use Rattle.probing.specs.Moves.{displace, add, wrap, wall, settled, all-settled}
+use Rattle.probing.specs.Moves.{displace, add, wrap, wall, right, settled, all-settled}
 use Rattle.probing.specs.Orders.{add-all}
 
 abbrev board : ℕ → ℕ
@@ -49,5 +49,5 @@ probing-rows =
     && not (canonical 1 (9 ∷ 0 ∷ 0 ∷ 0 ∷ 0 ∷ []))
 
 pub follow : T probing-rows
-unfolding same after place placed table-image looks look displace add wrap wall settled all-settled add-all
+unfolding same after place placed table-image looks look displace add wrap wall right settled all-settled add-all
 follow = tt
