@@ -1,5 +1,5 @@
 -- What the out-parameters of the exported calls hold afterwards. The documents decide the values of an accepted call; what a refusal leaves, and the tier of a
--- key that is not listed, are ours to say: lookup, trail and salvage leave what stood there, the view gives an empty stretch. (What a refused opening leaves of its record is
+-- key that is not listed, are ours to say: lookups, trail and salvage leave what stood there, the view gives an empty stretch. (What a refused opening leaves of its record is
 -- `sale-left`, of outcome.)
 use Prim.Native.Nat.{ℕ, _*_}
 use mathlib.Core.Path.{_≡_, refl, sym, _∙_, ap}
@@ -15,6 +15,9 @@ use Rattle.outcome.specs.Trail.{number, values, TrailOutcome, trail-outcome}
 use Rattle.survivors.specs.declared.Salvaged.{Salvaged}
 use Rattle.survivors.specs.Salvage.{SalvageOutcome, salvage-outcome}
 use Rattle.survivors.specs.Salvage as Salvage
+use Rattle.stolen.specs.declared.Reported.{Reported}
+use Rattle.stolen.specs.Answers.{stolen-lookup-refusal, stolen-lookup-values}
+use Rattle.stolen.specs.Answers as Stolen
 
 -- the values of a lookup, 1 and the tier or 0, each in its place; where there is none, what stood there before
 unfoldable pub listed-out : List ℕ → List ℕ → ℕ → ℕ → ℕ
@@ -37,6 +40,10 @@ count-out tabulation ws scratch key sheet old = getD (trail-outcome tabulation w
 -- how many numbers a salvage lost; refused, what stood there before
 unfoldable pub lost-out : List ℕ → List ℕ → List ℕ → List ℕ → ℕ → ℕ
 lost-out tabulation ws target scratch old = getD (salvage-outcome tabulation ws target scratch .values) 0 old
+
+-- whether a key is reported stolen; refused, what stood there before
+unfoldable pub reported-out : List ℕ → List ℕ → ℕ → ℕ → ℕ → ℕ
+reported-out tabulation ws station key old = getD (stolen-lookup-values tabulation ws station key) 0 old
 
 -- The laws: offset and length name the very words that the view is
 pub stretch : (ws : List ℕ) → take (length-out ws) (drop (offset-out ws) ws) ≡ view-of ws
@@ -93,3 +100,13 @@ handed-salvage tabulation ws target scratch old q e = (
     ),
   ),
 )
+
+-- what is handed on of a lookup's answer f, which was found to be g
+pub handed-reported : (tabulation ws : List ℕ) (station key old : ℕ) {f g : Reported} → f ≡ g
+    → (Stolen.number f ≡ stolen-lookup-refusal tabulation ws station key)
+    × (Stolen.values f ≡ stolen-lookup-values tabulation ws station key)
+    → (Stolen.number g ≡ stolen-lookup-refusal tabulation ws station key)
+    × (getD (Stolen.values g) 0 old ≡ reported-out tabulation ws station key old)
+unfolding reported-out
+handed-reported tabulation ws station key old q e =
+    (sym (ap Stolen.number q) ∙ e .0, ap (λ (l : List ℕ). getD l 0 old) (sym (ap Stolen.values q) ∙ e .1))

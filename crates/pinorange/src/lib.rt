@@ -13,7 +13,10 @@ ghost use Rattle.outcome.specs.Sale.{sale-refusal, sale-left, closed};
 ghost use Rattle.counters.specs.Counters.{counted};
 ghost use Rattle.pinorange.specs.House.{house-answer, housed};
 ghost use Rattle.survivors.specs.Salvage.{salvage-outcome};
+ghost use Rattle.stolen.specs.Answers.{stolen-init-refusal, stolen-init-words, stolen-lookup-refusal};
+ghost use Rattle.stolen.specs.Answers.{stolen-insert-refusal, stolen-insert-words};
 ghost use Rattle.pinorange.specs.Out.{listed-out, tier-out, offset-out, length-out, count-out, lost-out};
+ghost use Rattle.pinorange.specs.Out.{reported-out};
 use counters::Counters;
 use layout::Found;
 use layout::PLACE_WIDTH;
@@ -22,6 +25,7 @@ use outcome::Sale;
 use outcome::Traced;
 use ranges::TABULATION_LENGTH;
 use refusals::WRONG_TABULATION;
+use stolen::Reported;
 use survivors::Salvaged;
 use words::wide;
 
@@ -257,6 +261,59 @@ pub extern "C" fn pinorange_close_sale(sale: &Sale) -> u32
     ensures { λ n. ⌜ n ≡ closed (now (sale .entry)) ⌝ }
 {
     sale.price
+}
+
+// Lays an empty list of stolen keys: zeros.
+#[no_mangle]
+pub extern "C" fn pinorange_stolen_init(words: &mut [u32]) -> u32
+    ensures numbered { λ n. ⌜ n ≡ stolen-init-refusal (now (words .entry)) ⌝ }
+    ensures laid { λ n. ⌜ now (words .exit) ≡ stolen-init-words (now (words .entry)) ⌝ }
+{
+    stolen_table::init(words)
+}
+
+// Puts a key into a list of stolen keys; a refusal changes no word.
+#[no_mangle]
+pub extern "C" fn pinorange_stolen_insert(
+    tabulation: &[u16],
+    words: &mut [u32],
+    station: u32,
+    key: u32,
+) -> u32
+    ensures numbered { λ n. ⌜ n
+        ≡ stolen-insert-refusal (now (tabulation .entry)) (now (words .entry)) station key ⌝ }
+    ensures laid { λ n. ⌜ now (words .exit)
+        ≡ stolen-insert-words (now (tabulation .entry)) (now (words .entry)) station key ⌝ }
+{
+    stolen_table::insert(tabulation, words, station, key)
+}
+
+// Whether a key is in a list of stolen keys. Done, `reported` is 1 or 0; refused, it stays.
+#[no_mangle]
+pub extern "C" fn pinorange_stolen_lookup(
+    tabulation: &[u16],
+    words: &[u32],
+    station: u32,
+    key: u32,
+    reported: &mut u32,
+) -> u32
+    ensures numbered { λ n. ⌜ n
+        ≡ stolen-lookup-refusal (now (tabulation .entry)) (now (words .entry)) station key ⌝ }
+    ensures told { λ n. ⌜ now (reported .exit) ≡ reported-out (now (tabulation .entry)) (now (words .entry)) station key
+        (now (reported .entry)) ⌝ }
+{
+    let answer = stolen_table::lookup(tabulation, words, station, key);
+    match answer {
+        Reported::Yes => {
+            *reported = 1;
+            0
+        }
+        Reported::No => {
+            *reported = 0;
+            0
+        }
+        Reported::Refused(n) => n,
+    }
 }
 
 // The house tabulation, written into a lent one; 1 if that is not of the right length, and it stays.

@@ -72,6 +72,10 @@ not-rising = 14
 abbrev pub none-counts : ℕ
 none-counts = 15
 
+-- 16, "all pockets filled"
+abbrev pub table-full : ℕ
+table-full = 16
+
 -- the number of the first refusal whose test holds, or done
 abbrev pub first-refusal : List (ℕ × Bool) → ℕ
 first-refusal [] = done
@@ -79,8 +83,8 @@ first-refusal (r ∷ rs) = cond (r .1) (r .0) (first-refusal rs)
 
 -- The laws. The numbers are those of document 01's table, and after them those of document 02.
 pub table : done ∷ wrong-tabulation ∷ wrong-shape ∷ short-scratch ∷ not-canonical ∷ blank-key ∷ key-present ∷ key-absent
-    ∷ stash-full ∷ wrong-tier ∷ other-tier ∷ short-trail ∷ wrong-price ∷ other-issue ∷ not-rising ∷ none-counts ∷ []
-    ≡ 0 ∷ 1 ∷ 2 ∷ 3 ∷ 4 ∷ 5 ∷ 6 ∷ 7 ∷ 8 ∷ 9 ∷ 10 ∷ 11 ∷ 12 ∷ 13 ∷ 14 ∷ 15 ∷ []
+    ∷ stash-full ∷ wrong-tier ∷ other-tier ∷ short-trail ∷ wrong-price ∷ other-issue ∷ not-rising ∷ none-counts ∷ table-full ∷ []
+    ≡ 0 ∷ 1 ∷ 2 ∷ 3 ∷ 4 ∷ 5 ∷ 6 ∷ 7 ∷ 8 ∷ 9 ∷ 10 ∷ 11 ∷ 12 ∷ 13 ∷ 14 ∷ 15 ∷ 16 ∷ []
 table = refl
 
 -- The first that applies is given: the first of the list, if its test holds,

@@ -46,3 +46,6 @@ pub const NOT_RISING: u32 = 14;
 
 // Something stands in the words of a salvage, and no key counts.
 pub const NONE_COUNTS: u32 = 15;
+
+// Insert into a list of stolen keys all of whose slots are filled.
+pub const TABLE_FULL: u32 = 16;
