@@ -78,7 +78,8 @@ uint32_t pinorange_stolen_init(uint32_t *words, size_t words_length);
  *   5: the key is below 10.
  *   6: the key is in the set. Another issue of it is not the same key.
  *   16: every slot is filled, and the key is not in the set.
- * It goes over all words each time, to try 4: docs/FIGURES.md has how long that takes. */
+ * It goes over all words each time, to try 4, and keeps two bytes for each of 1,024 slots on the stack meanwhile:
+ * docs/FIGURES.md has how long that takes, and how much stack. */
 uint32_t pinorange_stolen_insert(const uint16_t *tabulation, size_t tabulation_length, uint32_t *words,
                                  size_t words_length, uint32_t station, uint32_t key);
 

@@ -228,7 +228,8 @@ impl Counted {
     /// Prints the table: the mean of a call by the library, lookups of keys that are listed and absent, and inserts, and
     /// that to the twin's and to `HashSet`'s.
     pub fn print(&self) {
-        let columns = "stolen list|keys|listed|to twin|to HashSet|absent|to twin|to HashSet|insert|to twin|to HashSet";
+        let columns =
+            "stolen list|keys|listed|to twin|to HashSet|absent|to twin|to HashSet|insert|to twin|to HashSet";
         head(&columns.split('|').collect::<Vec<_>>());
         for number in 0..CASES {
             let case = Case::numbered(number);

@@ -9,7 +9,7 @@ use std::collections::BTreeMap;
 
 use crate::cases::{grouped, Load, PLACES};
 use crate::tables::{head, row};
-use calls::{Call, Key, Stolen};
+use calls::{Call, Coming, Key, Stolen, Ways};
 use lists::{Kind, List};
 
 /// What stands in the place of a partner where these calls are counted.
@@ -44,6 +44,11 @@ impl Candidate {
 
 const fn on(kind: Kind, call: Call, answer: u32, text: &'static str) -> Candidate {
     Candidate { kind, call, answer, text }
+}
+
+/// An insert into a stolen-card list, which no other list has a part in.
+const fn stolen(ways: Ways, coming: Coming, answer: u32, text: &'static str) -> Candidate {
+    on(Kind::Full, Call::StolenInsert(Stolen(ways, coming)), answer, text)
 }
 
 /// What is counted: the dearest, those that come close to it, and some that one would think of first. 63 keys are
@@ -166,23 +171,27 @@ const ROWS: &[Row] = &[
     Row { name: "house", candidates: &[
         on(Kind::Full, Call::House, 0, "every accepted call"),
     ] },
-    Row { name: "stolen list, r slots: init", candidates: &[
+    Row { name: "stolen list of r slots: init", candidates: &[
         on(Kind::Full, Call::StolenInit, 0, "every accepted call"),
     ] },
     Row { name: "stolen list: insert, accepted", candidates: &[
-        on(Kind::Full, Call::StolenInsert(Stolen::SmallestComes), 0,
-            "all keys start alike, and the smallest comes for the last slot"),
-        on(Kind::Full, Call::StolenInsert(Stolen::LargestComes), 0,
-            "all keys start alike, and the largest comes for the last slot"),
+        stolen(Ways::Alike, Coming::Smallest, 0, "all ways start alike; the smallest key, for the last slot"),
+        stolen(Ways::Alike, Coming::Largest, 0, "all ways start alike; the largest key, for the last slot"),
+        stolen(Ways::Behind, Coming::Smallest, 0, "all ways but one start behind that key; the smallest comes"),
+        stolen(Ways::Behind, Coming::Largest, 0, "all ways but one start behind that key; the largest of them comes"),
     ] },
     Row { name: "stolen list: insert, refused", candidates: &[
-        on(Kind::Full, Call::StolenInsert(Stolen::Larger), 16, "16, all keys start alike, a larger one comes"),
-        on(Kind::Full, Call::StolenInsert(Stolen::Largest), 6, "6, all keys start alike, the largest comes again"),
-        on(Kind::Full, Call::StolenInsert(Stolen::Twice), 4, "4, all keys start alike, the last slot has one twice"),
+        stolen(Ways::Alike, Coming::Larger, 16, "16, all ways start alike, a larger key"),
+        stolen(Ways::Alike, Coming::Again, 6, "6, all ways start alike, the key in the last slot"),
+        stolen(Ways::Alike, Coming::Tampered, 4, "4, all ways start alike, one key stands twice"),
+        stolen(Ways::Behind, Coming::Larger, 16, "16, all ways but two start behind one of these keys, a larger key"),
+        stolen(Ways::Behind, Coming::Again, 6, "6, all ways but two start behind one of these keys, the last of them"),
     ] },
     Row { name: "stolen list: lookup", candidates: &[
-        on(Kind::Full, Call::StolenLookup(Stolen::Largest), 0, "every slot filled, the key at the end of a round"),
-        on(Kind::Full, Call::StolenLookup(Stolen::Larger), 0, "every slot filled, absent, with smaller keys alone"),
+        on(Kind::Full, Call::StolenLookup(Stolen(Ways::Alike, Coming::Again)), 0,
+            "every slot filled, the key at the end of the round"),
+        on(Kind::Full, Call::StolenLookup(Stolen(Ways::Alike, Coming::Larger)), 0,
+            "every slot filled with a smaller key, absent"),
     ] },
 ];
 

@@ -1,52 +1,106 @@
-//! A stolen-card list in plain Rust, with the promise of the library's: the same ways, the same hash, and the same test
-//! of all words before an insert, over slices with the bounds tests of safe Rust, which proved code does not have.
+//! A stolen-card list in plain Rust, with the promise of the library's and its algorithm, step by step: the same ways,
+//! the same hash, and the same test of all words before an insert, over slices with the bounds tests of safe Rust,
+//! which proved code does not have.
 
 use crate::common::{is_blank, Hashing};
 
-/// The slot behind a slot, round the end.
+const MAX_SLOTS: usize = 1_024;
+
+/// A number below twice the slots as a slot, round the end.
 #[inline]
-fn next(slot: usize, slots: usize) -> usize {
-    if slot + 1 == slots {
-        0
+fn wrapped(slots: usize, number: usize) -> usize {
+    if number < slots {
+        number
     } else {
-        slot + 1
+        number - slots
     }
 }
 
-/// Whether every slot on the way of a key, from its start to just before where it sits, holds a smaller key.
+/// Whether a way from a slot on comes to a key: over smaller keys, a full round at most.
 #[inline]
-fn is_way_smaller(hashing: Hashing, words: &[u32], at: usize, key: u32) -> bool {
-    let mut slot = hashing.start(key);
-    while slot != at {
-        let there = words[slot];
-        if there == 0 || key <= there {
+fn is_found(words: &[u32], start: usize, key: u32) -> bool {
+    let mut slot = start;
+    for _ in 0..words.len() {
+        let word = words[slot];
+        if key <= word {
+            return word == key;
+        }
+        if word == 0 {
             return false;
         }
-        slot = next(slot, words.len());
+        slot = wrapped(words.len(), slot + 1);
+    }
+    false
+}
+
+/// A key takes the first empty slot on its way, or that of the first larger key, which goes on in its place.
+#[inline]
+fn carry(words: &mut [u32], start: usize, key: u32) {
+    let (mut carried, mut slot) = (key, start);
+    for _ in 0..words.len() {
+        let word = words[slot];
+        if word == 0 {
+            words[slot] = carried;
+            return;
+        }
+        if carried < word {
+            words[slot] = carried;
+            carried = word;
+        }
+        slot = wrapped(words.len(), slot + 1);
+    }
+}
+
+/// A slot that no key passes: an empty one, or that of the largest word.
+#[inline]
+fn barrier(words: &[u32]) -> usize {
+    let mut largest = 0;
+    for (slot, word) in words.iter().enumerate() {
+        if *word == 0 {
+            return slot;
+        }
+        if words[largest] < *word {
+            largest = slot;
+        }
+    }
+    largest
+}
+
+/// Where the way back from a turn over smaller keys ends, for a key that comes there: by the walls of the turns before,
+/// since with a smaller key all is passed that this one has passed.
+#[inline]
+fn wall_of(words: &[u32], walls: &[u16; MAX_SLOTS], base: usize, turn: usize, key: u32) -> usize {
+    let mut wall = turn;
+    while 0 < wall {
+        let word = words[wrapped(words.len(), wall + base)];
+        if word == 0 || key <= word {
+            return wall;
+        }
+        wall = usize::from(walls[wall - 1]);
+    }
+    0
+}
+
+/// Whether the words are the image of a set: no number below 10 but 0, and each key starts behind its wall, in a round
+/// behind a slot that no key passes.
+fn is_image(hashing: Hashing, words: &[u32], base: usize) -> bool {
+    let slots = words.len();
+    let mut walls = [0; MAX_SLOTS];
+    for turn in 0..slots {
+        let key = words[wrapped(slots, turn + base + 1)];
+        let wall = wall_of(words, &walls, base, turn, key);
+        if key != 0 {
+            if is_blank(key) {
+                return false;
+            }
+            let start = wrapped(slots, hashing.start(key) + slots - (base + 1));
+            if !(wall..=turn).contains(&start) {
+                return false;
+            }
+        }
+        walls[turn] = wall as u16;
     }
     true
-}
-
-/// Whether the words are the image of a set: no number below 10 but 0, and before each key smaller ones on its way.
-fn is_image(hashing: Hashing, words: &[u32]) -> bool {
-    words
-        .iter()
-        .enumerate()
-        .all(|(at, &key)| key == 0 || (!is_blank(key) && is_way_smaller(hashing, words, at, key)))
-}
-
-/// The first slot on a key's way that is empty or holds a key that is not smaller; none after a full round.
-#[inline]
-fn end_of_way(hashing: Hashing, words: &[u32], key: u32) -> Option<usize> {
-    let mut slot = hashing.start(key);
-    for _ in 0..words.len() {
-        let there = words[slot];
-        if there == 0 || key <= there {
-            return Some(slot);
-        }
-        slot = next(slot, words.len());
-    }
-    None
 }
 
 /// 0 and whether the key is reported, or 1, 2 or 5.
@@ -66,8 +120,7 @@ pub fn lookup(
     if is_blank(key) {
         return 5;
     }
-    let end = end_of_way(hashing, words, key);
-    *reported = u32::from(end.is_some_and(|slot| words[slot] == key));
+    *reported = u32::from(is_found(words, hashing.start(key), key));
     0
 }
 
@@ -75,34 +128,24 @@ pub fn lookup(
 #[inline(never)]
 #[export_name = "twin_stolen_insert"]
 pub fn insert(tabulation: &[u16], words: &mut [u32], station: u32, key: u32) -> u32 {
-    insert_key(tabulation, words, station, key).err().unwrap_or(0)
-}
-
-fn insert_key(tabulation: &[u16], words: &mut [u32], station: u32, key: u32) -> Result<(), u32> {
-    let hashing = Hashing::of(tabulation, words.len(), station)?;
-    if !is_image(hashing, words) {
-        return Err(4);
+    let hashing = match Hashing::of(tabulation, words.len(), station) {
+        Ok(hashing) => hashing,
+        Err(refusal) => return refusal,
+    };
+    let base = barrier(words);
+    if !is_image(hashing, words, base) {
+        return 4;
     }
     if is_blank(key) {
-        return Err(5);
+        return 5;
     }
-    let end = end_of_way(hashing, words, key);
-    if end.is_some_and(|slot| words[slot] == key) {
-        return Err(6);
+    let start = hashing.start(key);
+    if is_found(words, start, key) {
+        return 6;
     }
-    if !words.contains(&0) {
-        return Err(16);
+    if words[base] != 0 {
+        return 16;
     }
-    // Where a slot is empty the way ends somewhere.
-    let Some(mut slot) = end else { return Err(16) };
-    let mut coming = key;
-    while coming != 0 {
-        let there = words[slot];
-        if there == 0 || coming < there {
-            words[slot] = coming;
-            coming = there;
-        }
-        slot = next(slot, words.len());
-    }
-    Ok(())
+    carry(words, start, key);
+    0
 }

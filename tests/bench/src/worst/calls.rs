@@ -2,7 +2,7 @@
 //! call is counted; and what it answers must be what is meant.
 
 use library::{Counters, Sale};
-use reference::hash::{hashes, TABULATION_LEN};
+use reference::hash::{hashes, STRETCH_LEN, TABULATION_LEN};
 use reference::set::Member;
 
 use super::lists::List;
@@ -71,52 +71,85 @@ pub enum Call {
     StolenLookup(Stolen),
 }
 
-/// Stolen-card lists of r slots on which calls are dear, under a book of zeros: all ways start at the first slot, so
-/// that a key with so many smaller ones goes past all of them.
+/// How the keys of a stolen-card list of r slots lie.
 #[derive(Clone, Copy)]
-pub enum Stolen {
-    /// All slots filled but one; the smallest key comes, and moves all others.
-    SmallestComes,
-    /// The same, and the largest key comes, to the last slot.
-    LargestComes,
-    /// Every slot filled; the largest key is asked for, which is in the last slot.
-    Largest,
-    /// Every slot filled; a larger key is asked for, which is in none.
-    Larger,
-    /// Every slot filled, the last with the key before it once more; a larger key comes.
-    Twice,
+pub enum Ways {
+    /// All ways start at the first slot: each key stands behind all that are smaller.
+    Alike,
+    /// A large key is in the first slot, and all other ways start behind it: the test for 4 comes to it from each key.
+    Behind,
 }
 
+/// Which key comes, or is asked for.
+#[derive(Clone, Copy)]
+pub enum Coming {
+    /// The smallest, for the last slot, and moves all others of its way.
+    Smallest,
+    /// The largest of its way, for the last slot.
+    Largest,
+    /// The one in the last slot of the way, once more.
+    Again,
+    /// A larger one, where every slot is filled.
+    Larger,
+    /// The same, where the last slot has the key before it once more.
+    Tampered,
+}
+
+/// A stolen-card list on which a call is dear, and the key.
+#[derive(Clone, Copy)]
+pub struct Stolen(pub Ways, pub Coming);
+
+/// The top byte of a first part that starts in the first slot, or in the last, where the others start behind the first.
+const IN_FIRST: u32 = 0x10;
+const IN_LAST: u32 = 0x11;
+
 impl Stolen {
-    /// The words, and the key that comes or is asked for. The keys are those of the first parts from 2 on.
-    fn words_and_key(self, r: u32) -> (Vec<u32>, u32) {
-        let most =
-            if matches!(self, Stolen::SmallestComes | Stolen::LargestComes) { r } else { r + 1 };
-        let keys: Vec<u32> = (2..=most).map(an_issue).collect();
-        let mut words = stolen::image(&[0; TABULATION_LEN], r as usize, &keys);
-        let key = match self {
-            Stolen::SmallestComes => an_issue(1),
-            Stolen::Largest => an_issue(most),
-            Stolen::LargestComes | Stolen::Larger | Stolen::Twice => an_issue(most + 1),
-        };
-        if let (Stolen::Twice, [.., before, last]) = (self, &mut words[..]) {
-            *last = *before;
+    /// The book: the highest byte of a first part alone says where a way starts.
+    fn book(self, r: u32) -> Vec<u16> {
+        let mut book = vec![0; TABULATION_LEN];
+        if matches!(self.0, Ways::Behind) {
+            book[3 * STRETCH_LEN] = 1;
+            book[3 * STRETCH_LEN + IN_LAST as usize] = r as u16 - 1;
         }
-        (words, key)
+        book
+    }
+
+    /// The words, and the key. Where all slots are filled behind a large key, a still larger one is in the last.
+    fn words_and_key(self, r: u32) -> (Vec<u32>, u32) {
+        let Stolen(ways, coming) = self;
+        let is_full = !matches!(coming, Coming::Smallest | Coming::Largest);
+        let others = match ways {
+            Ways::Alike => Vec::new(),
+            Ways::Behind if is_full => vec![IN_FIRST << 24, IN_LAST << 24],
+            Ways::Behind => vec![IN_FIRST << 24],
+        };
+        let filled = if is_full { r } else { r - 1 };
+        // First parts from 2 on, as many as there are slots left.
+        let last = filled - others.len() as u32 + 1;
+        let keys: Vec<u32> = (2..=last).chain(others).map(an_issue).collect();
+        let mut words = stolen::image(&self.book(r), r as usize, &keys);
+        if let (Coming::Tampered, [.., before, end]) = (coming, &mut words[..]) {
+            *end = *before;
+        }
+        let part = match coming {
+            Coming::Smallest => 1,
+            Coming::Again => last,
+            _ => last + 1,
+        };
+        (words, an_issue(part))
     }
 
     fn insert(self, r: u32) -> u32 {
         let (mut words, key) = self.words_and_key(r);
-        library::stolen_insert(&[0; TABULATION_LEN], &mut words, STATION, key)
+        library::stolen_insert(&self.book(r), &mut words, STATION, key)
     }
 
     /// Whether it is told what it must, and its answer.
     fn lookup(self, r: u32) -> u32 {
         let (words, key) = self.words_and_key(r);
         let mut reported = u32::MAX;
-        let answer =
-            library::stolen_lookup(&[0; TABULATION_LEN], &words, STATION, key, &mut reported);
-        assert_eq!(reported, u32::from(matches!(self, Stolen::Largest)), "what is looked up");
+        let answer = library::stolen_lookup(&self.book(r), &words, STATION, key, &mut reported);
+        assert_eq!(reported, u32::from(matches!(self.1, Coming::Again)), "what is looked up");
         answer
     }
 }
