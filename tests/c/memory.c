@@ -1,13 +1,13 @@
 /* What the largest dictionary costs in memory, with one open sale and the largest stolen-card list beside it, added up
  * and held to a pump head's 128 KiB. The words, scratch and tabulation, the steps of the prices, the record of a sale
  * and the words of the stolen-card list are as long as the headers say; the stack is measured: every call runs on a
- * stack that was painted before, and what is painted afterwards was not used.
- * The longest trail that there is, of 2,048 keys, has a painted stack of its own: its steps are calls in calls, so that
- * it could take more the longer it is. So has a bulk load, of the keys that the inserts before it listed, a salvage, of
- * their words, damaged, and so have the calls on the stolen-card list. A salvage needs the words twice: the sum with a second area is printed besides, and the
- * largest r with which it fits. The code's size comes in as CODE_BYTES (tests/run takes it from `size`). Exits with 0
- * when all fits, the longest trail's stack is below TRAIL_STACK_BYTES, every sale was closed at its price, the bulk load
- * laid the words that the inserts left, and the salvages and the stolen-card list gave what they must. */
+ * stack that was painted before, and what is painted afterwards was not used. The longest trail that there is, of 2,048
+ * keys, has a painted stack of its own: its steps are calls in calls, so that it could take more the longer it is. So
+ * has a bulk load, of the keys that the inserts before it listed, a salvage, of their words, damaged, and so have the
+ * calls on the stolen-card list. A salvage needs the words twice: the sum with a second area is printed besides, and
+ * the largest r with which it fits. The code's size comes in as CODE_BYTES (tests/run takes it from `size`). Exits with
+ * 0 when all fits, the longest trail's stack is below TRAIL_STACK_BYTES, every sale was closed at its price, the bulk
+ * load laid the words that the inserts left, and the salvages and the stolen-card list gave what they must. */
 #define _GNU_SOURCE
 #include "pinorange_stolen.h"
 
@@ -140,8 +140,8 @@ static uint32_t report(uint32_t key, uint32_t station)
     return pinorange_stolen_insert(tabulation, PINORANGE_TABULATION_LENGTH, stolen, PINORANGE_MAX_SLOTS, station, key);
 }
 
-/* The calls on a stolen-card list alone: filled to the last slot, with each refusal, and every key looked up and as many
- * others. */
+/* The calls on a stolen-card list alone: filled to the last slot, with each refusal, and every key looked up and as
+ * many others. */
 static void *stolen_calls(void *unused)
 {
     unsigned char local;
@@ -284,10 +284,23 @@ static size_t stack_of(void *(*calls)(void *))
     return left;
 }
 
+/* A second area and the number that a salvage tells. */
+#define SECOND (sizeof target + sizeof wet_lost)
+
+/* The largest r with which they fit beside the rest: each slot less, one in each table, is 24 bytes of words less,
+ * twice, and 48 of scratch. */
+static uint32_t fitting(size_t sum)
+{
+    uint32_t r = R;
+    while (sum + SECOND - (R - r) * (2 * 24 + 48) > HEAD_BYTES)
+        r--;
+    return r;
+}
+
 int main(void)
 {
-    size_t other_stack = stack_of(other_calls), load_stack, salvage_stack, stolen_stack, trail_stack, stack, sum;
-    uint32_t refused = counters.refused, r = R;
+    size_t other_stack = stack_of(other_calls), load_stack, salvage_stack, stolen_stack, trail_stack, stack, sum, bare;
+    uint32_t refused = counters.refused;
     int loaded;
     take_input();
     load_stack = stack_of(bulk_loads);
@@ -310,14 +323,12 @@ int main(void)
     printf("code and constants %u\nwords %zu\nscratch %zu\ntabulation %zu\ncounters %zu\nsteps %zu\nsale %zu\n"
            "stolen-card list %zu\nstack %zu\n", CODE_BYTES, sizeof words, sizeof scratch, sizeof tabulation,
            sizeof counters, sizeof steps, sizeof sale, sizeof stolen, stack);
-    printf("stack of the longest trail %zu\nstack of a bulk load %zu\nstack of a salvage %zu\nstack of the calls on the "
-           "stolen-card list %zu\nstack of the other calls %zu\n", trail_stack, load_stack, salvage_stack, stolen_stack,
-           other_stack);
-    /* With a second area and the number that a salvage tells: each slot less, one in each table, is 24 bytes of words
-     * less, twice, and 48 of scratch. */
-    while (sum + sizeof target + sizeof wet_lost - (R - r) * (2 * 24 + 48) > HEAD_BYTES)
-        r--;
-    printf("with a second area %zu; it fits with r = %u\n", sum + sizeof target + sizeof wet_lost, (unsigned)r);
+    printf("stack of the longest trail %zu\nstack of a bulk load %zu\nstack of a salvage %zu\nstack of the calls on "
+           "the stolen-card list %zu\nstack of the other calls %zu\n", trail_stack, load_stack, salvage_stack,
+           stolen_stack, other_stack);
+    bare = sum - sizeof stolen - stack + (trail_stack < other_stack ? other_stack : trail_stack);
+    printf("with a second area %zu; it fits with r = %u, without the stolen-card list with r = %u\n", sum + SECOND,
+           (unsigned)fitting(sum), (unsigned)fitting(bare));
     printf("memory.c: %zu of %u bytes; %u keys accepted, %u calls refused, %u of them for another tier, %u for another "
            "issue; the longest trail has %u keys; %u sales; %u keys in one call; %u of %u saved; %u reported stolen\n",
            sum, HEAD_BYTES, (unsigned)accepted, (unsigned)refused, (unsigned)other_tier, (unsigned)other_issue,

@@ -177,15 +177,15 @@ const ROWS: &[Row] = &[
     Row { name: "stolen list: insert, accepted", candidates: &[
         stolen(Ways::Alike, Coming::Smallest, 0, "all ways start alike; the smallest key, for the last slot"),
         stolen(Ways::Alike, Coming::Largest, 0, "all ways start alike; the largest key, for the last slot"),
-        stolen(Ways::Behind, Coming::Smallest, 0, "all ways but one start behind that key; the smallest comes"),
-        stolen(Ways::Behind, Coming::Largest, 0, "all ways but one start behind that key; the largest of them comes"),
+        stolen(Ways::Behind, Coming::Smallest, 0, "behind one; the smallest key, for the last slot"),
+        stolen(Ways::Behind, Coming::Largest, 0, "behind one; the largest of the others"),
     ] },
     Row { name: "stolen list: insert, refused", candidates: &[
         stolen(Ways::Alike, Coming::Larger, 16, "16, all ways start alike, a larger key"),
         stolen(Ways::Alike, Coming::Again, 6, "6, all ways start alike, the key in the last slot"),
-        stolen(Ways::Alike, Coming::Tampered, 4, "4, all ways start alike, one key stands twice"),
-        stolen(Ways::Behind, Coming::Larger, 16, "16, all ways but two start behind one of these keys, a larger key"),
-        stolen(Ways::Behind, Coming::Again, 6, "6, all ways but two start behind one of these keys, the last of them"),
+        stolen(Ways::Behind, Coming::Larger, 16, "16, behind one, every slot filled"),
+        stolen(Ways::Behind, Coming::Again, 6, "6, behind one, the largest of the others"),
+        stolen(Ways::Behind, Coming::Tampered, 4, "4, behind one, a key twice at the end of the round"),
     ] },
     Row { name: "stolen list: lookup", candidates: &[
         on(Kind::Full, Call::StolenLookup(Stolen(Ways::Alike, Coming::Again)), 0,

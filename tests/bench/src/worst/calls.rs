@@ -91,7 +91,7 @@ pub enum Coming {
     Again,
     /// A larger one, where every slot is filled.
     Larger,
-    /// The same, where the last slot has the key before it once more.
+    /// The same, where a key stands twice, which is found at the end of the round.
     Tampered,
 }
 
@@ -128,7 +128,7 @@ impl Stolen {
         let last = filled - others.len() as u32 + 1;
         let keys: Vec<u32> = (2..=last).chain(others).map(an_issue).collect();
         let mut words = stolen::image(&self.book(r), r as usize, &keys);
-        if let (Coming::Tampered, [.., before, end]) = (coming, &mut words[..]) {
+        if let (Coming::Tampered, [.., before, end, _]) = (coming, &mut words[..]) {
             *end = *before;
         }
         let part = match coming {
