@@ -140,7 +140,7 @@ pub fn wall_of(words: &[u32], walls: &[u16; MAX_SLOTS], base: usize, turn: usize
         if word == 0 {
             return wall;
         }
-        if key <= word {
+        if word >= key {
             return wall;
         }
         wall = wide_wall(walls[before]);

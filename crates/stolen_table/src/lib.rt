@@ -48,13 +48,13 @@ pub fn init(words: &mut [u32]) -> u32
     0
 }
 
-// The slot where a key starts: that of table 0.
+// The slot where a key starts: its hash in table 0.
 fn start_of(tabulation: &[u16], slots: usize, station: u32, key: u32) -> usize
     requires { ⌜ Hashing (now tabulation) slots station ⌝ }
     ensures at { λ s. ⌜ s ≡ slot-0 (tables (now (tabulation .entry)) slots station) key ⌝ }
     ensures inside { λ s. ⌜ s < slots ⌝ }
 {
-    wide(slots::first_slot(tabulation, slots as u32, station, key))
+    wide(slots::hash_in(tabulation, 0, slots as u32, station, key))
 }
 
 // Whether the key is reported, on any words; or 1, 2 or 5.
