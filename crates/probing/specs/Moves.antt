@@ -33,11 +33,11 @@ turn-slot m b i = wrap m (i + (b + 1))
 abbrev pub slot-turn : ℕ → ℕ → ℕ → ℕ
 slot-turn m b s = wrap m (s + (m - (b + 1)))
 
--- right at turn i are an empty slot, and a key, none below `low`, that starts behind its wall w
+-- a key c is right at turn i: it is not below `low`, and starts behind its wall w
 unfoldable pub right : ℕ → ℕ → (ℕ → ℕ) → ℕ → ℕ → ℕ → ℕ → Bool
 right m b h low c w i =
     let j = slot-turn m b (h c) in
-    eqb c 0 || (leb low c && (leb w j && leb j i))
+    leb low c && (leb w j && leb j i)
 
 module _ (m : ℕ) (ws : List ℕ) (b : ℕ) where
   -- what stands at turn i
@@ -51,8 +51,9 @@ module _ (m : ℕ) (ws : List ℕ) (b : ℕ) where
   wall c (suc n) = cond (ltb 0 (turn-word n) && ltb (turn-word n) c) (wall c n) (suc n)
 
   module _ (h : ℕ → ℕ) (low : ℕ) where
+    -- the slot of turn i is empty, or its key right
     unfoldable pub settled : ℕ → Bool
-    settled i = right m b h low (turn-word i) (wall (turn-word i) i) i
+    settled i = eqb (turn-word i) 0 || right m b h low (turn-word i) (wall (turn-word i) i) i
 
     -- n turns from i on
     unfoldable pub all-settled : ℕ → ℕ → Bool

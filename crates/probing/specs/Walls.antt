@@ -175,6 +175,6 @@ module _ (m : ℕ) (ws : List ℕ) (b : ℕ) where
           λ w. rw e at (behind-passes (i - j) j (omega (arith, w .1)) (w .0)),
         )
 
--- the walls of the turns before turn n
+-- the walls of the keys that come before turn n
 pub record Walled (m : ℕ) (ws : List ℕ) (b : ℕ) (walls : List ℕ) (n : ℕ) : Type 0 where
-  pub each : (i : ℕ) → i < n → getD walls i 0 ≡ wall m ws b (turn-word m ws b i) i
+  pub each : (i : ℕ) → i < n → 0 < turn-word m ws b i → getD walls i 0 ≡ wall m ws b (turn-word m ws b i) i

@@ -64,7 +64,8 @@ jumped : (c : tie.After-wide-wall Inv-loop μ-loop) → let t = c .before .befor
     c .wide-wall .result ≡ wall-at (length ws) ws (a .base) (turn-word (length ws) ws (a .base) i) i
 jumped c =
     let t = c .before .before .before .before .before .before .before in
-    c .wide-wall .ensures ∙ t .before .before .pre .3 .each (t .loop .wall - 1) (omega arith)
+    let n = rw (c .before .before .before .before .before .slot-of .ensures .0) at (c .before .before .before .if1 .left) in
+    c .wide-wall .ensures ∙ t .before .before .pre .3 .each (t .loop .wall - 1) (omega arith) (omega (arith, n))
 
 loop-less : tie.Need-loop-less Inv-loop μ-loop
 loop-less c =
