@@ -9,7 +9,8 @@ use lib.ListN.{length}
 use Rattle.basics.specs.Sets.{member}
 use Rattle.basics.specs.Lists.{same}
 use Rattle.ordered.specs.Keys.{with-key}
-use Rattle.refusals.specs.Refusal.{done, wrong-tabulation, wrong-shape, not-canonical, blank-key, key-present, table-full}
+use Rattle.refusals.specs.Refusal.{done, wrong-tabulation, wrong-shape, not-canonical, blank-key, key-present}
+use Rattle.refusals.specs.Refusal.{table-full}
 use Rattle.refusals.specs.Refusal.{first-refusal}
 use Rattle.hashing.specs.Hash.{tabulation-length, max-station, station-in-range, blank, Family, tables}
 use Rattle.hashing.specs.Slots.{slot-0}

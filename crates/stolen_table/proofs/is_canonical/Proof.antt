@@ -1,4 +1,5 @@
--- `stolen_table::is_canonical` meets its contract. The invariant: the walls of the turns so far are kept, and what is left of the round decides.
+-- `stolen_table::is_canonical` meets its contract. The invariant: the walls of the turns so far are kept, and what is
+-- left of the round decides.
 use Prim.Native.Nat.{ℕ, _≤_, _<_, _-_}
 use mathlib.Core.Path.{_≡_, refl, sym, _∙_}
 use mathlib.Core.Logic.{inl, inr}
@@ -54,7 +55,8 @@ wall-of-requires c κs =
     (s .pre .1, c .before .before .before .before .loop-test .taken, s .pre .0 .slots-bound, t .loop .inv .2)
 
 is-right-requires : tie.Need-is-right-requires Inv-loop μ-loop
-is-right-requires c κs = let s = c .before .before .before .before .before .before .before .before .before in (s .pre .0, s .pre .1)
+is-right-requires c κs =
+    let s = c .before .before .before .before .before .before .before .before .before in (s .pre .0, s .pre .1)
 
 -- the wall is that of the key which comes at this turn, and the test that of the turn
 walled : (w : tie.After-wall-of Inv-loop μ-loop) → let t = w .before .before .before .before .before .before in
