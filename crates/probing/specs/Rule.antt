@@ -22,7 +22,8 @@ place m (suc n) ws c s = cond (eqb (getD ws s 0) 0) (set ws s c) (place m n ws c
 unfoldable pub looks : ℕ → ℕ → List ℕ → ℕ → ℕ → Bool
 looks m zero ws c s = false
 looks m (suc n) ws c s =
-    cond (eqb (getD ws s 0) c) true (cond (eqb (getD ws s 0) 0 || ltb c (getD ws s 0)) false (looks m n ws c (after m s)))
+    cond (eqb (getD ws s 0) c) true
+    (cond (eqb (getD ws s 0) 0 || ltb c (getD ws s 0)) false (looks m n ws c (after m s)))
 
 -- the keys that stand in words, ascending
 unfoldable pub table-keys : List ℕ → List ℕ

@@ -94,7 +94,8 @@ module _ (R : Register) (tabulation : List ℕ) (station : ℕ) where
   -- finds in the image of the set.
   abbrev pub hears : ℕ → Bool
   hears key =
-      cond names-own (member key (R .keys)) (look (slot-0 named) (R .family .slots) (stolen-image (R .family) (R .keys)) key)
+      cond names-own (member key (R .keys))
+      (look (slot-0 named) (R .family .slots) (stolen-image (R .family) (R .keys)) key)
 
 -- a refusal changes nothing; an accepted key is in the set, under the call's book and station
 unfoldable pub stolen-reply : Register → StolenCall → StolenReply

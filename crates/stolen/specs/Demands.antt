@@ -87,7 +87,8 @@ module _ (tabulation ws : List ℕ) (station key : ℕ) where
           → says (look (slot-0 (stolen-family tabulation ws station)) (length ws) ws key) ≡ 1 ∷ []
           → In key (table-keys ws)
       go (and a (and b (and c none))) q =
-          look-stands (slot-0 (stolen-family tabulation ws station)) (length ws) ws key (omega arith) (omega (arith, not-blank key c)) (told _ q)
+          look-stands (slot-0 (stolen-family tabulation ws station)) (length ws) ws key (omega arith)
+          (omega (arith, not-blank key c)) (told _ q)
 
   -- An accepted insert was made on the image of the keys that stand in the words,
   pub accepted-image : stolen-insert-refusal tabulation ws station key ≡ done
@@ -101,7 +102,8 @@ module _ (tabulation ws : List ℕ) (station key : ℕ) where
 
   -- and "leaves the image of the old set with the card".
   pub stolen-insert-image : stolen-insert-refusal tabulation ws station key ≡ done
-      → StolenImage (stolen-family tabulation ws station) (with-key key (table-keys ws)) (stolen-insert-words tabulation ws station key)
+      → StolenImage (stolen-family tabulation ws station) (with-key key (table-keys ws))
+      (stolen-insert-words tabulation ws station key)
   stolen-insert-image e = go (insert-passes e)
     where
       F : Family

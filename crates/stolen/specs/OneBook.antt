@@ -35,7 +35,8 @@ never-done true e = let q : _≡_ {A = ℕ} 1 0 = e in omega arith
 never-done false e = let q : _≡_ {A = ℕ} 2 0 = e in omega arith
 
 -- A register under F's book and station, and a call that names them, or is refused for its own.
-module _ (F : Family) (R : Register) (e : R .family ≡ F) (tabulation : List ℕ) (station key : ℕ) (one : NamesOne F tabulation station) where
+module _ (F : Family) (R : Register) (e : R .family ≡ F) (tabulation : List ℕ) (station key : ℕ)
+    (one : NamesOne F tabulation station) where
   -- the tests of an insert in a register that knows nothing but its set
   abbrev pub plain-insert-tests : List (ℕ × Bool)
   plain-insert-tests =
@@ -76,7 +77,8 @@ unfolding stolen-reply
 one-step F R e (StolenCall.lookup tabulation station key) o = e
 one-step F R e (StolenCall.insert tabulation station key) o =
     elim (eq? (first-refusal (register-insert-tests R tabulation station key)) done) [
-      | inl d ↦ rw (eq-eqb (first-refusal (register-insert-tests R tabulation station key)) done d) (stays F R e tabulation station key o d)
+      | inl d ↦ rw (eq-eqb (first-refusal (register-insert-tests R tabulation station key)) done d)
+          (stays F R e tabulation station key o d)
       | inr n ↦ rw (ne-eqb (first-refusal (register-insert-tests R tabulation station key)) done n) e
     ]
 
@@ -108,7 +110,8 @@ module _ (F : Family) (z : Ranged F) where
   words-keys cs ds e =
       let v = stolen-history F z cs .final in
       let w = stolen-history F z ds .final in
-      sym (image-keys _ (in-range-pos _ (v .slots)) _ (v .image)) ∙ ap table-keys e ∙ image-keys _ (in-range-pos _ (w .slots)) _ (w .image)
+      sym (image-keys _ (in-range-pos _ (v .slots)) _ (v .image))
+      ∙ ap table-keys e ∙ image-keys _ (in-range-pos _ (w .slots)) _ (w .image)
 
   pub stolen-no-trace : (cs ds : List StolenCall) → ((c : StolenCall) → In c cs → Ours F c)
       → ((c : StolenCall) → In c ds → Ours F c) → StolenNoTrace F cs ds

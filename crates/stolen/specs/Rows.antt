@@ -32,12 +32,14 @@ shows station S ws = same (stolen-image (tables stolen-board 5 station) S) ws
 -- an insert's number, and the words it leaves
 abbrev inserts : List ℕ → ℕ → ℕ → ℕ → List ℕ → Bool
 inserts ws station key n vs =
-    eqb (stolen-insert-refusal stolen-board ws station key) n && same (stolen-insert-words stolen-board ws station key) vs
+    eqb (stolen-insert-refusal stolen-board ws station key) n
+    && same (stolen-insert-words stolen-board ws station key) vs
 
 -- a lookup's number and its values
 abbrev tells : List ℕ → ℕ → ℕ → ℕ → List ℕ → Bool
 tells ws station key n vs =
-    eqb (stolen-lookup-refusal stolen-board ws station key) n && same (stolen-lookup-values stolen-board ws station key) vs
+    eqb (stolen-lookup-refusal stolen-board ws station key) n
+    && same (stolen-lookup-values stolen-board ws station key) vs
 
 abbrev empty : List ℕ
 empty = 0 ∷ 0 ∷ 0 ∷ 0 ∷ 0 ∷ []

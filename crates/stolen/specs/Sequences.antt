@@ -130,7 +130,7 @@ module _ (R : Register) (ws : List ℕ) (h : StolenKept R ws) where
               image = rw (long, listed) at v;
             }
 
-    insert-replies : StolenReplies (stolen-step ws (StolenCall.insert tabulation station key)) (stolen-reply R (StolenCall.insert tabulation station key))
+    insert-replies : let c = StolenCall.insert tabulation station key in StolenReplies (stolen-step ws c) (stolen-reply R c)
     unfolding stolen-step stolen-reply
     insert-replies =
         let n = first-refusal (register-insert-tests R tabulation station key) in
@@ -160,7 +160,7 @@ module _ (R : Register) (ws : List ℕ) (h : StolenKept R ws) where
           | inr other ↦ rw other (ap (λ (l : List ℕ). look (slot-0 (named R tabulation station)) (R .family .slots) l key) (h .image .is))
         ])
 
-    lookup-replies : StolenReplies (stolen-step ws (StolenCall.lookup tabulation station key)) (stolen-reply R (StolenCall.lookup tabulation station key))
+    lookup-replies : let c = StolenCall.lookup tabulation station key in StolenReplies (stolen-step ws c) (stolen-reply R c)
     unfolding stolen-step stolen-reply
     lookup-replies =
         let n = first-refusal (register-lookup-tests R tabulation station key) in
