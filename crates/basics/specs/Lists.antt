@@ -158,6 +158,12 @@ drop-zeros zero s = let e : s - 0 ≡ s = omega arith in rw e
 drop-zeros (suc k) zero = let e : 0 - suc k ≡ 0 = omega arith in rw e
 drop-zeros (suc k) (suc s) = let e : suc s - suc k ≡ s - k = omega arith in rw e (drop-zeros k s)
 
+-- nothing but zeros, behind its end, too
+pub getD-zeros : (n p : ℕ) → _≡_ {A = ℕ} (getD (replicate n 0) p 0) 0
+getD-zeros zero p = refl
+getD-zeros (suc n) zero = refl
+getD-zeros (suc n) (suc p) = getD-zeros n p
+
 -- ascending lists
 
 -- ascending, and above n: a test of one member after the other, and what it means

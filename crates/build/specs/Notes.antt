@@ -10,6 +10,7 @@ use lib.Dec.{ltb}
 use lib.ListN.{length, getD, set, length-set, drop, replicate, length-replicate}
 use lib.Seq.{sets, sets-eq, getD-set-same, getD-set-other}
 use borrow.Author.Tests.{lt-ltb, le-ltb}
+use Rattle.basics.specs.Lists.{getD-zeros}
 use Rattle.basics.specs.Sets.{member, keep}
 use Rattle.cuckoo.specs.Graph.{seated, stash}
 use Rattle.basics.specs.Tests.{eq?, le?}
@@ -19,7 +20,6 @@ use Rattle.cuckoo.specs.Forest.{forest, forest-in, spans-key, acyclic}
 use Rattle.cuckoo.specs.Settling.{seated-forest, seated-is, is-seated, tree, smallest}
 use Rattle.cuckoo.specs.Seating.{Bare, ends-near}
 use Rattle.cuckoo.specs.Tree.{far-some}
-use Rattle.forest.specs.Link.{getD-zeros}
 use Rattle.build.specs.Labels.{Labels, Words, label-fit, same-label, label-joined}
 
 -- Step 3, and the notes of step 6: descending over the ranks whose word is a label, each is noted there. Of R the larger come first.

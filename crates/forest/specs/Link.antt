@@ -9,6 +9,7 @@ use mathlib.Core.List.{List, [], _∷_, List·Memᴰ as In, List·Memᴰ·head a
 use native.Mathlib.Omega.{arith}
 use lib.ListN.{length, getD, replicate}
 use Rattle.basics.specs.Tests.{eq?}
+use Rattle.basics.specs.Lists.{getD-zeros}
 use Rattle.basics.specs.Sets.{without, Sub, in-out, out-shorter, asc-keep, Asc, none, some, below-in, below-lt, in-below}
 use Rattle.cuckoo.specs.Graph.{joined}
 use Rattle.cuckoo.specs.Joined.{Joined, jrefl, jsym, jtrans, mono, within, more, joined?, true-joined, false-joined}
@@ -36,11 +37,6 @@ getD-in : (h : List ℕ) (v : ℕ) → (getD h v 0 ≡ 0 → ⊥) → In (getD h
 getD-in [] v n = absurd (n refl)
 getD-in (x ∷ h) zero n = here refl
 getD-in (x ∷ h) (suc v) n = there (getD-in h v n)
-
-pub getD-zeros : (m v : ℕ) → _≡_ {A = ℕ} (getD (replicate m 0) v 0) 0
-getD-zeros zero v = refl
-getD-zeros (suc m) zero = refl
-getD-zeros (suc m) (suc v) = getD-zeros m v
 
 module _ (a b : ℕ → ℕ) where
   -- no keys, and every slot bare

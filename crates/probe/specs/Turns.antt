@@ -78,13 +78,15 @@ module _ (m n : ℕ) (ws : List ℕ) (c s : ℕ) (l : n ≤ 0) where
 -- the wall of a key, from n turns back on: here; or, over a smaller key, where that one's wall is; or before all turns
 module _ (m : ℕ) (ws : List ℕ) (b c n : ℕ) where
   pub wall-stop : 0 < n → (0 < turn-word m ws b (n - 1) → c ≤ turn-word m ws b (n - 1)) → wall m ws b c n ≡ n
-  wall-stop l f = spend (λ n k. (0 < turn-word m ws b k → c ≤ turn-word m ws b k) → wall m ws b c n ≡ n) n l (λ k g. wall-here m ws b c k g) f
+  wall-stop l f =
+      spend (λ n k. (0 < turn-word m ws b k → c ≤ turn-word m ws b k) → wall m ws b c n ≡ n) n l (λ k g. wall-here m ws b c k g) f
 
   pub wall-over : 0 < n → (turn-word m ws b (n - 1) ≡ 0 → ⊥) → turn-word m ws b (n - 1) < c
       → wall m ws b c n ≡ wall m ws b c (wall m ws b (turn-word m ws b (n - 1)) (n - 1))
   wall-over l a d =
       spend
-      (λ n k. 0 < turn-word m ws b k → turn-word m ws b k < c → wall m ws b c n ≡ wall m ws b c (wall m ws b (turn-word m ws b k) k))
+      (λ n k. 0 < turn-word m ws b k → turn-word m ws b k < c → wall m ws b c n
+      ≡ wall m ws b c (wall m ws b (turn-word m ws b k) k))
       n l
       (λ k x y. wall-back m ws b c k x y ∙ sym (wall-skip m ws b c (turn-word m ws b k) k (omega arith)))
       (omega arith) d

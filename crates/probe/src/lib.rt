@@ -1,5 +1,6 @@
-// The loops over the slots of one table in which the smaller key keeps a contested slot: looking for a key, carrying one
-// in, and the round that tells whether words are an image. Each promises a function of `probing`; none knows a hash.
+// The loops over the slots of one table in which the smaller key keeps a contested slot: looking for a key, carrying
+// one in, and the round that tells whether words are an image. Each promises a function of `probing`; none knows a
+// hash.
 ghost use mathlib.Core.Path.{_≡_};
 ghost use Prim.Native.Nat.{_≤_, _<_, _+_};
 ghost use lib.ListN.{length};
@@ -140,7 +141,7 @@ pub fn wall_of(words: &[u32], walls: &[u16; MAX_SLOTS], base: usize, turn: usize
         if word == 0 {
             return wall;
         }
-        if key <= word {
+        if word >= key {
             return wall;
         }
         wall = wide_wall(walls[before]);

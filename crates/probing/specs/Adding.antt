@@ -11,7 +11,8 @@ use Rattle.basics.specs.Tests.{eq?, le?}
 use Rattle.basics.specs.Sets.{Sub}
 use Rattle.probing.specs.Rule.{after}
 use Rattle.probing.specs.Moves.{displace, add}
-use Rattle.probing.specs.Way.{Passes, at, passes-next, passes-set, Ahead, ahead-all, ahead-lt, ahead-none, ahead-next}
+use Rattle.probing.specs.Way.{PassesOver, at, passes-next, passes-set, Ahead, ahead-all, ahead-lt, ahead-none}
+use Rattle.probing.specs.Way.{ahead-next}
 use Rattle.probing.specs.Unique.{Ordered, Contains, once}
 
 -- the steps of `displace`
@@ -38,7 +39,7 @@ pub record Arranged (h : ℕ → ℕ) (m : ℕ) (S ws : List ℕ) : Type 0 where
 record Carried (h : ℕ → ℕ) (m : ℕ) (T ws : List ℕ) (c s : ℕ) : Type 0 where
   long : length ws ≡ m
   ordered : Ordered h m ws
-  over : Passes m ws c (h c) s
+  over : PassesOver m ws c (h c) s
   key : 0 < c
   keys : (d : ℕ) → In d T → 0 < d
   absent : (p : ℕ) → getD ws p 0 ≡ c → ⊥
@@ -47,7 +48,8 @@ record Carried (h : ℕ → ℕ) (m : ℕ) (T ws : List ℕ) (c s : ℕ) : Type 
   has : In c T
 
 -- what stands after a store
-set-stands : (ws : List ℕ) (c q d p : ℕ) → q < length ws → getD (set ws q c) p 0 ≡ d → (d ≡ c) ⊎ ((p ≡ q → ⊥) × (getD ws p 0 ≡ d))
+set-stands : (ws : List ℕ) (c q d p : ℕ) → q < length ws → getD (set ws q c) p 0 ≡ d
+    → (d ≡ c) ⊎ ((p ≡ q → ⊥) × (getD ws p 0 ≡ d))
 set-stands ws c q d p l e =
     elim (eq? p q) [
       | inl r ↦ inl (sym e ∙ ap (λ (i : ℕ). getD (set ws q c) i 0) r ∙ getD-set-same ws q c 0 l)
@@ -56,7 +58,8 @@ set-stands ws c q d p l e =
 
 module _ {h : ℕ → ℕ} {m : ℕ} where
   -- c takes a slot that is empty or holds a larger key
-  set-ordered : {ws : List ℕ} {c q : ℕ} → Ordered h m ws → q < length ws → 0 < c → (0 < getD ws q 0 → c < getD ws q 0) → Passes m ws c (h c) q
+  set-ordered : {ws : List ℕ} {c q : ℕ} → Ordered h m ws → q < length ws → 0 < c → (0 < getD ws q 0 → c < getD ws q 0)
+      → PassesOver m ws c (h c) q
       → Ordered h m (set ws q c)
   set-ordered {ws} {c} {q} o l k f v = record {
     over = λ d p a e. elim (eq? p q) [
@@ -99,10 +102,12 @@ module _ {h : ℕ → ℕ} {m : ℕ} where
         record {
           long = rw length-set (k .long);
           ordered = set-ordered (k .ordered) inside (k .key) (λ a. b) (k .over);
-          over = passes-next (passes-set s c inside (λ x y. absurd (omega arith)) (k .ordered .over d s a refl)) (rw here (k .key)) (rw here b);
+          over =
+              passes-next (passes-set s c inside (λ x y. absurd (omega arith)) (k .ordered .over d s a refl)) (rw here (k .key)) (rw here b);
           key = a;
           keys = k .keys;
-          absent = λ p e. elim (set-stands ws c s d p inside e) [ inl q ↦ omega arith | inr r ↦ r .0 (once (k .ordered) a (r .1) refl) ];
+          absent =
+              λ p e. elim (set-stands ws c s d p inside e) [ inl q ↦ omega arith | inr r ↦ r .0 (once (k .ordered) a (r .1) refl) ];
           all = λ x i. elim (k .all x i) [
             | inl q ↦ inr (s, here ∙ sym q)
             | inr r ↦ elim (eq? (r .0) s) [

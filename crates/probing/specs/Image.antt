@@ -1,5 +1,5 @@
--- The image of a set: it is the one arrangement of its keys (`image-arranged`, `arranged-image`); look-up on it says yes exactly for the set
--- (`look-arranged`); and adding a key gives the image of the set with the key (`add-image`).
+-- The image of a set: it is the one arrangement of its keys (`image-arranged`, `arranged-image`); look-up on it says
+-- yes exactly for the set (`look-arranged`); and adding a key gives the image of the set with the key (`add-image`).
 use Prim.Native.Nat.{ℕ, zero, suc, _+_, _<_, _≤_}
 use mathlib.Core.Path.{_≡_, refl, sym, _∙_, ap}
 use mathlib.Core.Logic.{_⊎_, inl, inr}
@@ -10,7 +10,7 @@ use lib.ListN.{length, getD, replicate, length-replicate, List·getD-eq-default}
 use borrow.Author.Tests.{eq-eqb, ne-eqb, eqb-true, lt-ltb, ltb-true}
 use Rattle.basics.specs.Tests.{eq?, le?, bool-ext}
 use Rattle.basics.specs.Sets.{member, Sub, Asc, none, some, some-or-all, in-member, member-in, top, in-top}
-use Rattle.basics.specs.Lists.{getD-in, pigeonhole, upto, length-upto, in-upto}
+use Rattle.basics.specs.Lists.{getD-in, getD-zeros, pigeonhole, upto, length-upto, in-upto}
 use Rattle.ordered.specs.Keys.{with-key}
 use Rattle.ordered.specs.Sorting.{in-at}
 use Rattle.ordered.specs.Place.{with-cases, with-here, with-there, asc-with, length-with}
@@ -38,7 +38,8 @@ range-in s (suc n) (there i) = let r = range-in (suc s) n i in (omega arith, ome
 in-range : (s n : ℕ) {d : ℕ} → s ≤ d → d < s + n → In d (range s n)
 unfolding range
 in-range s zero a b = absurd (omega arith)
-in-range s (suc n) {d} a b = elim (eq? d s) [ inl e ↦ here e | inr ne ↦ there (in-range (suc s) n (omega arith) (omega arith)) ]
+in-range s (suc n) {d} a b =
+    elim (eq? d s) [ inl e ↦ here e | inr ne ↦ there (in-range (suc s) n (omega arith) (omega arith)) ]
 
 asc-range : (s n : ℕ) → Asc (range s n)
 unfolding range
@@ -50,13 +51,9 @@ unfolding range
 length-range s zero = refl
 length-range s (suc n) = ap suc (length-range (suc s) n)
 
-getD-zeros : (n p : ℕ) → _≡_ {A = ℕ} (getD (replicate n 0) p 0) 0
-getD-zeros zero p = refl
-getD-zeros (suc n) zero = refl
-getD-zeros (suc n) (suc p) = getD-zeros n p
-
 -- a key that is larger than all that stand displaces none
-place-displace : (m n : ℕ) (ws : List ℕ) (c s : ℕ) → ((p : ℕ) → getD ws p 0 < c) → place m n ws c s ≡ displace m n ws c s
+place-displace : (m n : ℕ) (ws : List ℕ) (c s : ℕ) → ((p : ℕ) → getD ws p 0 < c)
+    → place m n ws c s ≡ displace m n ws c s
 unfolding place displace
 place-displace m zero ws c s f = refl
 place-displace m (suc n) ws c s f =
@@ -71,7 +68,8 @@ place-displace m (suc n) ws c s f =
 
 -- a key stands inside the words
 pub stands-inside : (ws : List ℕ) (c p : ℕ) → 0 < c → getD ws p 0 ≡ c → p < length ws
-stands-inside ws c p l e = elim (le? (length ws) p) [ inl k ↦ absurd (omega (arith, List·getD-eq-default ws 0 k)) | inr k ↦ k ]
+stands-inside ws c p l e =
+    elim (le? (length ws) p) [ inl k ↦ absurd (omega (arith, List·getD-eq-default ws 0 k)) | inr k ↦ k ]
 
 module _ {h : ℕ → ℕ} {m : ℕ} where
   -- fewer keys than slots: one is empty
@@ -126,7 +124,8 @@ module _ {h : ℕ → ℕ} {m : ℕ} where
         (λ d i. elim i [ here q ↦ inl q | there j ↦ inr j ]) (e .1 .0) (e .1 .1))
 
     placed-arranged : (S : List ℕ) {R T ws : List ℕ} → Asc S → Arranged h m R ws → ((d e : ℕ) → In d R → In e S → d < e)
-        → ((c : ℕ) → In c S → 0 < c) → length R + length S ≤ m → Sub R T → Sub S T → ((d : ℕ) → In d T → In d R ⊎ In d S)
+        → ((c : ℕ) → In c S → 0 < c) → length R + length S ≤ m → Sub R T → Sub S T
+        → ((d : ℕ) → In d T → In d R ⊎ In d S)
         → Arranged h m T (placed h m S ws)
     unfolding placed
     placed-arranged [] asc w f k l s t u = same-keys w s (λ d i. elim (u d i) [ inl j ↦ j | inr j ↦ elim j [ ] ])
@@ -179,11 +178,14 @@ module _ {h : ℕ → ℕ} {m : ℕ} where
         unique (w .ordered) (v .ordered) (w .contains) (v .contains) (w .long ∙ sym (v .long))
 
     -- Adding
-    pub add-arranged : {S ws : List ℕ} {c : ℕ} (e : ℕ) → Arranged h m S ws → 0 < c → (In c S → ⊥) → e < m → getD ws e 0 ≡ 0
+    pub add-arranged : {S ws : List ℕ} {c : ℕ} (e : ℕ) → Arranged h m S ws → 0 < c → (In c S → ⊥) → e < m
+        → getD ws e 0 ≡ 0
         → Arranged h m (with-key c S) (add h m ws c)
-    add-arranged {S} {ws} {c} e w k n l z = added e (r c) w k n (with-here c S) (λ d i. with-there c S i) (λ d i. with-cases c S i) l z
+    add-arranged {S} {ws} {c} e w k n l z =
+        added e (r c) w k n (with-here c S) (λ d i. with-there c S i) (λ d i. with-cases c S i) l z
 
-    -- there is an empty slot exactly where there are fewer keys than slots: with one, a key larger than all could be added
+    -- there is an empty slot exactly where there are fewer keys than slots: with one, a key larger than all could be
+    -- added
     pub has-room : {S ws : List ℕ} (e : ℕ) → Asc S → Arranged h m S ws → e < m → getD ws e 0 ≡ 0 → length S < m
     has-room {S} {ws} e asc w l z =
         let n : In (suc (top S)) S → ⊥ = λ i. omega (arith, in-top i) in
@@ -193,7 +195,8 @@ module _ {h : ℕ → ℕ} {m : ℕ} where
     pub empty-room : {S ws : List ℕ} → Asc S → Arranged h m S ws → member 0 ws ≡ ltb (length S) m
     empty-room {S} {ws} asc w =
         bool-ext (member 0 ws) (ltb (length S) m)
-        (λ e. let i = in-at (member-in 0 ws e) in lt-ltb (length S) m (has-room (i .0) asc w (omega (arith, w .long, i .1)) (i .2)))
+        (λ e. let i =
+        in-at (member-in 0 ws e) in lt-ltb (length S) m (has-room (i .0) asc w (omega (arith, w .long, i .1)) (i .2)))
         (λ e. let i = room w (ltb-true (length S) m e) in
         let at : In (getD ws (i .0) 0) ws = getD-in ws (i .0) (omega (arith, w .long, i .1 .0)) in
         in-member (rw (i .1 .1) at at))

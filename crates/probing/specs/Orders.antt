@@ -1,5 +1,6 @@
--- Keys that are added one after the other, in any order: they give the image of the set with them (`add-all-image`), so the order does not matter (`any-order`;
--- source document 003, Theorem 1 and Corollary 2, for one global priority and steps of one). Assumes nothing.
+-- Keys that are added one after the other, in any order: they give the image of the set with them (`add-all-image`), so
+-- the order does not matter (`any-order`; source document 003, Theorem 1 and Corollary 2, for one global priority and
+-- steps of one). Assumes nothing.
 use Prim.Native.Nat.{ℕ, _<_}
 use mathlib.Core.Path.{_≡_, refl, sym, _∙_, ap}
 use mathlib.Core.Logic.{_⊎_, inl, inr}
@@ -52,7 +53,8 @@ pub data Turns (m : ℕ) : List ℕ → List ℕ → Type 0 where
 
 module _ {h : ℕ → ℕ} {m : ℕ} (r : (c : ℕ) → h c < m) where
   -- keys added one after the other, in any order, each absent when its turn comes
-  pub add-all-image : {L S : List ℕ} → Turns m L S → KeySet 1 S → add-all h m L (table-image h m S) ≡ table-image h m (with-all L S)
+  pub add-all-image : {L S : List ℕ} → Turns m L S → KeySet 1 S
+      → add-all h m L (table-image h m S) ≡ table-image h m (with-all L S)
   unfolding add-all with-all
   add-all-image over v = refl
   add-all-image {S = S} (turn {c} {L} k n l t) v =

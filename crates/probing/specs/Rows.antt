@@ -1,5 +1,5 @@
--- Worked examples on a board of five slots, so that a wrong definition in Rule.antt is refused in this very crate: the place of a key is its last
--- digit but one, modulo 5.
+-- Worked examples on a board of five slots, so that a wrong definition in Rule.antt is refused in this very crate: the
+-- place of a key is its last digit but one, modulo 5.
 use Prim.Native.Nat.{ℕ, _/_, _%_}
 use mathlib.Core.Bool.{Bool, not, _&&_}
 use mathlib.Core.List.{List, [], _∷_}

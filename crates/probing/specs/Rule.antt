@@ -1,5 +1,6 @@
--- One table of m slots ('pockets'), a word each, 0 for an empty one, as definitions that compute (request Nine of document 02). This file is what a reader must
--- believe; the others of this crate are theorems about it. A key c (a 'card') starts at slot `h c`. A set of keys is a strictly ascending list of numbers, none 0.
+-- One table of m slots ('pockets'), a word each, 0 for an empty one, as definitions that compute (request Nine of
+-- document 02). This file is what a reader must believe; the others of this crate are theorems about it. A key c (a
+-- 'card') starts at slot `h c`. A set of keys is a strictly ascending list of numbers, none 0.
 use Prim.Native.Nat.{ℕ, zero, suc, _+_, _%_}
 use mathlib.Core.Bool.{Bool, true, false, cond, _||_}
 use mathlib.Core.List.{List, [], _∷_}
@@ -16,16 +17,18 @@ unfoldable pub place : ℕ → ℕ → List ℕ → ℕ → ℕ → List ℕ
 place m zero ws c s = ws
 place m (suc n) ws c s = cond (eqb (getD ws s 0) 0) (set ws s c) (place m n ws c (after m s))
 
--- "a look-up steps from the card's start to the card (yes), or to an empty pocket, a larger card or a full round (no)": from slot s on, of at most n slots
+-- "a look-up steps from the card's start to the card (yes), or to an empty pocket, a larger card or a full round (no)":
+-- from slot s on, of at most n slots
 unfoldable pub looks : ℕ → ℕ → List ℕ → ℕ → ℕ → Bool
 looks m zero ws c s = false
 looks m (suc n) ws c s =
-    cond (eqb (getD ws s 0) c) true (cond (eqb (getD ws s 0) 0 || ltb c (getD ws s 0)) false (looks m n ws c (after m s)))
+    cond (eqb (getD ws s 0) c) true
+    (cond (eqb (getD ws s 0) 0 || ltb c (getD ws s 0)) false (looks m n ws c (after m s)))
 
 -- the keys that stand in words, ascending
-unfoldable pub keys-in : List ℕ → List ℕ
-keys-in [] = []
-keys-in (w ∷ ws) = cond (eqb w 0) (keys-in ws) (with-key w (keys-in ws))
+unfoldable pub table-keys : List ℕ → List ℕ
+table-keys [] = []
+table-keys (w ∷ ws) = cond (eqb w 0) (table-keys ws) (with-key w (table-keys ws))
 
 module _ (h : ℕ → ℕ) (m : ℕ) where
   -- keys placed one after the other

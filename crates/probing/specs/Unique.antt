@@ -7,11 +7,12 @@ use native.Mathlib.Omega.{arith}
 use lib.ListN.{length, getD}
 use lib.Seq.{ext-getD}
 use Rattle.basics.specs.Tests.{eq?}
-use Rattle.probing.specs.Way.{Passes, at, on}
+use Rattle.probing.specs.Way.{PassesOver, at, on}
 
--- Every slot on the way of a standing key before its own holds a smaller key. (Past the end `getD` gives 0: no law needs to ask where the words end.)
+-- Every slot on the way of a standing key before its own holds a smaller key. (Past the end `getD` gives 0: no law
+-- needs to ask where the words end.)
 pub record Ordered (h : ℕ → ℕ) (m : ℕ) (ws : List ℕ) : Type 0 where
-  pub over : (c p : ℕ) → 0 < c → getD ws p 0 ≡ c → Passes m ws c (h c) p
+  pub over : (c p : ℕ) → 0 < c → getD ws p 0 ≡ c → PassesOver m ws c (h c) p
 
 -- the keys that stand in the words are those of S
 pub record Contains (ws S : List ℕ) : Type 0 where
@@ -24,7 +25,8 @@ record Within (n : ℕ) (ws vs : List ℕ) : Type 0 where
   same : (c p : ℕ) → 0 < c → c < n → getD ws p 0 ≡ c → getD vs p 0 ≡ c
 
 -- two walks of c from one slot end in one slot where the smaller keys stand alike
-meet : {m : ℕ} {ws vs : List ℕ} {c s p q : ℕ} → Within c ws vs → Within c vs ws → Passes m ws c s p → Passes m vs c s q
+meet : {m : ℕ} {ws vs : List ℕ} {c s p q : ℕ} → Within c ws vs → Within c vs ws → PassesOver m ws c s p
+    → PassesOver m vs c s q
     → getD ws p 0 ≡ c → getD vs q 0 ≡ c → p ≡ q
 meet f g (at e) (at e′) x y = cc
 meet {ws = ws} {vs} {c} {s} {p} f g (at e) (on a b o) x y =
@@ -40,7 +42,8 @@ module _ {h : ℕ → ℕ} {m : ℕ} where
       let w : Within c ws ws = record { same = λ c p a b e. e } in
       meet w w (o .over c p l x) (o .over c q l y) x y
 
-  within-suc : (n : ℕ) {ws vs S : List ℕ} → Ordered h m ws → Ordered h m vs → Contains ws S → Contains vs S → Within n ws vs → Within n vs ws → Within (suc n) ws vs
+  within-suc : (n : ℕ) {ws vs S : List ℕ} → Ordered h m ws → Ordered h m vs → Contains ws S → Contains vs S
+      → Within n ws vs → Within n vs ws → Within (suc n) ws vs
   within-suc n {ws} {vs} o o′ k k′ f g = record {
     same = λ c p a b e. elim (eq? c n) [
       | inl q ↦
@@ -57,7 +60,8 @@ module _ {h : ℕ → ℕ} {m : ℕ} where
   within zero o o′ k k′ = record { same = λ c p a b e. absurd (omega arith) }
   within (suc n) o o′ k k′ = within-suc n o o′ k k′ (within n o o′ k k′) (within n o′ o k′ k)
 
-  pub unique : {ws vs S : List ℕ} → Ordered h m ws → Ordered h m vs → Contains ws S → Contains vs S → length ws ≡ length vs → ws ≡ vs
+  pub unique : {ws vs S : List ℕ} → Ordered h m ws → Ordered h m vs → Contains ws S → Contains vs S
+      → length ws ≡ length vs → ws ≡ vs
   unique {ws} {vs} o o′ k k′ e =
       ext-getD 0 ws vs e
       (λ i l. elim (eq? (getD ws i 0) 0) [

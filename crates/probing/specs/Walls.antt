@@ -1,6 +1,7 @@
--- Whether every key has passed over smaller keys alone, told in one round over the slots. A round starts behind a slot that no key passes, the barrier. What a
--- key passes ends at its wall, the nearest slot before it that is empty or holds no smaller key; so it stands right if it starts behind its wall. The walls of
--- earlier slots lead to the wall of the next, over all that they have behind them.
+-- Whether every key has passed over smaller keys alone, told in one round over the slots. A round starts behind a slot
+-- that no key passes, the barrier. What a key passes ends at its wall, the nearest slot before it that is empty or
+-- holds no smaller key; so it stands right if it starts behind its wall. The walls of earlier slots lead to the wall of
+-- the next, over all that they have behind them.
 use Prim.Native.Nat.{ℕ, zero, suc, _+_, _-_, _<_, _≤_}
 use mathlib.Core.Path.{_≡_, refl, sym, _∙_, ap}
 use mathlib.Core.Bool.{and-false}
@@ -12,7 +13,7 @@ use lib.ListN.{getD}
 use Rattle.basics.specs.Tests.{eq?, le?}
 use Rattle.probing.specs.Rule.{after}
 use Rattle.probing.specs.Moves.{wrap, turn-slot, slot-turn, turn-word, wall}
-use Rattle.probing.specs.Way.{Passes, at, on, after-end, after-on, passes?}
+use Rattle.probing.specs.Way.{PassesOver, at, on, after-end, after-on, passes?}
 
 pub wrap-low : (m x : ℕ) → x < m → wrap m x ≡ x
 unfolding wrap
@@ -135,7 +136,8 @@ module _ (m : ℕ) (ws : List ℕ) (b : ℕ) where
             omega (arith, f (rw q at k), rw q at l)
       ]
 
-  -- A key that stands at turn i and starts at turn j has passed over smaller keys alone exactly if it starts behind its wall.
+  -- A key that stands at turn i and starts at turn j has passed over smaller keys alone exactly if it starts behind its
+  -- wall.
   module _ (inside : b < m) (barrier : Barrier m ws b) (c i : ℕ) (l : i < m) (stands : turn-word m ws b i ≡ c) where
     unpassed : (j : ℕ) → j < m → 0 < turn-word m ws b j → turn-word m ws b j < c → (j ≡ m - 1) → ⊥
     unpassed j k a d e =
@@ -145,15 +147,17 @@ module _ (m : ℕ) (ws : List ℕ) (b : ℕ) where
           | largest f ↦ omega (arith, stands, f (turn-slot m b i) (turn-slot-lt m b inside i l) .1)
         ]
 
-    pub behind-passes : (n j : ℕ) → j + n ≡ i → wall m ws b c i ≤ j → Passes m ws c (turn-slot m b j) (turn-slot m b i)
+    pub behind-passes : (n j : ℕ) → j + n ≡ i → wall m ws b c i ≤ j
+        → PassesOver m ws c (turn-slot m b j) (turn-slot m b i)
     behind-passes zero j e w = let q : j ≡ i = omega arith in at (ap (turn-slot m b) q)
     behind-passes (suc n) j e w =
         let p = wall-between c i j w (omega arith) in
-        let rest : Passes m ws c (after m (turn-slot m b j)) (turn-slot m b i) =
+        let rest : PassesOver m ws c (after m (turn-slot m b j)) (turn-slot m b i) =
         rw (turn-after m b inside j (omega arith)) (behind-passes n (suc j) (omega arith) (omega arith)) in
         on (p .0) (p .1) rest
 
-    passes-behind : {s : ℕ} (j : ℕ) → j < m → turn-slot m b j ≡ s → Passes m ws c s (turn-slot m b i) → (j ≤ i) × (wall m ws b c i ≤ j)
+    passes-behind : {s : ℕ} (j : ℕ) → j < m → turn-slot m b j ≡ s → PassesOver m ws c s (turn-slot m b i)
+        → (j ≤ i) × (wall m ws b c i ≤ j)
     passes-behind j k e (at q) =
         let same = turn-apart m b inside j i k l (e ∙ q) in
         (omega arith, omega (arith, wall-le c i))
@@ -167,7 +171,7 @@ module _ (m : ℕ) (ws : List ℕ) (b : ℕ) where
         (omega (arith, r .0), omega (arith, r .1, wn))
 
     pub passes-iff : (s : ℕ) → s < m
-        → Passes m ws c s (turn-slot m b i) ↔ ((wall m ws b c i ≤ slot-turn m b s) × (slot-turn m b s ≤ i))
+        → PassesOver m ws c s (turn-slot m b i) ↔ ((wall m ws b c i ≤ slot-turn m b s) × (slot-turn m b s ≤ i))
     passes-iff s k =
         let j = slot-turn m b s in
         let e = turn-of-slot m b inside s k in (
@@ -175,6 +179,6 @@ module _ (m : ℕ) (ws : List ℕ) (b : ℕ) where
           λ w. rw e at (behind-passes (i - j) j (omega (arith, w .1)) (w .0)),
         )
 
--- the walls of the turns before turn n
+-- the walls of the keys that come before turn n
 pub record Walled (m : ℕ) (ws : List ℕ) (b : ℕ) (walls : List ℕ) (n : ℕ) : Type 0 where
-  pub each : (i : ℕ) → i < n → getD walls i 0 ≡ wall m ws b (turn-word m ws b i) i
+  pub each : (i : ℕ) → i < n → 0 < turn-word m ws b i → getD walls i 0 ≡ wall m ws b (turn-word m ws b i) i

@@ -52,25 +52,27 @@ ahead-next {m} {n} {s} {e} (round a b c) ne =
     ]
 
 -- from s to p, c passes over smaller keys alone
-pub data Passes (m : ℕ) (ws : List ℕ) (c : ℕ) : ℕ → ℕ → Type 0 where
-  at : {s p : ℕ} → s ≡ p → Passes m ws c s p
-  on : {s p : ℕ} → 0 < getD ws s 0 → getD ws s 0 < c → Passes m ws c (after m s) p → Passes m ws c s p
+pub data PassesOver (m : ℕ) (ws : List ℕ) (c : ℕ) : ℕ → ℕ → Type 0 where
+  at : {s p : ℕ} → s ≡ p → PassesOver m ws c s p
+  on : {s p : ℕ} → 0 < getD ws s 0 → getD ws s 0 < c → PassesOver m ws c (after m s) p → PassesOver m ws c s p
 
 -- one step further
-pub passes-next : {m : ℕ} {ws : List ℕ} {c s p : ℕ} → Passes m ws c s p → 0 < getD ws p 0 → getD ws p 0 < c → Passes m ws c s (after m p)
+pub passes-next : {m : ℕ} {ws : List ℕ} {c s p : ℕ} → PassesOver m ws c s p → 0 < getD ws p 0 → getD ws p 0 < c
+    → PassesOver m ws c s (after m p)
 passes-next {m} {ws} {c} {s} {p} (at e) a b = on {s = s} (rw e a) (rw e b) (at (ap (after m) e))
 passes-next (on x y o) a b = on x y (passes-next o a b)
 
 -- the same over other words in which smaller keys stand wherever they did
 pub passes-map : {m : ℕ} {ws : List ℕ} (vs : List ℕ) {c s p : ℕ}
     → ((q : ℕ) → 0 < getD ws q 0 → getD ws q 0 < c → (0 < getD vs q 0) × (getD vs q 0 < c))
-    → Passes m ws c s p → Passes m vs c s p
+    → PassesOver m ws c s p → PassesOver m vs c s p
 passes-map vs f (at e) = at e
 passes-map vs f (on {s} a b o) = on (f s a b .0) (f s a b .1) (passes-map vs f o)
 
 -- a store at q of a key v, where v is smaller than c if a smaller key stood there
-pub passes-set : {m : ℕ} {ws : List ℕ} (q v : ℕ) {c s p : ℕ} → q < length ws → (0 < getD ws q 0 → getD ws q 0 < c → (0 < v) × (v < c))
-    → Passes m ws c s p → Passes m (set ws q v) c s p
+pub passes-set : {m : ℕ} {ws : List ℕ} (q v : ℕ) {c s p : ℕ} → q < length ws
+    → (0 < getD ws q 0 → getD ws q 0 < c → (0 < v) × (v < c))
+    → PassesOver m ws c s p → PassesOver m (set ws q v) c s p
 passes-set {m} {ws} q v {c} l f o =
     passes-map (set ws q v)
     (λ x a b. elim (eq? x q) [
@@ -94,7 +96,8 @@ module _ (m n : ℕ) (ws : List ℕ) (c s : ℕ) where
   stop-next a b = rw (lt-ltb 0 (getD ws s 0) a, lt-ltb (getD ws s 0) c b)
 
 -- a walk ends where c passes over smaller keys to a slot that holds none
-pub passes-stop : {m : ℕ} (n : ℕ) {ws : List ℕ} {c s p : ℕ} → Passes m ws c s p → Ahead m n s p → (0 < getD ws p 0 → c ≤ getD ws p 0)
+pub passes-stop : {m : ℕ} (n : ℕ) {ws : List ℕ} {c s p : ℕ} → PassesOver m ws c s p → Ahead m n s p
+    → (0 < getD ws p 0 → c ≤ getD ws p 0)
     → stop m n ws c s ≡ p
 passes-stop zero o a f = absurd (ahead-none a)
 passes-stop {m} (suc n) {ws} {c} {s} {p} (at e) a f = stop-here m n ws c s (rw e f) ∙ e
@@ -103,9 +106,10 @@ passes-stop {m} (suc n) {ws} {c} {s} {p} (on x y o) a f =
 
 -- and where a walk ends, c has passed over smaller keys
 pub passes? : (w c : ℕ) → ((0 < w) × (w < c)) ⊎ (0 < w → c ≤ w)
-passes? w c = elim (le? c w) [ inl l ↦ inr (λ a. l) | inr l ↦ elim (eq? w 0) [ inl e ↦ inr (λ a. omega arith) | inr ne ↦ inl (omega arith, l) ] ]
+passes? w c =
+    elim (le? c w) [ inl l ↦ inr (λ a. l) | inr l ↦ elim (eq? w 0) [ inl e ↦ inr (λ a. omega arith) | inr ne ↦ inl (omega arith, l) ] ]
 
-pub stop-passes : (m n : ℕ) (ws : List ℕ) (c s p : ℕ) → stop m n ws c s ≡ p → p < m → Passes m ws c s p
+pub stop-passes : (m n : ℕ) (ws : List ℕ) (c s p : ℕ) → stop m n ws c s ≡ p → p < m → PassesOver m ws c s p
 unfolding stop
 stop-passes m zero ws c s p e l = absurd (omega arith)
 stop-passes m (suc n) ws c s p e l =
@@ -115,7 +119,8 @@ stop-passes m (suc n) ws c s p e l =
     ]
 
 -- a look-up says whether the key stands where its walk ends
-pub looks-stop : (m n : ℕ) (ws : List ℕ) (c s : ℕ) → length ws ≤ m → 0 < c → looks m n ws c s ≡ eqb (getD ws (stop m n ws c s) 0) c
+pub looks-stop : (m n : ℕ) (ws : List ℕ) (c s : ℕ) → length ws ≤ m → 0 < c
+    → looks m n ws c s ≡ eqb (getD ws (stop m n ws c s) 0) c
 unfolding looks stop
 looks-stop m zero ws c s l k = rw (List·getD-eq-default ws 0 l) (sym (ne-eqb 0 c (λ e. omega arith)))
 looks-stop m (suc n) ws c s l k =

@@ -11,11 +11,12 @@ use lib.ListN.{length, replicate}
 use Rattle.basics.specs.Sets.{member, any}
 use Rattle.basics.specs.Lists.{same}
 use Rattle.ordered.specs.Keys.{with-key}
-use Rattle.refusals.specs.Refusal.{done, wrong-tabulation, wrong-shape, not-canonical, blank-key, key-present, table-full}
+use Rattle.refusals.specs.Refusal.{done, wrong-tabulation, wrong-shape, not-canonical, blank-key, key-present}
+use Rattle.refusals.specs.Refusal.{table-full}
 use Rattle.refusals.specs.Refusal.{first-refusal, first-refusal-in}
 use Rattle.hashing.specs.Hash.{tabulation-length, slots-in-range, station-in-range, blank, Family, tables}
 use Rattle.hashing.specs.Slots.{slot-0}
-use Rattle.probing.specs.Rule.{table-image, look, keys-in}
+use Rattle.probing.specs.Rule.{table-image, look, table-keys}
 use Rattle.stolen.specs.declared.Reported.{Reported}
 use Rattle.stolen.specs.declared.Reported.the-variants.{Yes, No, Refused}
 
@@ -83,7 +84,7 @@ stolen-lookup-values tabulation ws station key =
 -- The words are the image of a set of keys: of those that stand in them, none of which is blank. (The law
 -- `stolen-canonical-iff` of Canonical: of some set.)
 unfoldable pub stolen-canonical : Family → List ℕ → Bool
-stolen-canonical F ws = not (any blank (keys-in ws)) && same ws (stolen-image F (keys-in ws))
+stolen-canonical F ws = not (any blank (table-keys ws)) && same ws (stolen-image F (table-keys ws))
 
 -- "adding .. checks 1, 2, 4, 5 and 6", "16 (all pockets filled) after 6"; the set is that of the keys that stand in the
 -- words. "Issues count as separate cards here": a key is listed where it stands itself.
@@ -92,7 +93,7 @@ stolen-insert-refusals tabulation ws station key =
     stolen-shape-refusals tabulation ws station
     ++ ((not-canonical, not (stolen-canonical (stolen-family tabulation ws station) ws))
     ∷ (blank-key, blank key)
-    ∷ (key-present, member key (keys-in ws))
+    ∷ (key-present, member key (table-keys ws))
     ∷ (table-full, not (member 0 ws))
     ∷ [])
 
@@ -103,7 +104,7 @@ stolen-insert-refusal tabulation ws station key = first-refusal (stolen-insert-r
 unfoldable pub stolen-insert-words : List ℕ → List ℕ → ℕ → ℕ → List ℕ
 stolen-insert-words tabulation ws station key =
     cond (eqb (stolen-insert-refusal tabulation ws station key) done)
-    (stolen-image (stolen-family tabulation ws station) (with-key key (keys-in ws)))
+    (stolen-image (stolen-family tabulation ws station) (with-key key (table-keys ws)))
     ws
 
 -- The laws. Which numbers each call can answer, in the order in which it tries them.
@@ -139,6 +140,6 @@ module _ (tabulation ws : List ℕ) (station key : ℕ) where
 
   pub insert-accepted : stolen-insert-refusal tabulation ws station key ≡ done
       → stolen-insert-words tabulation ws station key
-      ≡ stolen-image (stolen-family tabulation ws station) (with-key key (keys-in ws))
+      ≡ stolen-image (stolen-family tabulation ws station) (with-key key (table-keys ws))
   unfolding stolen-insert-words
   insert-accepted e = rw (eq-eqb (stolen-insert-refusal tabulation ws station key) done e)

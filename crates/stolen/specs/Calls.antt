@@ -9,7 +9,8 @@ use lib.ListN.{length}
 use Rattle.basics.specs.Sets.{member}
 use Rattle.basics.specs.Lists.{same}
 use Rattle.ordered.specs.Keys.{with-key}
-use Rattle.refusals.specs.Refusal.{done, wrong-tabulation, wrong-shape, not-canonical, blank-key, key-present, table-full}
+use Rattle.refusals.specs.Refusal.{done, wrong-tabulation, wrong-shape, not-canonical, blank-key, key-present}
+use Rattle.refusals.specs.Refusal.{table-full}
 use Rattle.refusals.specs.Refusal.{first-refusal}
 use Rattle.hashing.specs.Hash.{tabulation-length, max-station, station-in-range, blank, Family, tables}
 use Rattle.hashing.specs.Slots.{slot-0}
@@ -93,7 +94,8 @@ module _ (R : Register) (tabulation : List ℕ) (station : ℕ) where
   -- finds in the image of the set.
   abbrev pub hears : ℕ → Bool
   hears key =
-      cond names-own (member key (R .keys)) (look (slot-0 named) (R .family .slots) (stolen-image (R .family) (R .keys)) key)
+      cond names-own (member key (R .keys))
+      (look (slot-0 named) (R .family .slots) (stolen-image (R .family) (R .keys)) key)
 
 -- a refusal changes nothing; an accepted key is in the set, under the call's book and station
 unfoldable pub stolen-reply : Register → StolenCall → StolenReply

@@ -1,6 +1,6 @@
--- The request's sentences as theorems about what the calls answer and leave: an accepted insert was made on the image of
--- a set, and leaves that of the set with the key; a lookup on an image says yes exactly for its set, and on any words
--- only for a key that stands there; 16 comes exactly where no slot is left. Assumes nothing.
+-- The request's sentences as theorems about what the calls answer and leave: an accepted insert was made on the image
+-- of a set, and leaves that of the set with the key; a lookup on an image says yes exactly for its set, and on any
+-- words only for a key that stands there; 16 comes exactly where no slot is left. Assumes nothing.
 use Prim.Native.Nat.{ℕ, _<_}
 use mathlib.Core.Path.{_≡_, refl, sym, _∙_, ap}
 use mathlib.Core.Bool.{Bool, true, false, not, cond, _&&_, true≢false}
@@ -17,12 +17,13 @@ use Rattle.ordered.specs.Place.{asc-with, with-cases, length-with}
 use Rattle.refusals.specs.Refusal.{done, table-full, None, none, and, front-none, last-turned}
 use Rattle.hashing.specs.Hash.{tabulation-length, slots-in-range, station-in-range, in-range-pos, blank, Family}
 use Rattle.hashing.specs.Slots.{slot-0}
-use Rattle.probing.specs.Rule.{table-image, placed, look, keys-in}
+use Rattle.probing.specs.Rule.{table-image, placed, look, table-keys}
 use Rattle.probing.specs.Canonical.{look-stands}
 use Rattle.stolen.specs.Answers.{stolen-family, says, stolen-init-refusal, stolen-init-words}
 use Rattle.stolen.specs.Answers.{stolen-lookup-refusal, stolen-lookup-refusals, stolen-lookup-values}
 use Rattle.stolen.specs.Answers.{lookup-refused, lookup-accepted}
-use Rattle.stolen.specs.Answers.{stolen-insert-refusal, stolen-insert-refusals, stolen-insert-words, insert-accepted}
+use Rattle.stolen.specs.Answers.{stolen-insert-refusal, stolen-insert-refusals, stolen-insert-words}
+use Rattle.stolen.specs.Answers.{insert-accepted}
 use Rattle.stolen.specs.Answers.{stolen-canonical}
 use Rattle.stolen.specs.Canonical.{StolenImage, not-blank, image-length, image-keys, image-of-canonical}
 use Rattle.stolen.specs.Canonical.{canonical-true, look-listed, room-left}
@@ -41,16 +42,19 @@ init-image tabulation ws station e =
 
 module _ (tabulation ws : List ℕ) (station key : ℕ) where
   -- what is known where a call is not refused
-  pub lookup-passes : stolen-lookup-refusal tabulation ws station key ≡ done → None (stolen-lookup-refusals tabulation ws station key)
+  pub lookup-passes : stolen-lookup-refusal tabulation ws station key ≡ done
+      → None (stolen-lookup-refusals tabulation ws station key)
   unfolding stolen-lookup-refusal
   lookup-passes e = front-none (stolen-lookup-refusals tabulation ws station key) [] e refl
 
-  pub insert-passes : stolen-insert-refusal tabulation ws station key ≡ done → None (stolen-insert-refusals tabulation ws station key)
+  pub insert-passes : stolen-insert-refusal tabulation ws station key ≡ done
+      → None (stolen-insert-refusals tabulation ws station key)
   unfolding stolen-insert-refusal
   insert-passes e = front-none (stolen-insert-refusals tabulation ws station key) [] e refl
 
   slots-there : not (slots-in-range (length ws) && station-in-range station) ≡ false → 0 < length ws
-  slots-there e = in-range-pos (length ws) (and-true (slots-in-range (length ws)) (station-in-range station) (not-false _ e) .0)
+  slots-there e =
+      in-range-pos (length ws) (and-true (slots-in-range (length ws)) (station-in-range station) (not-false _ e) .0)
 
   -- "on a canonical list it is yes exactly for the set"
   pub stolen-lookup-image : {S : List ℕ} → StolenImage (stolen-family tabulation ws station) S ws
@@ -58,13 +62,14 @@ module _ (tabulation ws : List ℕ) (station key : ℕ) where
       → stolen-lookup-values tabulation ws station key ≡ says (member key S)
   stolen-lookup-image {S} v e = go (lookup-passes e)
     where
-      go : None (stolen-lookup-refusals tabulation ws station key) → stolen-lookup-values tabulation ws station key ≡ says (member key S)
+      go : None (stolen-lookup-refusals tabulation ws station key)
+          → stolen-lookup-values tabulation ws station key ≡ says (member key S)
       go (and a (and b (and c none))) =
           lookup-accepted tabulation ws station key e
           ∙ ap says (look-listed (stolen-family tabulation ws station) (slots-there b) ws v key c)
 
   -- On any words, under any book and station, a yes is given for a key alone that stands in the words.
-  pub yes-stands : stolen-lookup-values tabulation ws station key ≡ 1 ∷ [] → In key (keys-in ws)
+  pub yes-stands : stolen-lookup-values tabulation ws station key ≡ 1 ∷ [] → In key (table-keys ws)
   yes-stands e =
       elim (eq? (stolen-lookup-refusal tabulation ws station key) done) [
         | inl d ↦ go (lookup-passes d) (sym (lookup-accepted tabulation ws station key d) ∙ e)
@@ -79,31 +84,35 @@ module _ (tabulation ws : List ℕ) (station key : ℕ) where
       told false q = absurd (omega (arith, ap (λ (l : List ℕ). getD l 0 0) q))
 
       go : None (stolen-lookup-refusals tabulation ws station key)
-          → says (look (slot-0 (stolen-family tabulation ws station)) (length ws) ws key) ≡ 1 ∷ [] → In key (keys-in ws)
+          → says (look (slot-0 (stolen-family tabulation ws station)) (length ws) ws key) ≡ 1 ∷ []
+          → In key (table-keys ws)
       go (and a (and b (and c none))) q =
-          look-stands (slot-0 (stolen-family tabulation ws station)) (length ws) ws key (omega arith) (omega (arith, not-blank key c)) (told _ q)
+          look-stands (slot-0 (stolen-family tabulation ws station)) (length ws) ws key (omega arith)
+          (omega (arith, not-blank key c)) (told _ q)
 
   -- An accepted insert was made on the image of the keys that stand in the words,
   pub accepted-image : stolen-insert-refusal tabulation ws station key ≡ done
-      → StolenImage (stolen-family tabulation ws station) (keys-in ws) ws
+      → StolenImage (stolen-family tabulation ws station) (table-keys ws) ws
   accepted-image e = go (insert-passes e)
     where
-      go : None (stolen-insert-refusals tabulation ws station key) → StolenImage (stolen-family tabulation ws station) (keys-in ws) ws
+      go : None (stolen-insert-refusals tabulation ws station key)
+          → StolenImage (stolen-family tabulation ws station) (table-keys ws) ws
       go (and a (and b (and c (and d (and m (and f none)))))) =
           canonical-true (stolen-family tabulation ws station) (slots-there b) ws refl (not-false _ c)
 
   -- and "leaves the image of the old set with the card".
   pub stolen-insert-image : stolen-insert-refusal tabulation ws station key ≡ done
-      → StolenImage (stolen-family tabulation ws station) (with-key key (keys-in ws)) (stolen-insert-words tabulation ws station key)
+      → StolenImage (stolen-family tabulation ws station) (with-key key (table-keys ws))
+      (stolen-insert-words tabulation ws station key)
   stolen-insert-image e = go (insert-passes e)
     where
       F : Family
       F = stolen-family tabulation ws station
 
       go : None (stolen-insert-refusals tabulation ws station key)
-          → StolenImage F (with-key key (keys-in ws)) (stolen-insert-words tabulation ws station key)
+          → StolenImage F (with-key key (table-keys ws)) (stolen-insert-words tabulation ws station key)
       go (and a (and b (and c (and d (and m (and f none)))))) =
-          let S = keys-in ws in
+          let S = table-keys ws in
           let v = accepted-image e in
           let out : In key S → ⊥ = λ i. true≢false (sym (in-member i) ∙ m) in
           let room = ltb-true (length S) (length ws) (sym (room-left F (slots-there b) ws v) ∙ not-false _ f) in
@@ -123,8 +132,8 @@ module _ (tabulation ws : List ℕ) (station key : ℕ) where
   insert-room {S} v t s u b n =
       let F = stolen-family tabulation ws station in
       let some = in-range-pos (length ws) s in
-      let keys : keys-in ws ≡ S = image-keys F some ws v in
-      let absent : member key (keys-in ws) ≡ false = rw keys n in
+      let keys : table-keys ws ≡ S = image-keys F some ws v in
+      let absent : member key (table-keys ws) ≡ false = rw keys n in
       let canonical = image-of-canonical F some ws v .1 in
       rw (eq-eqb (length tabulation) tabulation-length t, s, u, canonical, b, absent, room-left F some ws v)
       (last-turned table-full (ltb (length S) (length ws)))

@@ -14,15 +14,16 @@ use lib.ListN.{length, replicate}
 use Rattle.basics.specs.Tests.{eq?, zero-one}
 use Rattle.basics.specs.Sets.{member}
 use Rattle.basics.specs.Lists.{same, true-same}
-use Rattle.refusals.specs.Refusal.{done, wrong-tabulation, wrong-shape, blank-key, key-present, table-full, first-refusal}
+use Rattle.refusals.specs.Refusal.{done, wrong-tabulation, wrong-shape, blank-key, key-present, table-full}
+use Rattle.refusals.specs.Refusal.{first-refusal}
 use Rattle.hashing.specs.Hash.{tabulation-length, max-station, station-in-range, in-range-pos, blank, Family}
-use Rattle.probing.specs.Rule.{keys-in}
+use Rattle.probing.specs.Rule.{table-keys}
 use Rattle.stolen.specs.Answers.{stolen-image}
 use Rattle.stolen.specs.Canonical.{image-keys}
 use Rattle.stolen.specs.Calls.{StolenCall, stolen-run, stolen-left, Register, named, register-lookup-tests}
 use Rattle.stolen.specs.Calls.{register-insert-tests, hears, stolen-reply, register-left}
 use Rattle.stolen.specs.Calls.{NamesOne, own, wrong-book, no-station, Ours}
-use Rattle.stolen.specs.Sequences.{Keeps, empty-register, Ranged, stolen-history}
+use Rattle.stolen.specs.Sequences.{StolenKept, empty-register, Ranged, stolen-history}
 
 beyond : (station : ℕ) → max-station < station → station-in-range station ≡ false
 unfolding station-in-range
@@ -34,7 +35,8 @@ never-done true e = let q : _≡_ {A = ℕ} 1 0 = e in omega arith
 never-done false e = let q : _≡_ {A = ℕ} 2 0 = e in omega arith
 
 -- A register under F's book and station, and a call that names them, or is refused for its own.
-module _ (F : Family) (R : Register) (e : R .family ≡ F) (tabulation : List ℕ) (station key : ℕ) (one : NamesOne F tabulation station) where
+module _ (F : Family) (R : Register) (e : R .family ≡ F) (tabulation : List ℕ) (station key : ℕ)
+    (one : NamesOne F tabulation station) where
   -- the tests of an insert in a register that knows nothing but its set
   abbrev pub plain-insert-tests : List (ℕ × Bool)
   plain-insert-tests =
@@ -69,17 +71,20 @@ module _ (F : Family) (R : Register) (e : R .family ≡ F) (tabulation : List �
     | no-station l ↦ absurd (never-done (not (eqb (length tabulation) tabulation-length)) (rw (beyond station l) at d))
   ]
 
-one-step : (F : Family) (R : Register) → R .family ≡ F → (c : StolenCall) → Ours F c → stolen-reply R c .register .family ≡ F
+one-step : (F : Family) (R : Register) → R .family ≡ F → (c : StolenCall) → Ours F c
+    → stolen-reply R c .register .family ≡ F
 unfolding stolen-reply
 one-step F R e (StolenCall.lookup tabulation station key) o = e
 one-step F R e (StolenCall.insert tabulation station key) o =
     elim (eq? (first-refusal (register-insert-tests R tabulation station key)) done) [
-      | inl d ↦ rw (eq-eqb (first-refusal (register-insert-tests R tabulation station key)) done d) (stays F R e tabulation station key o d)
+      | inl d ↦ rw (eq-eqb (first-refusal (register-insert-tests R tabulation station key)) done d)
+          (stays F R e tabulation station key o d)
       | inr n ↦ rw (ne-eqb (first-refusal (register-insert-tests R tabulation station key)) done n) e
     ]
 
 -- The list stays with its book and station.
-pub one-family : (F : Family) (R : Register) → R .family ≡ F → (cs : List StolenCall) → ((c : StolenCall) → In c cs → Ours F c)
+pub one-family : (F : Family) (R : Register) → R .family ≡ F → (cs : List StolenCall)
+    → ((c : StolenCall) → In c cs → Ours F c)
     → register-left R cs .family ≡ F
 unfolding register-left
 one-family F R e [] o = e
@@ -92,17 +97,21 @@ pub record StolenNoTrace (F : Family) (cs ds : List StolenCall) : Type 0 where
   pub same-words : (stolen-left (replicate (F .slots) 0) cs ≡ stolen-left (replicate (F .slots) 0) ds)
       ↔ (register-left (empty-register F) cs .keys ≡ register-left (empty-register F) ds .keys)
   -- and any later calls, of every book and station, answer and leave the same
-  pub later : register-left (empty-register F) cs .keys ≡ register-left (empty-register F) ds .keys → (es : List StolenCall)
-      → stolen-run (stolen-left (replicate (F .slots) 0) cs) es ≡ stolen-run (stolen-left (replicate (F .slots) 0) ds) es
+  pub later : register-left (empty-register F) cs .keys ≡ register-left (empty-register F) ds .keys
+      → (es : List StolenCall)
+      → stolen-run (stolen-left (replicate (F .slots) 0) cs) es
+      ≡ stolen-run (stolen-left (replicate (F .slots) 0) ds) es
 
 module _ (F : Family) (z : Ranged F) where
   -- Whatever books and stations the calls of two sequences name: the words tell the set.
-  pub words-keys : (cs ds : List StolenCall) → stolen-left (replicate (F .slots) 0) cs ≡ stolen-left (replicate (F .slots) 0) ds
+  pub words-keys : (cs ds : List StolenCall)
+      → stolen-left (replicate (F .slots) 0) cs ≡ stolen-left (replicate (F .slots) 0) ds
       → register-left (empty-register F) cs .keys ≡ register-left (empty-register F) ds .keys
   words-keys cs ds e =
       let v = stolen-history F z cs .final in
       let w = stolen-history F z ds .final in
-      sym (image-keys _ (in-range-pos _ (v .slots)) _ (v .image)) ∙ ap keys-in e ∙ image-keys _ (in-range-pos _ (w .slots)) _ (w .image)
+      sym (image-keys _ (in-range-pos _ (v .slots)) _ (v .image))
+      ∙ ap table-keys e ∙ image-keys _ (in-range-pos _ (w .slots)) _ (w .image)
 
   pub stolen-no-trace : (cs ds : List StolenCall) → ((c : StolenCall) → In c cs → Ours F c)
       → ((c : StolenCall) → In c ds → Ours F c) → StolenNoTrace F cs ds

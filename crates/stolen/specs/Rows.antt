@@ -1,5 +1,6 @@
--- Worked rows on a small board, one test that the checker computes: a wrong definition is refused in this very crate. Five slots; at station 0 the keys of first part
--- 1, 2, 3, 4, 5 and 9 start at slots 2, 4, 1, 3, 0 and 3, at station 3 at slots 0, 2, 4, 1, 3 and 1.
+-- Worked rows on a small board, one test that the checker computes: a wrong definition is refused in this very crate.
+-- Five slots; at station 0 the keys of first part 1, 2, 3, 4, 5 and 9 start at slots 2, 4, 1, 3, 0 and 3, at station 3
+-- at slots 0, 2, 4, 1, 3 and 1.
 use Prim.Native.Nat.{ℕ, zero, suc, _-_}
 use mathlib.Core.Bool.{Bool, cond, _&&_}
 use mathlib.Core.List.{List, [], _∷_}
@@ -9,8 +10,9 @@ use Rattle.basics.specs.Sets.{below}
 use Rattle.basics.specs.Lists.{same}
 use Rattle.ordered.specs.Keys.{with-key, above}
 use Rattle.hashing.specs.Hash.{tabulation-length, slots-in-range, station-in-range, blank, tables, hash}
-use Rattle.probing.specs.Rule.{after, place, placed, table-image, looks, look, keys-in}
-use Rattle.stolen.specs.Answers.{stolen-image, stolen-canonical, stolen-lookup-refusal, stolen-lookup-values, stolen-insert-refusal, stolen-insert-words}
+use Rattle.probing.specs.Rule.{after, place, placed, table-image, looks, look, table-keys}
+use Rattle.stolen.specs.Answers.{stolen-image, stolen-canonical, stolen-lookup-refusal, stolen-lookup-values}
+use Rattle.stolen.specs.Answers.{stolen-insert-refusal, stolen-insert-words}
 
 -- table 0's first stretch and its station's stretch count up, all other entries are 0
 abbrev board-entry : ℕ → ℕ
@@ -29,11 +31,15 @@ shows station S ws = same (stolen-image (tables stolen-board 5 station) S) ws
 
 -- an insert's number, and the words it leaves
 abbrev inserts : List ℕ → ℕ → ℕ → ℕ → List ℕ → Bool
-inserts ws station key n vs = eqb (stolen-insert-refusal stolen-board ws station key) n && same (stolen-insert-words stolen-board ws station key) vs
+inserts ws station key n vs =
+    eqb (stolen-insert-refusal stolen-board ws station key) n
+    && same (stolen-insert-words stolen-board ws station key) vs
 
 -- a lookup's number and its values
 abbrev tells : List ℕ → ℕ → ℕ → ℕ → List ℕ → Bool
-tells ws station key n vs = eqb (stolen-lookup-refusal stolen-board ws station key) n && same (stolen-lookup-values stolen-board ws station key) vs
+tells ws station key n vs =
+    eqb (stolen-lookup-refusal stolen-board ws station key) n
+    && same (stolen-lookup-values stolen-board ws station key) vs
 
 abbrev empty : List ℕ
 empty = 0 ∷ 0 ∷ 0 ∷ 0 ∷ 0 ∷ []
@@ -69,7 +75,8 @@ stolen-rows =
     && inserts full 0 9 5 full
     && inserts full 0 42 6 full
     && inserts full 0 90 16 full
-    -- lookups: found after the end; ended by an empty slot, a larger key, a full round; on words that are no image; 1, 2 and 5
+    -- lookups: found after the end; ended by an empty slot, a larger key, a full round; on words that are no image; 1,
+    -- 2 and 5
     && tells full 0 57 0 (1 ∷ [])
     && tells part 0 11 0 (0 ∷ [])
     && tells full 0 41 0 (0 ∷ [])
@@ -81,5 +88,5 @@ stolen-rows =
     && tells full 0 9 5 []
 
 pub follow : T stolen-rows
-unfolding same below above with-key slots-in-range station-in-range blank hash after place placed table-image looks look keys-in stolen-board stolen-canonical stolen-lookup-refusal stolen-lookup-values stolen-insert-refusal stolen-insert-words
+unfolding same below above with-key slots-in-range station-in-range blank hash after place placed table-image looks look table-keys stolen-board stolen-canonical stolen-lookup-refusal stolen-lookup-values stolen-insert-refusal stolen-insert-words
 follow = tt

@@ -17,15 +17,18 @@ use Rattle.refusals.specs.Refusal.{done, first-refusal, None, none, and}
 use Rattle.hashing.specs.Hash.{tabulation-length, max-station, slots-in-range, station-in-range, in-range-pos, blank}
 use Rattle.hashing.specs.Hash.{Family, tables}
 use Rattle.hashing.specs.Slots.{slot-0}
-use Rattle.probing.specs.Rule.{keys-in, look}
+use Rattle.probing.specs.Rule.{table-keys, look}
 use Rattle.stolen.specs.Answers.{stolen-image, stolen-family, stolen-canonical, says}
 use Rattle.stolen.specs.Answers.{stolen-lookup-refusal, stolen-lookup-refusals, stolen-lookup-values}
 use Rattle.stolen.specs.Answers.{lookup-refused, lookup-accepted}
-use Rattle.stolen.specs.Answers.{stolen-insert-refusal, stolen-insert-refusals, stolen-insert-words, insert-refused}
+use Rattle.stolen.specs.Answers.{stolen-insert-refusal, stolen-insert-refusals, stolen-insert-words}
+use Rattle.stolen.specs.Answers.{insert-refused}
 use Rattle.stolen.specs.Canonical.{StolenImage, image-length, image-keys, room-left, look-listed}
 use Rattle.stolen.specs.Demands.{zeros-image, lookup-passes, insert-passes, stolen-insert-image}
-use Rattle.stolen.specs.Calls.{StolenCall, StolenStep, stolen-step, stolen-run, stolen-left, Register, StolenReply}
-use Rattle.stolen.specs.Calls.{named, names-own, register-lookup-tests, register-insert-tests, hears, stolen-reply}
+use Rattle.stolen.specs.Calls.{StolenCall, StolenStep, stolen-step, stolen-run, stolen-left, Register}
+use Rattle.stolen.specs.Calls.{StolenReply}
+use Rattle.stolen.specs.Calls.{named, names-own, register-lookup-tests, register-insert-tests, hears}
+use Rattle.stolen.specs.Calls.{stolen-reply}
 use Rattle.stolen.specs.Calls.{stolen-model, register-left}
 
 -- a reply of the register, its set as words
@@ -37,7 +40,7 @@ stolen-pictured m = record { number = m .number; values = m .values; words = sho
 
 -- The words are the image of the register's set, whose keys ascend, none of them blank, and are no more than the slots;
 -- its book has its length, slots and station are in their ranges.
-pub record Keeps (R : Register) (ws : List ℕ) : Type 0 where
+pub record StolenKept (R : Register) (ws : List ℕ) : Type 0 where
   pub full-length : length (R .family .tabulation) ≡ tabulation-length
   pub slots : slots-in-range (R .family .slots) ≡ true
   pub station : station-in-range (R .family .station) ≡ true
@@ -47,24 +50,24 @@ pub record Keeps (R : Register) (ws : List ℕ) : Type 0 where
 pub record StolenFollows (R : Register) (ws : List ℕ) (cs : List StolenCall) : Type 0 where
   -- Each call answers what the register answers, and the words after it are the image of the register's set.
   pub trace : stolen-run ws cs ≡ map stolen-pictured (stolen-model R cs)
-  pub registers : (m : StolenReply) → In m (stolen-model R cs) → Keeps (m .register) (shown (m .register))
+  pub registers : (m : StolenReply) → In m (stolen-model R cs) → StolenKept (m .register) (shown (m .register))
   -- The same after the whole sequence.
-  pub final : Keeps (register-left R cs) (stolen-left ws cs)
+  pub final : StolenKept (register-left R cs) (stolen-left ws cs)
 
 -- One call: what it answers is the reply's, and the reply's register keeps the words.
-record Replies (o : StolenStep) (m : StolenReply) : Type 0 where
+record StolenReplies (o : StolenStep) (m : StolenReply) : Type 0 where
   number : o .number ≡ m .number
   values : o .values ≡ m .values
-  keeps : Keeps (m .register) (o .words)
+  keeps : StolenKept (m .register) (o .words)
 
-module _ (R : Register) (ws : List ℕ) (h : Keeps R ws) where
+module _ (R : Register) (ws : List ℕ) (h : StolenKept R ws) where
   positive : 0 < R .family .slots
   positive = in-range-pos (R .family .slots) (h .slots)
 
   long : length ws ≡ R .family .slots
   long = image-length (R .family) positive ws (h .image)
 
-  listed : keys-in ws ≡ R .keys
+  listed : table-keys ws ≡ R .keys
   listed = image-keys (R .family) positive ws (h .image)
 
   filled : not (member 0 ws) ≡ eqb (length (R .keys)) (R .family .slots)
@@ -93,20 +96,31 @@ module _ (R : Register) (ws : List ℕ) (h : Keeps R ws) where
     lookup-tests : stolen-lookup-refusals tabulation ws station key ≡ register-lookup-tests R tabulation station key
     lookup-tests = rw (long, h .slots)
 
-    insert-number : stolen-insert-refusal tabulation ws station key ≡ first-refusal (register-insert-tests R tabulation station key)
+    insert-number : stolen-insert-refusal tabulation ws station key
+        ≡ first-refusal (register-insert-tests R tabulation station key)
     unfolding stolen-insert-refusal
     insert-number = ap first-refusal insert-tests
 
-    lookup-number : stolen-lookup-refusal tabulation ws station key ≡ first-refusal (register-lookup-tests R tabulation station key)
+    lookup-number : stolen-lookup-refusal tabulation ws station key
+        ≡ first-refusal (register-lookup-tests R tabulation station key)
     unfolding stolen-lookup-refusal
     lookup-number = ap first-refusal lookup-tests
 
     accepted : stolen-insert-refusal tabulation ws station key ≡ done
-        → Keeps (record { family = named R tabulation station; keys = with-key key (R .keys) }) (stolen-insert-words tabulation ws station key)
+        → StolenKept (record {
+          family =
+              named R tabulation station;
+          keys = with-key key (R .keys);
+        }) (stolen-insert-words tabulation ws station key)
     accepted e = go (insert-passes tabulation ws station key e)
       where
         go : None (stolen-insert-refusals tabulation ws station key)
-            → Keeps (record { family = named R tabulation station; keys = with-key key (R .keys) }) (stolen-insert-words tabulation ws station key)
+            → StolenKept (record {
+              family =
+                  named R tabulation station;
+              keys =
+                  with-key key (R .keys);
+            }) (stolen-insert-words tabulation ws station key)
         go (and a (and b more)) =
             let v = stolen-insert-image tabulation ws station key e in
             record {
@@ -116,7 +130,7 @@ module _ (R : Register) (ws : List ℕ) (h : Keeps R ws) where
               image = rw (long, listed) at v;
             }
 
-    insert-replies : Replies (stolen-step ws (StolenCall.insert tabulation station key)) (stolen-reply R (StolenCall.insert tabulation station key))
+    insert-replies : let c = StolenCall.insert tabulation station key in StolenReplies (stolen-step ws c) (stolen-reply R c)
     unfolding stolen-step stolen-reply
     insert-replies =
         let n = first-refusal (register-insert-tests R tabulation station key) in
@@ -132,7 +146,8 @@ module _ (R : Register) (ws : List ℕ) (h : Keeps R ws) where
         }
 
     -- a lookup says what the register does
-    heard : blank key ≡ false → look (slot-0 (stolen-family tabulation ws station)) (length ws) ws key ≡ hears R tabulation station key
+    heard : blank key ≡ false
+        → look (slot-0 (stolen-family tabulation ws station)) (length ws) ws key ≡ hears R tabulation station key
     heard b =
         rw long (elim (test (names-own R tabulation station)) [
           | inl own ↦
@@ -145,7 +160,7 @@ module _ (R : Register) (ws : List ℕ) (h : Keeps R ws) where
           | inr other ↦ rw other (ap (λ (l : List ℕ). look (slot-0 (named R tabulation station)) (R .family .slots) l key) (h .image .is))
         ])
 
-    lookup-replies : Replies (stolen-step ws (StolenCall.lookup tabulation station key)) (stolen-reply R (StolenCall.lookup tabulation station key))
+    lookup-replies : let c = StolenCall.lookup tabulation station key in StolenReplies (stolen-step ws c) (stolen-reply R c)
     unfolding stolen-step stolen-reply
     lookup-replies =
         let n = first-refusal (register-lookup-tests R tabulation station key) in
@@ -158,15 +173,16 @@ module _ (R : Register) (ws : List ℕ) (h : Keeps R ws) where
           keeps = h;
         }
       where
-        go : None (stolen-lookup-refusals tabulation ws station key) → stolen-lookup-refusal tabulation ws station key ≡ done
+        go : None (stolen-lookup-refusals tabulation ws station key)
+            → stolen-lookup-refusal tabulation ws station key ≡ done
             → stolen-lookup-values tabulation ws station key ≡ says (hears R tabulation station key)
         go (and a (and b (and c none))) e = lookup-accepted tabulation ws station key e ∙ ap says (heard c)
 
-  replies : (c : StolenCall) → Replies (stolen-step ws c) (stolen-reply R c)
+  replies : (c : StolenCall) → StolenReplies (stolen-step ws c) (stolen-reply R c)
   replies (StolenCall.insert tabulation station key) = insert-replies tabulation station key
   replies (StolenCall.lookup tabulation station key) = lookup-replies tabulation station key
 
-pub stolen-follows : (R : Register) (ws : List ℕ) → Keeps R ws → (cs : List StolenCall) → StolenFollows R ws cs
+pub stolen-follows : (R : Register) (ws : List ℕ) → StolenKept R ws → (cs : List StolenCall) → StolenFollows R ws cs
 unfolding stolen-run stolen-model stolen-left register-left
 stolen-follows R ws h [] = record { trace = refl; registers = λ m i. elim i [ ]; final = h }
 stolen-follows R ws h (c ∷ cs) =
@@ -187,8 +203,8 @@ stolen-follows R ws h (c ∷ cs) =
       final = f .final;
     }
 
--- What a sequence may start with: zeros, and a register without keys. Its book has its length, its slots and its station
--- are in their ranges.
+-- What a sequence may start with: zeros, and a register without keys. Its book has its length, its slots and its
+-- station are in their ranges.
 abbrev pub empty-register : Family → Register
 empty-register F = record { family = F; keys = [] }
 

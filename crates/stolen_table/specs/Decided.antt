@@ -14,7 +14,7 @@ use Rattle.ordered.specs.Keys.{with-key}
 use Rattle.ordered.specs.Sorting.{in-at}
 use Rattle.hashing.specs.Hash.{tabulation-length, slots-in-range, station-in-range, blank, Hashing, hashing}
 use Rattle.hashing.specs.Slots.{slot-0}
-use Rattle.probing.specs.Rule.{looks, look, keys-in}
+use Rattle.probing.specs.Rule.{looks, look, table-keys}
 use Rattle.probing.specs.Moves.{displace, add, all-settled}
 use Rattle.probing.specs.Walls.{Barrier, empty, largest}
 use Rattle.stolen.specs.Answers.{stolen-family, stolen-image, stolen-canonical}
@@ -51,19 +51,19 @@ module _ (tabulation ws : List ℕ) (station : ℕ) (h : Hashing tabulation (len
   module _ (key : ℕ) (c : stolen-canonical (stolen-family tabulation ws station) ws ≡ true) (b : blank key ≡ false) where
     -- a way comes to the key exactly if it is listed
     pub found-member : looks (length ws) (length ws) ws key (slot-0 (stolen-family tabulation ws station) key)
-        ≡ member key (keys-in ws)
+        ≡ member key (table-keys ws)
     unfolding look
     found-member =
         let F = stolen-family tabulation ws station in
         look-listed F (h .has-slots) ws (canonical-true F (h .has-slots) ws refl c) key b
 
     -- a key that is carried in gives the image of the set with it
-    pub carried : member key (keys-in ws) ≡ false → member 0 ws ≡ true
+    pub carried : member key (table-keys ws) ≡ false → member 0 ws ≡ true
         → displace (length ws) (length ws) ws key (slot-0 (stolen-family tabulation ws station) key)
-        ≡ stolen-image (stolen-family tabulation ws station) (with-key key (keys-in ws))
+        ≡ stolen-image (stolen-family tabulation ws station) (with-key key (table-keys ws))
     unfolding add
     carried n e =
         let F = stolen-family tabulation ws station in
         let v = canonical-true F (h .has-slots) ws refl c in
         inserted F (h .has-slots) ws v key b n
-        (ltb-true (length (keys-in ws)) (length ws) (sym (room-left F (h .has-slots) ws v) ∙ e))
+        (ltb-true (length (table-keys ws)) (length ws) (sym (room-left F (h .has-slots) ws v) ∙ e))

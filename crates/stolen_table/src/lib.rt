@@ -48,13 +48,13 @@ pub fn init(words: &mut [u32]) -> u32
     0
 }
 
-// The slot where a key starts: that of table 0.
+// The slot where a key starts: its hash in table 0.
 fn start_of(tabulation: &[u16], slots: usize, station: u32, key: u32) -> usize
     requires { ⌜ Hashing (now tabulation) slots station ⌝ }
     ensures at { λ s. ⌜ s ≡ slot-0 (tables (now (tabulation .entry)) slots station) key ⌝ }
     ensures inside { λ s. ⌜ s < slots ⌝ }
 {
-    wide(slots::first_slot(tabulation, slots as u32, station, key))
+    wide(slots::hash_in(tabulation, 0, slots as u32, station, key))
 }
 
 // Whether the key is reported, on any words; or 1, 2 or 5.
@@ -80,8 +80,7 @@ pub fn lookup(tabulation: &[u16], words: &[u32], station: u32, key: u32) -> Repo
     Reported::No
 }
 
-// Whether a word is right at a turn of the round behind slot `base`: none, or a key that is not blank and starts behind
-// its wall.
+// Whether a key is right at a turn of the round behind slot `base`: it is not blank, and starts behind its wall.
 fn is_right(
     tabulation: &[u16],
     slots: usize,
@@ -95,9 +94,6 @@ fn is_right(
     ensures { λ b. ⌜ b
         ≡ right slots base (slot-0 (tables (now (tabulation .entry)) slots station)) 10 key wall turn ⌝ }
 {
-    if key == 0 {
-        return true;
-    }
     if ranges::is_blank(key) {
         return false;
     }
@@ -106,7 +102,7 @@ fn is_right(
 }
 
 // Whether the words are the image of a set, told in one round over the slots, behind one that no key passes. The walls
-// of the turns before lead to the wall of the next, so that each slot is passed over once in all.
+// of the keys before lead to that of the next, so that in all each slot is passed over once.
 fn is_canonical(tabulation: &[u16], words: &[u32], station: u32, base: usize) -> bool
     requires { ⌜ Hashing (now tabulation) (length (now words)) station × (base < length (now words))
         × Barrier (length (now words)) (now words) base ⌝ }
@@ -118,11 +114,13 @@ fn is_canonical(tabulation: &[u16], words: &[u32], station: u32, base: usize) ->
     let mut turn = 0;
     while turn < slots {
         let key = words[probe::slot_of(slots, base, turn)];
-        let wall = probe::wall_of(words, &walls, base, turn, key);
-        if !is_right(tabulation, slots, station, base, turn, wall, key) {
-            return false;
+        if key != 0 {
+            let wall = probe::wall_of(words, &walls, base, turn, key);
+            if !is_right(tabulation, slots, station, base, turn, wall, key) {
+                return false;
+            }
+            walls[turn] = wall as u16;
         }
-        walls[turn] = wall as u16;
         turn += 1;
     }
     true

@@ -1,6 +1,7 @@
 //! The calls on a list: init, insert, remove, lookup, check, the stash view and the trail; request
 //! Four's opening of a sale stands in [`crate::sale`], request Seven's bulk load in [`crate::bulk`]
-//! and request Eight's salvage in [`crate::salvage`]. All are total: tabulation, words, scratch,
+//! and request Eight's salvage in [`crate::salvage`]. (The stolen list of request Nine is another
+//! list with calls of its own, in [`crate::stolen`].) All are total: tabulation, words, scratch,
 //! trail sheet, input and target may have any length and content. Only init and a bulk load are
 //! given a station; the others use the words' own. The engine given says how images and trails are
 //! worked out.

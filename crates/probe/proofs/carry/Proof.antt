@@ -1,4 +1,5 @@
--- `probe::carry` meets its contract. The invariant: what is carried from here on, with the budget that is left, leaves what the whole way does.
+-- `probe::carry` meets its contract. The invariant: what is carried from here on, with the budget that is left, leaves
+-- what the whole way does.
 use Prim.Native.Nat.{_<_}
 use mathlib.Core.Path.{_≡_, sym, _∙_}
 use mathlib.Core.Logic.{inl, inr}

@@ -1,4 +1,5 @@
--- `probe::is_found` meets its contract. The invariant: a look-up from here on, with the budget that is left, says what the whole one does.
+-- `probe::is_found` meets its contract. The invariant: a look-up from here on, with the budget that is left, says what
+-- the whole one does.
 use Prim.Native.Nat.{_≤_, _<_}
 use mathlib.Core.Path.{_≡_, sym, _∙_}
 use mathlib.Core.Logic.{inl, inr}

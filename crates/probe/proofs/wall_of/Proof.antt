@@ -11,7 +11,8 @@ use Rattle.probe.proofs.wall_of.Statement.{statement}
 use Rattle.probe.proofs.wall_of.Tie as tie
 
 abbrev Inv-loop : tie.InvT-loop
-Inv-loop words walls base turn key slots wall₀ wall = (wall ≤ turn) × (wall-at (length words) words base key turn ≡ wall-at (length words) words base key wall)
+Inv-loop words walls base turn key slots wall₀ wall =
+    (wall ≤ turn) × (wall-at (length words) words base key turn ≡ wall-at (length words) words base key wall)
 
 abbrev μ-loop : tie.MeasureT-loop
 μ-loop words walls base turn key slots wall₀ wall = wall
@@ -57,14 +58,16 @@ wide-wall-requires : tie.Need-wide-wall-requires Inv-loop μ-loop
 wide-wall-requires c κs = search needs
 
 -- what is read of the walls is that of the key which is passed
-jumped : (c : tie.After-wide-wall Inv-loop μ-loop) → let t = c .before .before .before .before .before .before .before in
+jumped : (c : tie.After-wide-wall Inv-loop μ-loop)
+    → let t = c .before .before .before .before .before .before .before in
     let a = t .before .before .args in
     let ws = a .words .now in
     let i = t .loop .wall - 1 in
     c .wide-wall .result ≡ wall-at (length ws) ws (a .base) (turn-word (length ws) ws (a .base) i) i
 jumped c =
     let t = c .before .before .before .before .before .before .before in
-    c .wide-wall .ensures ∙ t .before .before .pre .3 .each (t .loop .wall - 1) (omega arith)
+    let n = rw (c .before .before .before .before .before .slot-of .ensures .0) at (c .before .before .before .if1 .left) in
+    c .wide-wall .ensures ∙ t .before .before .pre .3 .each (t .loop .wall - 1) (omega arith) (omega (arith, n))
 
 loop-less : tie.Need-loop-less Inv-loop μ-loop
 loop-less c =

@@ -1,4 +1,5 @@
--- `stolen_table::insert` meets its contract: each `return` is the first refusal whose test holds; past them all the key is carried to its slot.
+-- `stolen_table::insert` meets its contract: each `return` is the first refusal whose test holds; past them all the key
+-- is carried to its slot.
 use Prim.Native.Nat.{ℕ, _<_}
 use mathlib.Core.Path.{_≡_, sym, _∙_}
 use mathlib.Core.Bool.{true, false, _&&_}
@@ -7,7 +8,7 @@ use borrow.Author.Tests.{eq-eqb, ne-eqb, not-true, not-false}
 use lib.ListN.{length}
 use Rattle.basics.specs.Sets.{member}
 use Rattle.hashing.specs.Hash.{slots-in-range, station-in-range, blank, Hashing}
-use Rattle.probing.specs.Rule.{keys-in}
+use Rattle.probing.specs.Rule.{table-keys}
 use Rattle.stolen.specs.Answers.{stolen-family, stolen-canonical, stolen-insert-refusal, stolen-insert-words}
 use Rattle.stolen.specs.Answers.{insert-refused, insert-accepted}
 use Rattle.stolen_table.specs.Decided.{shaped-hashing, key-positive, found-member, carried, room-at, no-room-at}
@@ -43,7 +44,8 @@ returns-2 c =
 abbrev start : tie.Else2 → tie.Start
 start e = e .before .before .before .before .before
 
-shaped : (e : tie.Else2) → (slots-in-range (length (start e .args .words .now)) && station-in-range (start e .args .station)) ≡ true
+shaped : (e : tie.Else2)
+    → (slots-in-range (length (start e .args .words .now)) && station-in-range (start e .args .station)) ≡ true
 shaped e = sym (e .before .in-shape .ensures) ∙ not-false _ (e .if2 .left)
 
 ready : (e : tie.Else2) → let a = start e .args in Hashing (a .tabulation .now) (length (a .words .now)) (a .station)
@@ -55,7 +57,8 @@ barrier-requires : tie.Need-barrier-requires
 barrier-requires c κs = ready (c .before) .has-slots
 
 is-canonical-requires : tie.Need-is-canonical-requires
-is-canonical-requires c κs = let b = c .before in (ready (b .before .before), b .barrier .ensures .0, b .barrier .ensures .1)
+is-canonical-requires c κs =
+    let b = c .before in (ready (b .before .before), b .barrier .ensures .0, b .barrier .ensures .1)
 
 same-length : tie.Need-same-length
 same-length c = search needs
@@ -115,7 +118,7 @@ abbrev sought : tie.After-is-found → tie.Else4
 sought f = f .before .before .before
 
 listed : (f : tie.After-is-found) → let a = start (ranged (read (sought f))) .args in
-    member (a .key) (keys-in (a .words .now)) ≡ f .is-found .result
+    member (a .key) (table-keys (a .words .now)) ≡ f .is-found .result
 listed f =
     let e = sought f in
     let k = read e in

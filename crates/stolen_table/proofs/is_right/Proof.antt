@@ -2,27 +2,22 @@
 use mathlib.Core.Bool.{_&&_}
 use mathlib.Core.Path.{_≡_, sym, _∙_, ap}
 use borrow.Author.Tests.{le-leb, lt-leb}
-use native.Mathlib.Omega.{arith}
 use lib.Dec.{leb}
 use Rattle.hashing.specs.Hash.{tables}
 use Rattle.hashing.specs.Slots.{slot-0}
 use Rattle.probing.specs.Moves.{right, slot-turn}
-use Rattle.stolen_table.specs.Round.{right-empty, right-blank, right-key}
+use Rattle.stolen_table.specs.Round.{right-blank, right-key}
 use borrow.Author.Needs.{needs}
 use Rattle.stolen_table.proofs.is_right.Statement.{statement}
 use Rattle.stolen_table.proofs.is_right.Tie as tie
 
-returns : tie.Need-returns
-returns c = let a = c .before .before .args in sym (right-empty (a .slots) (a .base) _ (a .key) (a .wall) (a .turn) (c .if1 .taken))
-
 is-blank-requires : tie.Need-is-blank-requires
 is-blank-requires c κs = search needs
 
-returns-2 : tie.Need-returns-2
-returns-2 c =
-    let a = c .before .before .before .before .args in
-    let b = sym (c .before .is-blank .ensures) ∙ c .if2 .taken in
-    sym (right-blank (a .slots) (a .base) _ (a .key) (a .wall) (a .turn) (c .before .before .if1 .left) b)
+returns : tie.Need-returns
+returns c =
+    let a = c .before .before .before .args in
+    sym (right-blank (a .slots) (a .base) _ (a .key) (a .wall) (a .turn) (sym (c .before .is-blank .ensures) ∙ c .if1 .taken))
 
 start-of-requires : tie.Need-start-of-requires
 start-of-requires c κs = search needs
@@ -31,31 +26,24 @@ turn-of-requires : tie.Need-turn-of-requires
 turn-of-requires c κs = search needs
 
 -- where a key starts, and what its case comes to
-keyed : (c : tie.After-turn-of) → let a = c .before .before .before .before .before .before .args in
+keyed : (c : tie.After-turn-of) → let a = c .before .before .before .before .before .args in
     right (a .slots) (a .base) (slot-0 (tables (a .tabulation .now) (a .slots) (a .station))) 10 (a .key) (a .wall) (a .turn)
     ≡ (leb (a .wall) (c .turn-of .result) && leb (c .turn-of .result) (a .turn))
 keyed c =
     let s = c .before in
     let e = s .before in
-    let a = e .before .before .before .before .args in
-    right-key (a .slots) (a .base) _ (a .key) (a .wall) (a .turn) (c .turn-of .result) (e .before .before .if1 .left)
-    (sym (e .before .is-blank .ensures) ∙ e .if2 .left)
+    let a = e .before .before .before .args in
+    right-key (a .slots) (a .base) _ (a .key) (a .wall) (a .turn) (c .turn-of .result)
+    (sym (e .before .is-blank .ensures) ∙ e .if1 .left)
     (c .turn-of .ensures .0 ∙ ap (slot-turn (a .slots) (a .base)) (s .start-of .ensures .0))
 
-returns-3 : tie.Need-returns-3
-returns-3 c = sym (keyed (c .before) ∙ rw (le-leb _ _ (c .if3 .taken)))
+returns-2 : tie.Need-returns-2
+returns-2 c = sym (keyed (c .before) ∙ rw (le-leb _ _ (c .if2 .taken)))
 
-returns-4 : tie.Need-returns-4
-returns-4 c = let t = lt-leb _ _ (c .if3 .left) in rw t (sym (keyed (c .before) ∙ rw t))
+returns-3 : tie.Need-returns-3
+returns-3 c = let t = lt-leb _ _ (c .if2 .left) in rw t (sym (keyed (c .before) ∙ rw t))
 
 pub is-right-spec : {M : Type 1} → statement M
 is-right-spec =
     tie.close
-    (tie.spec
-    returns
-    is-blank-requires
-    returns-2
-    start-of-requires
-    turn-of-requires
-    returns-3
-    returns-4)
+    (tie.spec is-blank-requires returns start-of-requires turn-of-requires returns-2 returns-3)

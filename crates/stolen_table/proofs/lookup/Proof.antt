@@ -1,4 +1,5 @@
--- `stolen_table::lookup` meets its contract: each `return` is the first refusal whose test holds, or what the walk found.
+-- `stolen_table::lookup` meets its contract: each `return` is the first refusal whose test holds, or what the walk
+-- found.
 use mathlib.Core.Path.{_≡_, sym, _∙_}
 use mathlib.Core.Bool.{true, _&&_}
 use borrow.Author.Tests.{eq-eqb, ne-eqb, not-true, not-false}
@@ -33,7 +34,8 @@ is-blank-requires c κs = search needs
 abbrev start : tie.Else2 → tie.Start
 start e = e .before .before .before .before .before
 
-shaped : (e : tie.Else2) → (slots-in-range (length (start e .args .words .now)) && station-in-range (start e .args .station)) ≡ true
+shaped : (e : tie.Else2)
+    → (slots-in-range (length (start e .args .words .now)) && station-in-range (start e .args .station)) ≡ true
 shaped e = sym (e .before .in-shape .ensures) ∙ not-false _ (e .if2 .left)
 
 returns-3 : tie.Need-returns-3
@@ -45,10 +47,12 @@ returns-3 c =
     (simp (t, shaped e, v), simp (t, shaped e, v))
 
 start-of-requires : tie.Need-start-of-requires
-start-of-requires c κs = let e = c .before .before in let a = start e .args in shaped-hashing (a .tabulation .now) (a .words .now) (a .station) (e .before .before .if1 .left) (shaped e)
+start-of-requires c κs =
+    let e = c .before .before in let a = start e .args in shaped-hashing (a .tabulation .now) (a .words .now) (a .station) (e .before .before .if1 .left) (shaped e)
 
 is-found-requires : tie.Need-is-found-requires
-is-found-requires c κs = let b = c .before in (c .start-of .ensures .1, key-positive _ (sym (b .before .is-blank .ensures) ∙ b .if3 .left))
+is-found-requires c κs =
+    let b = c .before in (c .start-of .ensures .1, key-positive _ (sym (b .before .is-blank .ensures) ∙ b .if3 .left))
 
 -- what the walk found is what the definition looks for
 told : (f : tie.After-is-found) → let a = start (f .before .before .before .before) .args in
