@@ -6,7 +6,6 @@ pub mod twin;
 
 use std::collections::{BTreeMap, BTreeSet, HashSet};
 
-use reference::hash::hashes;
 use reference::house::HOUSE;
 use reference::rng::Rng;
 use reference::samples::random_tabulation;
@@ -58,19 +57,12 @@ struct Case {
     others: Vec<u32>,
 }
 
-/// The image of a set under a book at the station of all cases: its keys ascending, each in the first empty slot on its
-/// way. Made without the library, so that no other call of it is counted.
+/// The image of a set under a book at the station of all cases, by the reference, so that no other call of the library
+/// is counted.
 pub fn image(tabulation: &[u16], slots: usize, keys: &[u32]) -> Vec<u32> {
-    let mut ascending = keys.to_vec();
-    ascending.sort_unstable();
-    let mut words = vec![0; slots];
-    for key in ascending {
-        let start = hashes(tabulation, slots as u32, STATION, key).expect("a key")[0] as usize;
-        let mut way = (start..slots).chain(0..start);
-        let free = way.find(|slot| words[*slot] == 0).expect("an empty slot");
-        words[free] = key;
-    }
-    words
+    let keys = keys.iter().copied().collect();
+    let image = reference::stolen::image(tabulation, slots as u32, STATION, &keys);
+    image.expect("a set that fits")
 }
 
 impl Case {
@@ -225,7 +217,7 @@ impl Counted {
         .collect()
     }
 
-    /// Prints the table: the mean of a call by the library, lookups of keys that are listed and absent, and inserts, and
+    /// Prints the table: the mean of a call by the library, of lookups of listed and of absent keys and of inserts, and
     /// that to the twin's and to `HashSet`'s.
     pub fn print(&self) {
         let columns =

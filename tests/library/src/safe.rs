@@ -21,6 +21,7 @@ pub fn named(refusal: Theirs) -> Refusal {
         Theirs::OtherIssue => Refusal::OtherIssue,
         Theirs::OtherTier => Refusal::OtherTier,
         Theirs::Listed => Refusal::KeyPresent,
+        Theirs::FullTable => Refusal::TableFull,
         Theirs::NotListed => Refusal::KeyAbsent,
         Theirs::ShortTrailSheet => Refusal::ShortTrail,
         Theirs::WrongPrice => Refusal::WrongPrice,

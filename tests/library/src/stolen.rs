@@ -1,16 +1,15 @@
 //! One call on a stolen-card list beside the same call of the program by another hand: answer, every word, tabulation
 //! and out-parameter, on memory with guards around it. The crate's safe function is called beside them on copies, and
-//! must give the same under its own names. Answers, what they could have been refused for besides, and ways are counted.
+//! must give the same under its own names. Answers, what else a call could have been refused for, and ways are counted.
 
-pub mod model;
-
-use pinorange::Refusal;
+use reference::answer::number;
 use reference::hash::{MAX_R, MAX_STATION, TABULATION_LEN};
 use reference::key::is_blank;
+use reference::stolen::{image, way};
 
 use crate::beside::{GUARD, GUARD_ENTRY};
 use crate::guarded::Guarded;
-use crate::safe;
+use crate::safe::{self, named};
 
 #[derive(Clone, Copy, Debug, PartialEq, Eq)]
 pub enum Call {
@@ -28,6 +27,18 @@ const LARGEST: usize = 16;
 
 /// Marks an out-parameter that a refused call must leave.
 const OLD: u32 = 0xDEAD_BEEF;
+
+/// The image of a set, by the reference. There are no more keys than slots, and all else is sound.
+pub fn image_of(tabulation: &[u16], station: u32, slots: usize, keys: &[u32]) -> Vec<u32> {
+    let keys = keys.iter().copied().collect();
+    image(tabulation, slots as u32, station, &keys).expect("a set that fits")
+}
+
+/// Where the way of a key starts. All is sound.
+pub fn start(tabulation: &[u16], station: u32, slots: usize, key: u32) -> usize {
+    let mut way = way(tabulation, slots as u32, station, key).expect("a sound book and key");
+    way.next().expect("a slot")
+}
 
 /// How a lookup ends.
 #[derive(Clone, Copy, Debug, PartialEq, Eq)]
@@ -142,20 +153,20 @@ impl Reports {
 
     pub fn init(&mut self, words: &mut [u32]) -> u32 {
         let mut expected = words.to_vec();
-        let answer = model::init(&mut expected);
+        let answer = reference::stolen::lay(&mut expected);
         let safe = safe::stolen_init(words);
         let mut lent = Guarded::new(words, GUARD);
         let got = crate::stolen_init(lent.lent());
         assert_eq!(got, number(answer), "init of {} words", words.len());
         assert_eq!(lent.content(), &expected[..]);
-        assert_eq!(safe, (named(answer), expected.clone()), "the safe init");
+        assert_eq!(safe, (answer.map_err(named), expected.clone()), "the safe init");
         words.copy_from_slice(&expected);
         self.count(Call::Init, words.len(), 0, got)
     }
 
     pub fn insert(&mut self, tabulation: &[u16], words: &mut [u32], station: u32, key: u32) -> u32 {
         let mut expected = words.to_vec();
-        let answer = model::insert(tabulation, &mut expected, station, key);
+        let answer = reference::stolen::insert(tabulation, &mut expected, station, key);
         let safe = safe::stolen_insert(tabulation, words, station, key);
         let mut book = Guarded::new(tabulation, GUARD_ENTRY);
         let mut lent = Guarded::new(words, GUARD);
@@ -164,7 +175,12 @@ impl Reports {
         assert_eq!(got, number(answer), "{}", why());
         assert_eq!(lent.content(), &expected[..], "{}", why());
         assert_eq!(book.content(), tabulation, "the tabulation changed");
-        assert_eq!(safe, (named(answer), expected.clone()), "with the safe call: {}", why());
+        assert_eq!(
+            safe,
+            (answer.map_err(named), expected.clone()),
+            "with the safe call: {}",
+            why()
+        );
         self.count_causes(Call::Insert, tabulation.len(), words, station, key);
         if got == 0 {
             self.count_moves(tabulation, words, &expected, station, key);
@@ -187,7 +203,7 @@ impl Reports {
         let filled = old.iter().zip(new).position(|(one, two)| *one == 0 && *two != 0);
         let filled = filled.expect("an insert fills a slot");
         self.moved[usize::from(changed > 1)] += 1;
-        let start = model::start(tabulation, station, old.len(), key);
+        let start = start(tabulation, station, old.len(), key);
         self.moved[2] += u64::from(filled < start);
     }
 
@@ -199,7 +215,7 @@ impl Reports {
         station: u32,
         key: u32,
     ) -> (u32, Option<bool>) {
-        let told = model::lookup(tabulation, words, station, key);
+        let told = reference::stolen::lookup(tabulation, words, station, key);
         let value = told.map_or(OLD, u32::from);
         let mut book = Guarded::new(tabulation, GUARD_ENTRY);
         let mut lent = Guarded::new(words, GUARD);
@@ -215,7 +231,7 @@ impl Reports {
         );
         assert_eq!((book.content(), lent.content()), (tabulation, words), "lookup changed memory");
         let safe = safe::stolen_lookup(tabulation, words, station, key);
-        assert_eq!(safe, told.map_err(refusal), "with the safe call: {}", why());
+        assert_eq!(safe, told.map_err(named), "with the safe call: {}", why());
         self.count_causes(Call::Lookup, tabulation.len(), words, station, key);
         if got == 0 {
             self.count_end(tabulation, words, station, key);
@@ -224,7 +240,7 @@ impl Reports {
     }
 
     fn count_end(&mut self, tabulation: &[u16], words: &[u32], station: u32, key: u32) {
-        let start = model::start(tabulation, station, words.len(), key);
+        let start = start(tabulation, station, words.len(), key);
         let way: Vec<u32> = words[start..].iter().chain(&words[..start]).copied().collect();
         let last = way.iter().position(|word| *word == 0 || *word >= key);
         let end = match last.map(|at| way[at]) {
@@ -238,17 +254,4 @@ impl Reports {
         self.rounds += u64::from(start + steps >= words.len());
         self.over_blank += u64::from(way[..steps].iter().any(|word| is_blank(*word)));
     }
-}
-
-fn number(answer: Result<(), u32>) -> u32 {
-    answer.err().unwrap_or(0)
-}
-
-/// The crate's name for a number.
-fn refusal(number: u32) -> Refusal {
-    Refusal::of(number).expect("a refusal")
-}
-
-fn named(answer: Result<(), u32>) -> Result<(), Refusal> {
-    answer.map_err(refusal)
 }

@@ -5,7 +5,7 @@ use std::collections::BTreeSet;
 
 use library::beside::{Kind, ANSWERS};
 use library::room::Room;
-use library::stolen::model::{lay, start};
+use library::stolen::{image_of, start};
 use library::Change::Insert;
 use library::{change, check, fresh, hashes, house, scratch_length, words_length, HEADER_LENGTH};
 use library::{stolen_insert, stolen_lookup};
@@ -272,7 +272,7 @@ fn stolen_list(
     let station = random_station(&mut Rng::new(!seed));
     let mut all: Vec<u32> = Cards::new(seed).take(2 * cards).collect();
     let others = all.split_off(cards);
-    let words = lay(tabulation, station, slots, &all);
+    let words = image_of(tabulation, station, slots, &all);
     if list < 2 {
         let mut made = vec![0; slots];
         for card in &all {

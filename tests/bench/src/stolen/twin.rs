@@ -88,15 +88,16 @@ fn is_image(hashing: Hashing, words: &[u32], base: usize) -> bool {
     let mut walls = [0; MAX_SLOTS];
     for turn in 0..slots {
         let key = words[wrapped(slots, turn + base + 1)];
+        if key == 0 {
+            continue;
+        }
         let wall = wall_of(words, &walls, base, turn, key);
-        if key != 0 {
-            if is_blank(key) {
-                return false;
-            }
-            let start = wrapped(slots, hashing.start(key) + slots - (base + 1));
-            if !(wall..=turn).contains(&start) {
-                return false;
-            }
+        if is_blank(key) {
+            return false;
+        }
+        let start = wrapped(slots, hashing.start(key) + slots - (base + 1));
+        if !(wall..=turn).contains(&start) {
+            return false;
         }
         walls[turn] = wall as u16;
     }

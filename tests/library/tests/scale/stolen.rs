@@ -1,15 +1,15 @@
-//! The stolen-card list: reports on small lists and on the largest, words that are any, one set in all orders, damage of
-//! single words, other stations, issues, and lengths that are none.
+//! The stolen-card list: reports on small lists and on the largest, words that are any, one set in all orders, damage
+//! of single words, other stations, issues, lengths that are none, and rows by hand.
 
 use std::collections::{BTreeMap, BTreeSet};
 
-use library::stolen::model::{lay, set_of};
-use library::stolen::{Call, End, Reports};
-use reference::hash::TABULATION_LEN;
+use library::stolen::{image_of, start, Call, End, Reports};
+use reference::hash::{STRETCH_LEN, TABULATION_LEN};
 use reference::house::HOUSE;
 use reference::key::issues;
 use reference::rng::Rng;
 use reference::samples::{random_issue, random_station, random_tabulation, test_tabulation};
+use reference::stolen::listed_keys;
 
 use crate::common::{
     any_key, any_station, extreme_tabulation, narrow_tabulation, random_words, WRONG_STATIONS,
@@ -110,7 +110,7 @@ fn any_words() {
         let count = 1 + rng.below(slots);
         let keys = some_keys(&mut rng, count);
         let mut words = if rng.one_in(3) {
-            lay(&tabulation, station, slots, &keys)
+            image_of(&tabulation, station, slots, &keys)
         } else {
             let blank = rng.pick(&[0, 1, 3]);
             let word = |_| match rng.below(5) {
@@ -124,7 +124,7 @@ fn any_words() {
             let (one, other) = (rng.below(slots), rng.below(slots));
             words.swap(one, other);
         }
-        canonical += u32::from(set_of(&tabulation, station, &words).is_some());
+        canonical += u32::from(listed_keys(&tabulation, &words, station).is_some());
         for _ in 0..3 {
             let key = asked(&mut rng, &keys);
             reports.lookup(&tabulation, &words, station, key);
@@ -170,7 +170,7 @@ fn the_largest_list() {
                 }
             }
         }
-        assert_eq!(words, lay(&tabulation, station, 1_024, &keys));
+        assert_eq!(words, image_of(&tabulation, station, 1_024, &keys));
         for _ in 0..50 {
             let key = any_key(&mut rng);
             let answer = if keys.contains(&key) { 6 } else { 16 };
@@ -221,7 +221,7 @@ fn one_set_in_every_order() {
         let (tabulation, station) = (narrow_tabulation(&mut rng), random_station(&mut rng));
         let count = if large { 200 } else { 1 + rng.below(slots.min(6)) };
         let keys = some_keys(&mut rng, count);
-        let image = lay(&tabulation, station, slots, &keys);
+        let image = image_of(&tabulation, station, slots, &keys);
         let ways = if large {
             let mut shuffled = || {
                 let mut order = keys.clone();
@@ -275,8 +275,8 @@ fn other_sets_differ() {
     assert_eq!(images.len(), 57);
 }
 
-/// Each word of many lists changed to some values: 4 exactly where the words are then the image of no set, and otherwise
-/// a list of another set, of whose keys each is reported.
+/// Each word of many lists changed to some values: 4 exactly where the words are then the image of no set, and
+/// otherwise a list of another set, of whose keys each is reported.
 #[test]
 fn one_changed_word() {
     let mut rng = Rng::new(906);
@@ -287,7 +287,7 @@ fn one_changed_word() {
         let (tabulation, station) = (narrow_tabulation(&mut rng), random_station(&mut rng));
         let count = rng.below(slots + 1);
         let keys = some_keys(&mut rng, count);
-        let sound = lay(&tabulation, station, slots, &keys);
+        let sound = image_of(&tabulation, station, slots, &keys);
         for at in 0..slots {
             let copied = sound[rng.below(slots)];
             let values = [
@@ -300,7 +300,7 @@ fn one_changed_word() {
             for value in values.into_iter().filter(|value| *value != sound[at]) {
                 let mut words = sound.clone();
                 words[at] = value;
-                let set = set_of(&tabulation, station, &words);
+                let set = listed_keys(&tabulation, &words, station);
                 let told = reports.insert(&tabulation, &mut words, station, 0);
                 assert_eq!(told, if set.is_some() { 5 } else { 4 }, "{value} at {at}: {sound:?}");
                 let new = any_key(&mut rng);
@@ -322,8 +322,8 @@ fn one_changed_word() {
     assert!(found > 5_000 && passed > 1_000);
 }
 
-/// A list taken for one of another station: mostly none, and then nothing changes; a lookup there never tells a key that
-/// was not reported. An empty list is one of every station.
+/// A list taken for one of another station: mostly none, and then nothing changes; a lookup there never tells a key
+/// that was not reported. An empty list is one of every station.
 #[test]
 fn another_station() {
     let mut rng = Rng::new(907);
@@ -335,7 +335,7 @@ fn another_station() {
         let (own, other) = (random_station(&mut rng), random_station(&mut rng));
         let count = rng.below(slots + 1);
         let keys = some_keys(&mut rng, count);
-        let mut words = lay(&tabulation, own, slots, &keys);
+        let mut words = image_of(&tabulation, own, slots, &keys);
         let told = reports.insert(&tabulation, &mut words, other, 5);
         assert!(told == 5 || (told == 4 && own != other && count > 0));
         (none, both) = (none + u32::from(told == 4), both + u32::from(told == 5 && own != other));
@@ -477,4 +477,44 @@ fn lists_by_hand() {
     assert_eq!(reports.lookup(&tabulation, &[0, 50, 10, 0], 0, 10), (0, Some(false)));
     assert_eq!(reports.lookup(&tabulation, &[0, 9, 10, 0], 0, 10), (0, Some(true)));
     assert_eq!(reports.lookup(&tabulation, &[9, 9, 9, 9], 0, 10), (0, Some(false)));
+}
+
+/// The rows of the specification (12.8): five slots, and a tabulation under which keys start where it says, at station 0
+/// and at station 3.
+#[test]
+fn rows_of_the_specification() {
+    let mut tabulation = vec![0; TABULATION_LEN];
+    // First parts with the entries of their lowest byte; and by the sum of byte and station those of the last stretch.
+    for (part, entry) in [(1, 2), (2, 4), (3, 1), (4, 0), (5, 2), (9, 3)] {
+        tabulation[part] = entry;
+    }
+    for (sum, entry) in [(4, 3), (5, 3), (6, 3), (7, 1), (8, 1), (12, 3)] {
+        tabulation[4 * STRETCH_LEN + sum] = entry;
+    }
+    for (station, starts) in [(0, [2, 4, 1, 3, 0, 3]), (3, [0, 2, 4, 1, 3, 1])] {
+        let parts = [1, 2, 3, 4, 5, 9].map(|part| start(&tabulation, station, 5, 10 * part));
+        assert_eq!(parts, starts, "station {station}");
+    }
+    let mut reports = Reports::new();
+    let first = [21, 57, 0, 42, 20];
+    for (station, keys, row) in [
+        (0, &[20, 21, 42, 57][..], first),
+        (0, &[10, 20, 21, 42, 57], [21, 57, 10, 42, 20]),
+        (3, &[20, 21, 42, 57], [0, 42, 20, 21, 57]),
+    ] {
+        for order in orders(keys) {
+            let mut words = vec![0; 5];
+            for key in order {
+                assert_eq!(reports.insert(&tabulation, &mut words, station, key), 0);
+            }
+            assert_eq!(words, row);
+        }
+    }
+    let mut words = first.to_vec();
+    for key in [10, 20, 90, 0] {
+        assert_eq!(reports.insert(&tabulation, &mut words, 3, key), 4, "{key} at station 3");
+    }
+    for (key, answer) in [(10, 0), (10, 6), (90, 16)] {
+        assert_eq!(reports.insert(&tabulation, &mut words, 0, key), answer, "{key}");
+    }
 }
