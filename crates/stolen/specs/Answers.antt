@@ -112,6 +112,11 @@ pub stolen-init-answer-in : (ws : List ℕ) → In (stolen-init-refusal ws) (0 �
 unfolding stolen-init-refusal
 stolen-init-answer-in ws = first-refusal-in ((wrong-shape, not (slots-in-range (length ws))) ∷ [])
 
+-- a refused init leaves the words
+pub init-refused : (ws : List ℕ) → (stolen-init-refusal ws ≡ done → ⊥) → stolen-init-words ws ≡ ws
+unfolding stolen-init-words
+init-refused ws n = rw (ne-eqb (stolen-init-refusal ws) done n)
+
 module _ (tabulation ws : List ℕ) (station key : ℕ) where
   pub stolen-lookup-answer-in : In (stolen-lookup-refusal tabulation ws station key) (0 ∷ 1 ∷ 2 ∷ 5 ∷ [])
   unfolding stolen-lookup-refusal
