@@ -7,6 +7,7 @@ mod inputs;
 mod issues;
 pub mod room;
 mod safe;
+pub mod seen;
 pub mod stolen;
 pub mod wet;
 

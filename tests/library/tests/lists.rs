@@ -1,10 +1,11 @@
 //! A `List` of the crate beside the exported calls on a copy of its memory, in one random run: every answer, every
 //! word, the counters, and all that a list tells. The answers are counted, and each that a call can give must come up.
 
-use std::collections::{BTreeMap, BTreeSet};
+use std::collections::BTreeSet;
 
+use library::seen::Seen;
 use library::{entries, words_length};
-use pinorange::{Counters, List, Refusal, Sale, Scratch, STEPS, TABULATION_LENGTH};
+use pinorange::{Counters, List, Sale, Scratch, STEPS, TABULATION_LENGTH};
 use reference::rng::Rng;
 use reference::samples::{random_station, random_tabulation};
 
@@ -30,33 +31,6 @@ const ANSWERS: [(&str, &[u32]); 10] = [
     ("open_sale", &[0, 5, 7, 12]),
     ("trail", &[0, 3, 5, 7, 11]),
 ];
-
-/// How often each call gave each answer.
-#[derive(Default)]
-struct Seen(BTreeMap<(&'static str, u32), u64>);
-
-impl Seen {
-    /// Compares what a call of a list gave with the number and the value of the exported call, and counts it.
-    fn compare<T: PartialEq + std::fmt::Debug>(
-        &mut self,
-        call: &'static str,
-        told: Result<T, Refusal>,
-        answer: u32,
-        value: T,
-    ) {
-        let expected = Refusal::of(answer).map_or(Ok(value), Err);
-        assert_eq!(told, expected, "{call}");
-        *self.0.entry((call, answer)).or_default() += 1;
-    }
-
-    /// Fails where a call never gave an answer that it can give, or gave another one.
-    fn report(&self) {
-        println!("{:?}", self.0);
-        let possible = ANSWERS.iter().flat_map(|(call, all)| all.iter().map(|one| (*call, *one)));
-        let given: BTreeSet<(&str, u32)> = self.0.keys().copied().collect();
-        assert_eq!(given, possible.collect());
-    }
-}
 
 /// A scratch for a list, and one of the same length for the exported calls, with another content.
 fn scratch(rng: &mut Rng) -> (Box<Scratch>, Vec<u32>) {
@@ -298,5 +272,5 @@ fn a_list_beside_the_calls() {
             opened(&mut rng, &tabulation, words, &mut seen);
         }
     }
-    seen.report();
+    seen.report(&ANSWERS);
 }

@@ -1,9 +1,8 @@
 //! A `StolenList` of the crate beside the exported calls on a copy of its words, in one random run: every answer, every
 //! word, and all that a list tells. The answers are counted, and each that a call can give must come up.
 
-use std::collections::{BTreeMap, BTreeSet};
-
-use pinorange::{Refusal, StolenList, MAX_STATION, TABULATION_LENGTH};
+use library::seen::Seen;
+use pinorange::{StolenList, MAX_STATION, TABULATION_LENGTH};
 use reference::rng::Rng;
 use reference::samples::{random_station, random_tabulation};
 
@@ -18,33 +17,6 @@ const ANSWERS: [(&str, &[u32]); 5] = [
     ("is_reported", &[0, 5]),
     ("check", &[0]),
 ];
-
-/// How often each call gave each answer.
-#[derive(Default)]
-struct Seen(BTreeMap<(&'static str, u32), u64>);
-
-impl Seen {
-    /// Compares what a call of a list gave with the number and the value of the exported call, and counts it.
-    fn compare<T: PartialEq + std::fmt::Debug>(
-        &mut self,
-        call: &'static str,
-        told: Result<T, Refusal>,
-        answer: u32,
-        value: T,
-    ) {
-        let expected = Refusal::of(answer).map_or(Ok(value), Err);
-        assert_eq!(told, expected, "{call}");
-        *self.0.entry((call, answer)).or_default() += 1;
-    }
-
-    /// Fails where a call never gave an answer that it can give, or gave another one.
-    fn report(&self) {
-        println!("{:?}", self.0);
-        let possible = ANSWERS.iter().flat_map(|(call, all)| all.iter().map(|one| (*call, *one)));
-        let given: BTreeSet<(&str, u32)> = self.0.keys().copied().collect();
-        assert_eq!(given, possible.collect());
-    }
-}
 
 /// A key, at times a blank one, of so few that they meet again.
 fn random_key(rng: &mut Rng, slots: usize) -> u32 {
@@ -133,5 +105,5 @@ fn a_list_beside_the_calls() {
             Err(_) => assert_eq!(words, theirs, "a refused open"),
         }
     }
-    seen.report();
+    seen.report(&ANSWERS);
 }

@@ -1,13 +1,13 @@
 -- `stolen_table::lookup` meets its contract: each `return` is the first refusal whose test holds, or what the walk
 -- found.
-use mathlib.Core.Path.{_≡_, sym, _∙_}
+use mathlib.Core.Path.{_≡_, sym, _∙_, ap}
 use mathlib.Core.Bool.{true, _&&_}
 use borrow.Author.Tests.{eq-eqb, ne-eqb, not-true, not-false}
 use lib.ListN.{length}
 use Rattle.hashing.specs.Hash.{slots-in-range, station-in-range}
-use Rattle.hashing.specs.Slots.{slot-0}
 use Rattle.probing.specs.Rule.{look}
-use Rattle.stolen.specs.Answers.{stolen-family, stolen-lookup-refusal, stolen-lookup-values}
+use Rattle.refusals.specs.Refusal.{done}
+use Rattle.stolen.specs.Answers.{says, stolen-lookup-refusal, stolen-lookup-values, lookup-accepted}
 use Rattle.stolen_table.specs.Decided.{shaped-hashing, key-positive}
 use borrow.Author.Needs.{needs}
 use Rattle.stolen_table.proofs.lookup.Statement.{statement}
@@ -48,41 +48,40 @@ returns-3 c =
 
 start-of-requires : tie.Need-start-of-requires
 start-of-requires c κs =
-    let e = c .before .before in let a = start e .args in shaped-hashing (a .tabulation .now) (a .words .now) (a .station) (e .before .before .if1 .left) (shaped e)
+    let e = c .before .before in
+    let a = start e .args in
+    shaped-hashing (a .tabulation .now) (a .words .now) (a .station) (e .before .before .if1 .left) (shaped e)
 
 is-found-requires : tie.Need-is-found-requires
 is-found-requires c κs =
     let b = c .before in (c .start-of .ensures .1, key-positive _ (sym (b .before .is-blank .ensures) ∙ b .if3 .left))
 
--- what the walk found is what the definition looks for
-told : (f : tie.After-is-found) → let a = start (f .before .before .before .before) .args in
-    look (slot-0 (stolen-family (a .tabulation .now) (a .words .now) (a .station))) (length (a .words .now)) (a .words .now) (a .key) ≡ f .is-found .result
+-- past all refusals, what the way comes to is what the definition looks for
+abbrev asked : tie.After-is-found → tie.Start
+asked f = start (f .before .before .before .before)
+
+passed : (f : tie.After-is-found) → let a = asked f .args in
+    stolen-lookup-refusal (a .tabulation .now) (a .words .now) (a .station) (a .key) ≡ done
+unfolding stolen-lookup-refusal
+passed f =
+    let b = f .before .before in
+    let e = b .before .before in
+    let t = eq-eqb _ _ (e .before .before .if1 .left) in
+    rw (t, shaped e, sym (b .before .is-blank .ensures) ∙ b .if3 .left)
+
+told : (f : tie.After-is-found) → let a = asked f .args in
+    stolen-lookup-values (a .tabulation .now) (a .words .now) (a .station) (a .key) ≡ says (f .is-found .result)
 unfolding look
 told f =
-    let a = start (f .before .before .before .before) .args in
-    sym (rw (f .before .start-of .ensures .0) at (f .is-found .ensures))
+    let a = asked f .args in
+    lookup-accepted (a .tabulation .now) (a .words .now) (a .station) (a .key) (passed f)
+    ∙ ap says (sym (rw (f .before .start-of .ensures .0) at (f .is-found .ensures)))
 
 returns-4 : tie.Need-returns-4
-unfolding stolen-lookup-refusal stolen-lookup-values
-returns-4 c =
-    let f = c .before in
-    let b = f .before .before in
-    let e = b .before .before in
-    let t = eq-eqb _ _ (e .before .before .if1 .left) in
-    let v = sym (b .before .is-blank .ensures) ∙ b .if3 .left in
-    let y = told f ∙ c .if4 .taken in
-    (simp (t, shaped e, v), simp (t, shaped e, v, y))
+returns-4 c = let f = c .before in (sym (passed f), sym (told f ∙ ap says (c .if4 .taken)))
 
 returns-5 : tie.Need-returns-5
-unfolding stolen-lookup-refusal stolen-lookup-values
-returns-5 c =
-    let f = c .before in
-    let b = f .before .before in
-    let e = b .before .before in
-    let t = eq-eqb _ _ (e .before .before .if1 .left) in
-    let v = sym (b .before .is-blank .ensures) ∙ b .if3 .left in
-    let n = told f ∙ c .if4 .left in
-    (simp (t, shaped e, v), simp (t, shaped e, v, n))
+returns-5 c = let f = c .before in (sym (passed f), sym (told f ∙ ap says (c .if4 .left)))
 
 pub lookup-spec : {M : Type 1} → statement M
 lookup-spec =
