@@ -1,6 +1,8 @@
 // The layout in code: the heading, the slots, lengths, the shape test and fresh words. Nobody
 // counts words but by what stands here and the constants of `layout`. Each function promises what a definition of
 // layout/specs says.
+#![tactic(auto)]
+
 ghost use Rattle.std.specs.Prelude.{◌≡◌, ◌&&◌, ◌++◌, ◌+◌, ◌*◌, ◌≤◌, ◌<◌, eqb, length, get_or, take, drop};
 ghost use Rattle.hashing.specs.Hash.{max_slots};
 ghost use Rattle.layout.specs.Layout.{header_of, header_words, header_length, with_keys, with_stashed};

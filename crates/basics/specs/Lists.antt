@@ -203,6 +203,7 @@ first_drop L i l =
 pub first_low : {L : List ℕ} {d : ℕ} → Asc L → In d L → first L ≤ d
 first_low (some h k) (here q) = le_of_eq (sym q)
 first_low (some h k) (there i) = omega (arith, h _ i)
+first_low {d = d} none x3 = elim x3 [ ]
 
 -- x is the smallest member of C that passes the test p, or, where none passes, the smallest
 pub data Picked (p : ℕ → Bool) (C : List ℕ) (x : ℕ) : Type 0 where

@@ -74,6 +74,7 @@ keep_test p (d ∷ R) h = elim (cond_in (p d) h) [ inl q ↦ cc | inr k ↦ keep
 pub in_keep : {A : Type 0} (p : A → Bool) (R : List A) {c : A} → p c ≡ true → In c R → In c (keep p R)
 in_keep p (d ∷ R) e (here q) = let e' : p d ≡ true = cc in rw e' (here q)
 in_keep p (d ∷ R) e (there h) = in_cond (p d) d (in_keep p R e h)
+in_keep {A = A} p [] {c = c} e x'' = elim x'' [ ]
 
 pub member_in : (c : ℕ) (R : List ℕ) → member c R ≡ true → In c R
 member_in c [] e = absurd (false≢true e)
@@ -155,7 +156,7 @@ any_true p (d ∷ R) e =
       | inr t ↦ let r = any_true p R (rw t at e) in (r.0, there r.1, r.2)
     ]
 
-pub true_any : {A : Type 0} (p : A → Bool) {R : List A} {d : A} → In d R → p d ≡ true → any p R ≡ true
+pub true_any : {A : Type 0} (p : A → Bool) {d : A} {R : List A} → In d R → p d ≡ true → any p R ≡ true
 true_any p (here {x = d} q) e = let e' : p d ≡ true = cc in rw e'
 true_any p (there {x = d} h) e = rw (true_any p h e, or-true)
 
@@ -186,6 +187,7 @@ last_max (c ∷ []) (some h k) (here q) = le_of_eq q
 last_max (c ∷ []) (some h k) (there i) = elim i [ ]
 last_max (c ∷ e ∷ R) (some h k) (here q) = omega (arith, h e (here refl), last_max (e ∷ R) k (here refl))
 last_max (c ∷ e ∷ R) (some h k) (there i) = last_max (e ∷ R) k i
+last_max [] {d = d} _ x3 = elim x3 [ ]
 
 pub length_keep : {A : Type 0} (p : A → Bool) (R : List A) → length (keep p R) ≤ length R
 length_keep p [] = zero-le
@@ -202,6 +204,7 @@ length_drop p (d ∷ R) (there i) e = go (p d) (length_drop p R i e)
     go : (t : Bool) → length (keep p R) < length R → length (cond t (d ∷ keep p R) (keep p R)) < suc (length R)
     go true l = omega arith
     go false l = omega arith
+length_drop {A = A} p [] {c = c} x'' e = elim x'' [ ]
 
 pub out_shorter : (c : ℕ) (R : List ℕ) → In c R → length (without c R) < length R
 unfolding without
@@ -259,10 +262,12 @@ not? (inr n) = inl n
 
 pub first_in : {c : ℕ} (L : List ℕ) → In c L → In (first L) L
 first_in (d ∷ L) i = here refl
+first_in {c = c} [] i = elim i [ ]
 
 pub first_two : (L M : List ℕ) {c : ℕ} → In c M → In (first (L ++ M)) L ⊎ ((In (first (L ++ M)) M) × (L ≡ []))
 first_two [] (d ∷ M) i = inr (here refl, refl)
 first_two (d ∷ L) M i = inl (here refl)
+first_two [] [] {c = c} i = elim i [ ]
 
 pub no_member : (c : ℕ) (R : List ℕ) → (In c R → ⊥) → member c R ≡ false
 no_member c R n = elim (test (member c R)) [ inl e ↦ absurd (n (member_in c R e)) | inr e ↦ e ]

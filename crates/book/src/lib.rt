@@ -1,5 +1,7 @@
 // The bytes of book.bin, in which a tabulation is kept: each entry as two bytes, the low byte first. Both ways, with no
 // file in sight.
+#![tactic(auto)]
+
 ghost use Rattle.std.specs.Prelude.{◌+◌, ◌*◌, ◌/◌, ◌%◌, ◌≡◌, length};
 ghost use Rattle.book.specs.Bytes.{bytes_of, entries_of};
 

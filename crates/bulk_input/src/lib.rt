@@ -1,5 +1,7 @@
 // The input of a bulk load: words that alternate key and tier, a lone last word being a key. Each of its tests goes
 // over all of it before the next, and none of them is bounded by the target: the input may be of any length.
+#![tactic(auto)]
+
 ghost use Rattle.std.specs.Prelude.{◌≡◌, false, ltb, length};
 ghost use Rattle.basics.specs.Sets.{any};
 ghost use Rattle.hashing.specs.Hash.{blank};

@@ -1,6 +1,8 @@
 // Bulk load: a whole list laid in one call, its whole outcome but the counters. Target and input are tested; then the
 // set that the input is comes to scratch, its keys and their edges, and is committed to the target through the gateway.
 // The keys come ascending: nothing is sorted, and nothing of the target is read.
+#![tactic(auto)]
+
 ghost use Rattle.std.specs.Prelude.{◌≡◌, ◌∷◌, ◌+◌, ◌<◌, length, take};
 ghost use Rattle.refusals.specs.Refusal.{first_refusal};
 ghost use Rattle.gateway.specs.Committing.{new_answer, new_words};

@@ -1,5 +1,7 @@
 // The candidates for a salvage: the keys that count in words that were damaged, gathered in scratch behind a word 0, in
 // word order; and how many slots and places hold a number at all. The words need only the shape of a dictionary.
+#![tactic(auto)]
+
 ghost use Rattle.std.specs.Prelude.{◌≡◌, cond, ◌∷◌, ◌++◌, map, ◌+◌, ◌*◌, ◌≤◌, ◌<◌, length, take};
 ghost use Rattle.basics.specs.Sets.{keep};
 ghost use Rattle.cuckoo.specs.Placement.{slot};

@@ -1,6 +1,8 @@
 // The keys that stand in given words, ascending, in scratch: the words that are not blank are gathered, sorted, and
 // doubles are dropped. A key comes to the word of its rank, counted from 1: word 0 is 0, since "no key" has rank 0. The
 // words need only the shape of a dictionary: whether they are canonical is found out later, from these keys.
+#![tactic(auto)]
+
 ghost use Rattle.std.specs.Prelude.{◌≡◌, cond, ◌∷◌, ◌++◌, ◌+◌, ◌*◌, ◌≤◌, ◌<◌, length, take};
 ghost use Rattle.ordered.specs.Keys.{sorted, distinct};
 ghost use Rattle.hashing.specs.Hash.{blank};

@@ -1,5 +1,7 @@
 // The console: book.bin and the lines of standard input in, rows on standard output. The forms of a line are those of
 // `lines`, the rows those of `rows`, the calls those of `counting` and `lookup`; here is only the reading and writing.
+#![tactic(auto)]
+
 mod session;
 
 ghost use Rattle.std.specs.Prelude.{◌≤◌, length, ◌≡◌};

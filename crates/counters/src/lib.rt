@@ -1,5 +1,7 @@
 // The counters (document 01's "meter"), by value: a call of init, insert or remove moves one of the two counts on, and
 // nothing depends on them. The calls that hold them by reference are in `pinorange`.
+#![tactic(auto)]
+
 ghost use Rattle.std.specs.Prelude.{◌≡◌};
 ghost use Rattle.counters.specs.Counters.{one_more, counted};
 

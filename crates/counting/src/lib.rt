@@ -1,5 +1,7 @@
 // Init, bulk load, insert and remove with the counters, by value: counts in and counts out, for callers that hold them
 // so. The calls that hold the counters by reference are in `pinorange`.
+#![tactic(auto)]
+
 ghost use Rattle.std.specs.Prelude.{◌≡◌, length};
 ghost use Rattle.counters.specs.Counters.{counted};
 ghost use Rattle.layout.specs.Answers.{fresh-refusal, fresh-words};

@@ -8,7 +8,7 @@ use Rattle.std.proofs.Math.Bool.{Bool, true, not, and-true as and_right}
 use Rattle.std.proofs.Math.Logic.{inl, inr}
 use mathlib.Core.List.{List, Memᴰ as In}
 use Rattle.std.proofs.Math.Dec.{eqb}
-use Rattle.basics.specs.Tests.{test, and-true, bool_ext}
+use Rattle.basics.specs.Tests.{test, and_true, bool_ext}
 use Rattle.basics.specs.Sets.{member, keep, without, first, Sub, member_in, in_member, out_in, in_out, out_ne, out_sub, below, below_in, below_lt, in_below, below_sub, Asc, asc_ext}
 use Rattle.basics.specs.Lists.{keep_ext, keep_keep, keep_both}
 use Rattle.cuckoo.specs.Graph.{joined, is_on_cycle, component, seated, stash, root, sits, occupant, next}
@@ -92,7 +92,7 @@ module _ (a b : ℕ → ℕ) where
     unfolding component without
     component_out {c} l =
         keep_keep still other S ∙ keep_both other (λ d. joined a b S v (a d)) (λ d. other d && still d) S
-        (λ d i e. true_joined (mono (λ x. out_in c S) (joined_true (and-true (other d) (still d) e).1)))
+        (λ d i e. true_joined (mono (λ x. out_in c S) (joined_true (and_true (other d) (still d) e).1)))
         (λ d i e. rw (true_joined (cut c S l.closed (joined_true e)), and_right))
       where
         other : ℕ → Bool
@@ -137,7 +137,7 @@ module _ (a b : ℕ → ℕ) where
     unfolding occupant component
     occupant_component {u} k = ap first (keep_both (λ c. (eqb u (a c) || eqb u (b c)) && sits a b C u c) (λ c. joined a b S v (a c))
         (λ c. (eqb u (a c) || eqb u (b c)) && sits a b S u c) S
-        (λ c i e. true_joined (at_end i (and-true (eqb u (a c) || eqb u (b c)) (sits a b S u c) e).0))
+        (λ c i e. true_joined (at_end i (and_true (eqb u (a c) || eqb u (b c)) (sits a b S u c) e).0))
         (λ c i e. rw (sits_component k i (jtrans (jsym k) (joined_true e)))))
       where
         at_end : {c : ℕ} → In c S → (eqb u (a c) || eqb u (b c)) ≡ true → Joined a b S v (a c)
@@ -198,7 +198,7 @@ module _ (a b : ℕ → ℕ) where
     unfolding stash component
     stash_alone =
         keep_keep near kept S ∙ keep_both (λ c. not (member c (seated a b (C S v)))) near (λ c. kept c && near c) S
-        (λ c i e. (and-true (kept c) (near c) e).1) (λ c i e. rw (e, member_alone (joined_true e), and_right))
+        (λ c i e. (and_true (kept c) (near c) e).1) (λ c i e. rw (e, member_alone (joined_true e), and_right))
       where
         near : ℕ → Bool
         near c = joined a b S v (a c)

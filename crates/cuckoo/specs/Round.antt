@@ -89,7 +89,7 @@ module _ (a b : ℕ → ℕ) {T : List ℕ} (asc : Asc T) (stop : Settled a b T)
     pub under_path : {z v : ℕ} → Under z v → (n : ℕ) → Under z (path g v n)
     unfolding path
     under_path U zero = U
-    under_path U (suc n) = under_path (under_next U) n
+    under_path {z = z} {v = v} U (suc n) = under_path {v = g v} (under_next U) n
 
     ends_one : {c v w w' : ℕ} → Ends a b c v w → Ends a b c v w' → w ≡ w'
     ends_one (from_a p q) (from_a r s) = cc

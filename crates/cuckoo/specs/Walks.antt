@@ -62,6 +62,7 @@ module _ {a b : ℕ → ℕ} where
   pub walk_keys : {R cs : List ℕ} {u v : ℕ} → Walk a b R cs u v → Sub cs R
   walk_keys (step i e k) d (here q) = rw q i
   walk_keys (step i e k) d (there m) = walk_keys k d m
+  walk_keys {R = R} (stay {u = u} {v = v} _) d x6 = elim x6 [ ]
 
   -- a walk joins
   walk_joined : {R cs : List ℕ} {u v : ℕ} → Walk a b R cs u v → Joined a b R u v
@@ -98,12 +99,17 @@ module _ {a b : ℕ → ℕ} where
   pub walk_near : {R cs : List ℕ} {d u v : ℕ} → Walk a b R cs u v → In d cs → Joined a b R u (a d)
   walk_near (step i e k) (here q) = rw q (ends_near e i)
   walk_near (step i e k) (there m) = jtrans (ends_edge e i) (walk_near k m)
+  walk_near {R = R} {d = d} (stay {u = u} {v = v} _) x6 = elim x6 [ ]
 
   -- and so are its slots
-  reached_near : {R cs : List ℕ} {s u v : ℕ} (k : Walk a b R cs u v) → In s (u ∷ reached a b k) → Joined a b R u s
+  near_reached : {R cs vs : List ℕ} {s u v : ℕ} (k : Walk a b R cs u v) → vs ≡ reached a b k → In s (u ∷ vs) → Joined a b R u s
   unfolding reached
-  reached_near k (here q) = rw q jrefl
-  reached_near (step i e k) (there m) = jtrans (ends_edge e i) (reached_near k m)
+  near_reached k r (here q) = rw q jrefl
+  near_reached (step i e k) r (there m) = jtrans (ends_edge e i) (near_reached k refl (rw r at m))
+  near_reached (stay p) r (there m) = elim (rw r at m) [ ]
+
+  reached_near : {R cs : List ℕ} {s u v : ℕ} (k : Walk a b R cs u v) → In s (u ∷ reached a b k) → Joined a b R u s
+  reached_near k m = near_reached k refl m
 
   -- two simple walks and a key between them, where the key alone makes the join
   bridge : {R : List ℕ} {c u x y v : ℕ} → (Joined a b R u v → ⊥) → Ends a b c x y
@@ -154,6 +160,7 @@ module _ {a b : ℕ → ℕ} where
   passes {R} {d = d} (step i e k) (new n h) (there m) =
       let p = passes k h m in
       record { x = p.x; y = p.y; ends = p.ends; before = jtrans (ends_edge e (in_out d R (λ q. n (rw (← q) m)) i)) p.before; after = p.after }
+  passes {R = R} {d = d} (stay {u = u} {v = v} _) _ x11 = elim x11 [ ]
 
   -- every key of a closed walk that uses no key twice lies on a cycle
   pub closed_on : {R cs : List ℕ} {d v : ℕ} → Walk a b R cs v v → Distinct cs → In d cs → OnCycle a b R d

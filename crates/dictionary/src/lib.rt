@@ -1,5 +1,7 @@
 // Insert, remove and check: their whole outcome but the counters. All three go through the gateway: the words are
 // loaded as a set, or refused. Then the set changes in scratch and is committed. There are no incremental cases.
+#![tactic(auto)]
+
 ghost use Rattle.std.specs.Prelude.{◌≡◌};
 ghost use Rattle.layout.specs.Layout.{header_of};
 ghost use Rattle.gateway.specs.Loading.{LoadedSet};

@@ -1,5 +1,7 @@
 // An edge: one word with the two slots of a key and its tier, all that the build and `image` need of it. Edges are made
 // and taken apart here, and nowhere else: whoever has one asks for its parts, and counts nothing.
+#![tactic(auto)]
+
 ghost use Rattle.std.specs.Prelude.{◌≡◌};
 ghost use Rattle.edges.specs.Edge.{packed, first_of, second_of, tier_of_edge, Packable};
 

@@ -1,5 +1,7 @@
 // A field of a line: where it ends, which number it writes; and two numbers parted by a comma, which both forms of a
 // line have. Every promise is equality with a definition of `grammar`.
+#![tactic(auto)]
+
 ghost use Rattle.std.specs.Prelude.{◌≡◌};
 ghost use Rattle.grammar.specs.Number.{no_leading_zero, number_of};
 ghost use Rattle.grammar.specs.Parted.{place_of};

@@ -2,6 +2,8 @@
 // stands there or 0, then the edges of the ranks 1, 2, .. (specs/Graph.antt). Each rank leads from where it stands to
 // its other slot, towards the root of its tree, which is bare (specs/Oriented.antt). The tree of a slot is re-rooted
 // there, and a component is finished: afterwards each of its slots holds its occupant in the canonical image.
+#![tactic(auto)]
+
 ghost use Rattle.std.specs.Prelude.{◌≡◌, ◌*◌, ◌<◌, length};
 ghost use Rattle.forest.specs.Edges.{edge_at};
 ghost use Rattle.forest.specs.Graph.{Graph, edges_in, first_slot, second_slot, other_slot, rerooted, lowest};

@@ -1,5 +1,7 @@
 // The forms of a line: line 1, and the others, read from its bytes. Every promise is equality with a definition of
 // `grammar`.
+#![tactic(auto)]
+
 ghost use Rattle.std.specs.Prelude.{◌≡◌, [], ◌∷◌};
 ghost use Rattle.grammar.specs.Command.{by_letter, command_with, insertion, command_of};
 ghost use Rattle.grammar.specs.Sizes.{sizes, sizes_of};

@@ -1,6 +1,8 @@
 // The gateway of every call on a whole dictionary. `load`: 1 to 4, in their order, or the keys of the words with their
 // edges in scratch. `commit`: 8, or the image of whichever set stands in scratch over all of a target, of which only
 // the length is asked. `clear`: zeros in scratch. A call is these and what it does to the set in between.
+#![tactic(auto)]
+
 ghost use Rattle.std.specs.Prelude.{◌≡◌, length, replicate};
 ghost use Rattle.refusals.specs.Refusal.{done};
 ghost use Rattle.layout.specs.Layout.{header_of};

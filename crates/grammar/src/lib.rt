@@ -1,5 +1,6 @@
 // What the console reads and prints, as definitions and laws, apart from the code: `fields`, `forms` and `lines` have
 // that of reading, `writing` and `rows` that of printing. A wrong definition is refused in seconds here.
+#![tactic(auto)]
 
 // What ends a line, and what parts two fields.
 pub const NEWLINE: u8 = b'\n';

@@ -1,6 +1,8 @@
 // The house tabulation (document 01's "house spread book"): a constant table that ships with the library and can be
 // lent to every call that takes a tabulation. What it promises is one test, computed over the whole table;
 // specs/Rule.antt says what the test means.
+#![tactic(auto)]
+
 ghost use Rattle.std.specs.Prelude.{◌≡◌, true};
 ghost use Rattle.house.specs.Rule.{house_test};
 

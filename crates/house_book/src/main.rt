@@ -1,5 +1,7 @@
 // Writes the house tabulation to the file book.bin, which the console reads. A book.bin that is there already is never
 // written over: it may be a station's own.
+#![tactic(auto)]
+
 ghost use Rattle.std.specs.Prelude.{◌≡◌, true, length};
 ghost use Rattle.book.specs.Bytes.{bytes_of};
 

@@ -1,6 +1,8 @@
 // An image told by ranks, as the build leaves it: whether given words are it, and the writing of it into words, record
 // by record (crate `records`): slot by slot, then place by place. What an image consists of is lent as plain slices, by
 // rank; which set it is of is not asked here.
+#![tactic(auto)]
+
 ghost use Rattle.std.specs.Prelude.{◌≡◌, length};
 ghost use Rattle.layout.specs.Layout.{header_length, places_of, slots_of, words_length};
 ghost use Rattle.layout.specs.Shape.{Shaped, Sized};

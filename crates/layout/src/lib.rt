@@ -2,6 +2,7 @@
 // code that reads and writes words stands apart: `access` has that of the heading, slots, lengths, the shape and fresh
 // words, `lookup` that of lookup and the stash view, `collect` and `image` that of whole dictionaries. A wrong
 // definition is refused in seconds here.
+#![tactic(auto)]
 
 // The words before the slots: r, s, the number of keys, the number of stashed keys and the station number.
 pub const HEADER_LENGTH: usize = 5;

@@ -1,6 +1,8 @@
 // The line that the console reads, so far, in bounded memory, and what it says when it is whole. A line goes in and
 // comes out by value; nothing is read or allocated here. Every promise speaks of `Buffers`, of `grammar`: which bytes
 // were read.
+#![tactic(auto)]
+
 ghost use Rattle.std.specs.Prelude.{ℕ, ◌+◌, min, ◌≡◌, List, [], ◌∷◌, ◌++◌, eqb, length};
 ghost use Rattle.grammar.specs.Command.{command_of};
 ghost use Rattle.grammar.specs.Sizes.{sizes_of};

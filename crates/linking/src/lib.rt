@@ -1,5 +1,7 @@
 // Steps 1 and 2 of the build: the ranks are linked into Kruskal's forest, ascending, in the graph and the sets, and
 // each rank gets its label. Every function takes the whole of scratch and lends one part of it.
+#![tactic(auto)]
+
 ghost use Rattle.std.specs.Prelude.{◌≡◌, cond, ◌*◌, ◌≤◌, ◌<◌, ltb, length};
 ghost use Rattle.forest.specs.Edges.{Edges};
 ghost use Rattle.forest.specs.Graph.{Graph, edges_in, rerooted};

@@ -1,6 +1,8 @@
 // Lookup and the stash view, in words read in place. Every public call takes words of any content and length, and
 // promises its whole answer by a definition of layout/specs/Answers.antt; only `tier_at` wants words of the right
 // shape.
+#![tactic(auto)]
+
 ghost use Rattle.std.specs.Prelude.{◌≡◌, cond, ◌∷◌, ◌*◌, ◌<◌, eqb, length, get_or};
 ghost use Rattle.refusals.specs.Refusal.{done};
 ghost use Rattle.hashing.specs.Hash.{tabulation_length};

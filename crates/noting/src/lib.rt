@@ -1,5 +1,7 @@
 // Steps 3 and 4 of the build: for each label the smallest rank of the forest is noted, in the words of `sets`; of the
 // ranks that close a cycle the first of each label is noted beside it, and the others are the stash.
+#![tactic(auto)]
+
 ghost use Rattle.std.specs.Prelude.{◌≡◌, ◌*◌, ◌≤◌, ◌<◌};
 ghost use Rattle.build.specs.Scratch.{parts};
 ghost use Rattle.build.specs.Access.{Enough};

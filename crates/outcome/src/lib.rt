@@ -1,6 +1,7 @@
 // What insert, remove, check, trail and the calls of a sale answer and leave, as definitions and laws, apart from the
 // code that does it: `dictionary`, `trail` and `sale` have the code, and `history` the theorem about whole sequences,
 // which needs these alone.
+#![tactic(auto)]
 
 // Which change of the set a call asks for: a key comes in with a tier, or a key goes.
 #[derive(Drop)]

@@ -1,6 +1,8 @@
 // The components of the cuckoo graph as a disjoint-set structure over n slots, in n lent words: union by size, no path
 // compression. A word below n is the slot's parent; a word n + s marks the representative of a set of s slots. n is the
 // length of the lent slice.
+#![tactic(auto)]
+
 ghost use Rattle.std.specs.Prelude.{◌≡◌, ◌≤◌, ◌<◌, length};
 ghost use Rattle.partition.specs.Words.{max_points, singletons_of, Representative, rep_of, size_of, Mergeable};
 ghost use Rattle.partition.specs.Words.{linked, united};

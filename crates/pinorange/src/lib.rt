@@ -1,6 +1,8 @@
 // What other languages link: every call of the dictionary under a plain C name. A slice crosses as a pointer and a
 // length; an enum or a part of a slice cannot cross, so a call gives document 01's number and writes the rest to
 // out-parameters. What these hold after a refusal is part of each promise.
+#![tactic(auto)]
+
 ghost use Rattle.std.specs.Prelude.{◌≡◌, length};
 ghost use Rattle.hashing.specs.Hash.{tables};
 ghost use Rattle.hashing.specs.Answer.{hashes_refusal, written};

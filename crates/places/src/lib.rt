@@ -1,6 +1,8 @@
 // The places of the stash, a key and its tier each: whether a key stands in one, and its tier. A lookup of an absent
 // key goes through all of them, so that is made fast: every word is compared first, keys and tiers alike, in a loop
 // that takes several at once.
+#![tactic(auto)]
+
 ghost use Rattle.std.specs.Prelude.{◌≡◌, ◌||◌, ◌*◌, ◌≤◌, length};
 ghost use Rattle.basics.specs.Sets.{member};
 ghost use Rattle.refusals.specs.Refusal.{done};

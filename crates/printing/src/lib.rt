@@ -1,5 +1,7 @@
 // The printed rows, gathered in a lent buffer that is written out when it has no room for another row. How far it is
 // filled goes in and comes out with each row, as `Rows`, and stays within the buffer.
+#![tactic(auto)]
+
 ghost use Rattle.std.specs.Prelude.{◌+◌, ◌≤◌, length, ◌≡◌};
 ghost use Rattle.grammar.specs.Row.{row_room};
 ghost use Rattle.printing.specs.Room.{room};

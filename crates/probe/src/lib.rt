@@ -1,6 +1,8 @@
 // The loops over the slots of one table in which the smaller key keeps a contested slot: looking for a key, carrying
 // one in, and the round that tells whether words are an image. Each promises a function of `probing`; none knows a
 // hash.
+#![tactic(auto)]
+
 ghost use Rattle.std.specs.Prelude.{◌≡◌, ◌≤◌, ◌<◌, ◌+◌, length};
 ghost use Rattle.probing.specs.Rule.{after, looks};
 ghost use Rattle.probing.specs.Moves.{displace, wrap, turn_slot, slot_turn, wall};

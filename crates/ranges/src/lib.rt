@@ -1,5 +1,7 @@
 // Which numbers are keys, tables' sizes and stations, and the first part of a key. Every promise is equality with a
 // definition of `hashing`.
+#![tactic(auto)]
+
 ghost use Rattle.std.specs.Prelude.{◌≡◌};
 ghost use Rattle.hashing.specs.Hash.{slots_in_range, station_in_range, first_part, blank};
 

@@ -1,6 +1,8 @@
 // The record of one slot, or of one stash place: compared with what it must be for a rank, and written. The rank is
 // told by its key, its edge and its next. Rank 0, which is no key, is read like any other: no slot is asked whether it
 // is empty.
+#![tactic(auto)]
+
 ghost use Rattle.std.specs.Prelude.{◌≡◌, ◌+◌, ◌*◌, ◌≤◌, ◌<◌, length, get_or};
 ghost use Rattle.records.specs.Record.{slot_alike, slot_put, place_alike, place_put, tier_by, RankKnown, Chained};
 

@@ -1,5 +1,6 @@
 // The numbers that calls answer: document 01's table, "What a call gives back", and document 02's. What each means, and
 // that the first that applies is given, is in specs/Refusal.antt. 0 is "done".
+#![tactic(auto)]
 
 // The tabulation has another length.
 pub const WRONG_TABULATION: u32 = 1;

@@ -1,6 +1,8 @@
 // The lines that the console prints, its rows: their bytes, written into a lent slice at a position; the answer is
 // where the next row goes. Nothing is printed or allocated here. Every promise is `Written` with a definition of
 // `grammar`.
+#![tactic(auto)]
+
 ghost use Rattle.std.specs.Prelude.{◌+◌, ◌≤◌, length};
 ghost use Rattle.grammar.specs.Row.{answer_row, insert_row, remove_row, lookup_row};
 ghost use Rattle.grammar.specs.Row.{error_row, slot_row, stash_row, book_row, row_room};

@@ -1,5 +1,7 @@
 // Sales: opening one at nozzle lift takes the price of a listed key from its tier, and closing it at hang-up gives that
 // price, whatever became of the key meanwhile. The record is the caller's, by value; the words are only read.
+#![tactic(auto)]
+
 ghost use Rattle.std.specs.Prelude.{◌≡◌, true, cond, ◌≤◌, pos, nat_abs, ◌+ℤ◌};
 ghost use Rattle.std.specs.Int.Signed.{lt_z};
 ghost use Rattle.layout.specs.Entries.{max_tier};

@@ -1,6 +1,8 @@
 // Salvage: the survivors of words that were damaged, written as a canonical list to a second area. The keys that count
 // are gathered and sorted (`candidates`, `collect`); each then stays if it is the issue of its first part that stands,
 // and `gateway` commits those that stay. They always fit, so that no refusal is for a full stash.
+#![tactic(auto)]
+
 ghost use Rattle.std.specs.Prelude.{◌≡◌, not, ◌&&◌, ◌∷◌, ◌+◌, ◌*◌, ◌≤◌, ◌<◌, eqb, length};
 ghost use Rattle.refusals.specs.Refusal.{first_refusal};
 ghost use Rattle.layout.specs.Layout.{max_places, place_width, slots_of, place_entries, slot_entry, stash_entries};

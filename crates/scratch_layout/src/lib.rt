@@ -1,5 +1,7 @@
 // Where the parts of scratch begin, and their words read and written one by one: build/specs/Scratch.antt in code. The
 // steps of the build share it, and whoever reads what it leaves.
+#![tactic(auto)]
+
 ghost use Rattle.std.specs.Prelude.{◌≡◌, ◌*◌, ◌≤◌, ◌<◌, get_or, set};
 ghost use Rattle.forest.specs.Edges.{edge_at};
 ghost use Rattle.forest.specs.Graph.{edges_in};

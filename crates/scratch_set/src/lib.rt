@@ -1,6 +1,8 @@
 // The set in scratch, its keys from word 1 on and their edges: where a key or another issue of it stands, and a key put
 // in or taken out. Both columns move together, at the same place. Issues of one first part are neighbours in ascending
 // order, so none is searched for.
+#![tactic(auto)]
+
 ghost use Rattle.std.specs.Prelude.{◌≡◌, ◌+◌, ◌*◌, ◌≤◌, ◌<◌, length};
 ghost use Rattle.basics.specs.Sets.{member, Asc};
 ghost use Rattle.ordered.specs.Keys.{lower_bound};

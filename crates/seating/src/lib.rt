@@ -1,5 +1,7 @@
 // Steps 5 and 6 of the build, and the build as a whole: from the edges of ranks to the canonical image, in scratch;
 // slots, next and stash exactly as `cuckoo` defines them. What callers read is build/specs/Build.antt.
+#![tactic(auto)]
+
 ghost use Rattle.std.specs.Prelude.{◌≡◌};
 ghost use Rattle.build.specs.Scratch.{parts};
 ghost use Rattle.build.specs.Access.{Enough};

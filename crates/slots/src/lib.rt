@@ -1,5 +1,7 @@
 // The hash of a key in a table, and its slots: one function for both tables. Crates above use what it promises and the
 // laws of `hashing`; the worked rows K1 to K12 alone compute with the definition's text.
+#![tactic(auto)]
+
 ghost use Rattle.std.specs.Prelude.{◌≡◌, ◌<◌};
 ghost use Rattle.hashing.specs.Slots.{slot_0, slot_1};
 ghost use Rattle.hashing.specs.Hash.{tables, Hashing, hash};

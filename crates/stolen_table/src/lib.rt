@@ -1,5 +1,7 @@
 // The calls on a list of stolen keys in lent words, a slot each, with no heading, no scratch and no counters. Each
 // promises its whole outcome by a definition of stolen/specs/Answers.antt, for words of any content and length.
+#![tactic(auto)]
+
 ghost use Rattle.std.specs.Prelude.{◌≡◌, ◌&&◌, ◌≤◌, ◌<◌, length};
 ghost use Rattle.hashing.specs.Hash.{slots_in_range, station_in_range, tables, Hashing};
 ghost use Rattle.hashing.specs.Slots.{slot_0};

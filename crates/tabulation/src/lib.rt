@@ -1,5 +1,7 @@
 // Both hashes of a key (document 01's "places of a card"), or a refusal: the public call, which the till maker links
 // alone. What it promises is in `hashing`.
+#![tactic(auto)]
+
 ghost use Rattle.std.specs.Prelude.{◌≡◌};
 ghost use Rattle.hashing.specs.Hash.{tables};
 ghost use Rattle.hashing.specs.Answer.{number, values, hashes_refusal, hashes_values, written};

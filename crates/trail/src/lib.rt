@@ -1,6 +1,8 @@
 // The trail of a key: why it sits where it sits. It starts with the key; each next one is the key in the last one's
 // other slot; it ends with the root of the component. The words are loaded, as remove loads them, then a walk through
 // them finds the root and the keys on the way to it.
+#![tactic(auto)]
+
 ghost use Rattle.std.specs.Prelude.{◌≡◌};
 ghost use Rattle.layout.specs.Layout.{header_of};
 ghost use Rattle.gateway.specs.Loading.{LoadedSet};

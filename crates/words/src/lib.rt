@@ -1,4 +1,6 @@
 // What every layer does with lent words: use one as an index, tell two apart, and fill them.
+#![tactic(auto)]
+
 ghost use Rattle.std.specs.Prelude.{◌≡◌, cond, ◌≤◌, eqb, length, replicate};
 
 // A word as an index.

@@ -1,5 +1,7 @@
 // Bytes and numbers written into a lent slice at a position; the answer is where the next one goes. Every promise is
 // `Written`.
+#![tactic(auto)]
+
 ghost use Rattle.std.specs.Prelude.{◌+◌, ◌≤◌, ◌<◌, ◌≡◌, [], ◌∷◌, length};
 ghost use Rattle.grammar.specs.Decimal.{digit as Digit, decimal};
 ghost use Rattle.grammar.specs.Parted.{comma};
