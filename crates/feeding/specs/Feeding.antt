@@ -118,15 +118,15 @@ module _ (a b : ℕ → ℕ) (s : ℕ) where
   on_good : {X : List ℕ} (cs : List ℕ) → FittingSet X → (In 0 cs → ⊥) → FittingSet (feed_on a b s X cs)
   unfolding feed_on
   on_good [] G z = G
-  on_good (c ∷ cs) G z = on_good cs (fed_good G (λ q. z (here q))) (λ i. z (there i))
+  on_good {X = X} (c ∷ cs) G z = on_good {X = fed a b s X c} cs (fed_good G (λ q. z (here q))) (λ i. z (there i))
 
   on_keeps : {X : List ℕ} (cs : List ℕ) {u : ℕ} → FittingSet X → (In 0 cs → ⊥) → KeptOrRefused X u
       → KeptOrRefused (feed_on a b s X cs) u
   unfolding feed_on
   on_keeps [] G z k = k
-  on_keeps (c ∷ cs) G z k =
+  on_keeps {X = X} (c ∷ cs) {u = u} G z k =
       let nz : 0 ≡ c → ⊥ = λ q. z (here q) in
-      on_keeps cs (fed_good G nz) (λ i. z (there i)) (fed_keeps G nz k)
+      on_keeps {X = fed a b s X c} cs (fed_good G nz) (λ i. z (there i)) (fed_keeps G nz k)
 
   on_kept : {X : List ℕ} (cs : List ℕ) {u : ℕ} → FittingSet X → (In 0 cs → ⊥) → In u cs
       → KeptOrRefused (feed_on a b s X cs) u
@@ -134,12 +134,13 @@ module _ (a b : ℕ → ℕ) (s : ℕ) where
   on_kept (c ∷ cs) {u} G z (here q) =
       let nz : 0 ≡ c → ⊥ = λ q. z (here q) in
       on_keeps cs (fed_good G nz) (λ i. z (there i)) (rw q (fed_kept G nz))
-  on_kept (c ∷ cs) G z (there i) = on_kept cs (fed_good G (λ q. z (here q))) (λ i. z (there i)) i
+  on_kept {X = X} (c ∷ cs) {u = u} G z (there i) = on_kept {X = fed a b s X c} cs (fed_good G (λ q. z (here q))) (λ i. z (there i)) i
+  on_kept {X = X} [] {u = u} G z x3 = elim x3 [ ]
 
   on_in : {X : List ℕ} (cs : List ℕ) {u : ℕ} → In u (feed_on a b s X cs) → In u X ⊎ In u cs
   unfolding feed_on
   on_in [] i = inl i
-  on_in (c ∷ cs) i = elim (on_in cs i) [
+  on_in {X = X} (c ∷ cs) {u = u} i = elim (on_in {X = fed a b s X c} cs i) [
     | inl k ↦ elim (fed_in k) [ inl q ↦ inr (here q) | inr m ↦ inl m ]
     | inr k ↦ inr (there k)
   ]

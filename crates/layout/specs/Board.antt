@@ -237,6 +237,7 @@ hashed_known r s (c ∷ S) e =
 small_tiers : (L : List Entry) → small L ≡ true → (e : Entry) → In e L → e.tier ≤ max_tier
 small_tiers (f ∷ L) t e (here q) = rw q (leb-true f.tier max_tier (and_true (leb f.tier max_tier) (small L) t).0)
 small_tiers (f ∷ L) t e (there i) = small_tiers L (and_true (leb f.tier max_tier) (small L) t).1 e i
+small_tiers [] t e x'' = elim x'' [ ]
 
 record RowReady (r s : ℕ) (L : List Entry) : Type 0 where
   valid : ValidSet L
@@ -281,6 +282,7 @@ holds (full r s L) e =
 all_hold : (Rs : List Row) → all Rs ≡ true → (R : Row) → In R Rs → RowHolds R
 all_hold (R ∷ Rs) e Q (here q) = rw q (holds R (and_true (follows R) (all Rs) e).0)
 all_hold (R ∷ Rs) e Q (there i) = all_hold Rs (and_true (follows R) (all Rs) e).1 Q i
+all_hold [] e Q x'' = elim x'' [ ]
 
 -- Every row holds: K1 to K12 and the console listing follow from the image rule.
 pub board_rows : (R : Row) → In R rows → RowHolds R

@@ -102,9 +102,13 @@ pair_fits P c d has_slots valid = (fits_placement P valid).1 (record { at = at; 
     allowed : (x : ℕ) → In x (c ∷ d ∷ []) → MaySit (slot_0 F) (slot_1 F) P.places x (at x)
     allowed x (here q) = rw q (table_0 at_c)
     allowed x (there (here q)) = rw q (table_1 at_d)
+    allowed x (there (there x9)) = elim x9 [ ]
 
     apart : (x y : ℕ) → In x (c ∷ d ∷ []) → In y (c ∷ d ∷ []) → at x ≡ at y → x ≡ y
     apart x y (here p) (here q) e = p ∙ sym q
     apart x y (here p) (there (here q)) e = absurd (slots_apart F has_slots c d (slot_is (sym at_c ∙ (rw (p, q) at e) ∙ at_d)))
     apart x y (there (here p)) (here q) e = absurd (slots_apart F has_slots c d (slot_is (sym at_c ∙ (rw (p, q) at (sym e)) ∙ at_d)))
     apart x y (there (here p)) (there (here q)) e = p ∙ sym q
+    apart x y (here p) (there (there x20)) e = elim x20 [ ]
+    apart x y (there (here p)) (there (there x25)) e = elim x25 [ ]
+    apart x y (there (there x20)) _ e = elim x20 [ ]

@@ -227,6 +227,7 @@ places_read t (c ∷ R) k = let e : length (c ∷ R) + k ≡ suc (length R + k) 
 pub in_zeros : (n : ℕ) {c : ℕ} → In c (replicate n 0) → c ≡ 0
 in_zeros (suc n) (here q) = q
 in_zeros (suc n) (there h) = in_zeros n h
+in_zeros zero {c = c} x' = elim x' [ ]
 
 module _ (P : Params) (L : List Entry) (e : fits P (keys_of L) ≡ true) where
   abbrev S : List ℕ

@@ -36,6 +36,7 @@ range_in : (s n : ℕ) {d : ℕ} → In d (range s n) → (s ≤ d) × (d < s + 
 unfolding range
 range_in s (suc n) (here e) = (omega arith, omega arith)
 range_in s (suc n) (there i) = let r = range_in (suc s) n i in (omega arith, omega arith)
+range_in s zero {d = d} x' = elim x' [ ]
 
 in_range : (s n : ℕ) {d : ℕ} → s ≤ d → d < s + n → In d (range s n)
 unfolding range

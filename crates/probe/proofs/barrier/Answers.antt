@@ -1,0 +1,50 @@
+use Prim.Native.Nat.{ℕ, ◌-◌, ◌≤◌, ◌<◌}
+use mathlib.Core.Path.{◌≡◌}
+use mathlib.Core.Logic.{inl, inr}
+use native.Mathlib.Omega.{arith}
+use lib.ListN.{length, get_or}
+use Rattle.basics.specs.Tests.{eq?}
+use Rattle.probing.specs.Walls.{empty, largest as none-larger}
+use borrow.Author.Rules.{rules}
+use Rattle.probe.proofs.barrier.Goals as goal
+
+pub loop-slot-init : goal.loop-slot-init
+loop-slot-init c = (c.requires, omega arith, λ p l. absurd (omega arith))
+
+pub returns-then-word-eq0 : goal.returns-then-word-eq0
+returns-then-word-eq0 c = record {
+        inside = omega arith;
+        unpassed = empty c.if-word-eq0.true;
+    }
+
+pub loop-slot-preserved : goal.loop-slot-preserved
+loop-slot-preserved c =
+    let l = c.loop-slot in
+    let ws = c.args.words.now in
+    let filled : 0 < get_or ws l.slot 0 = let n = c.if-word-eq0.false in omega arith in
+    elim c.if-words-largest.branch [
+      | inl w ↦ rw w.1 (
+        omega arith,
+        omega arith,
+        λ p k. elim (eq? p l.slot) [
+          | inl e ↦ rw e (filled, omega arith)
+          | inr n ↦ let r = l.invariant.2 p (omega arith) in (r.0, omega (arith, r.1, w.0.taken))
+        ],
+      )
+      | inr w ↦ rw w.1 (
+        l.invariant.0,
+        omega arith,
+        λ p k. elim (eq? p l.slot) [
+          | inl e ↦ rw e (filled, w.0.left)
+          | inr n ↦ l.invariant.2 p (omega arith)
+        ],
+      )
+    ]
+
+pub returns : goal.returns
+returns c =
+    let l = c.loop-slot in
+    record {
+        inside = l.invariant.0;
+        unpassed = none-larger (λ p k. l.invariant.2 p (omega arith));
+    }

@@ -1,0 +1,17 @@
+-- `probe::wrapped` meets its contract.
+use mathlib.Core.Path.{sym}
+use native.Mathlib.Omega.{arith}
+use Rattle.probing.specs.Walls.{wrap_low, wrap_high}
+use Rattle.probe.proofs.wrapped.Goals as goal
+
+pub returns-then-number-slots : goal.returns-then-number-slots
+returns-then-number-slots c = record {
+        at = sym (wrap_low _ _ c.if-number-slots.true);
+        inside = c.if-number-slots.true;
+    }
+
+pub returns : goal.returns
+returns c = record {
+        at = sym (wrap_high _ _ c.if-number-slots.false);
+        inside = omega arith;
+    }

@@ -1,0 +1,7 @@
+-- `writing::put_byte` meets its contract.
+use Rattle.writing.specs.Written.{written_byte}
+use borrow.Author.Rules.{rules}
+use Rattle.writing.proofs.put_byte.Goals as goal
+
+pub returns : goal.returns
+returns c = written_byte _ _ _ c.requires
