@@ -41,7 +41,8 @@ def read(path):
 
 def is_walk(path):
     """Whether this is a function's own proof, whose names are Rattle's or stay in that file."""
-    return os.path.basename(path) in ("Proof.antt", "Answers.antt", "Invariants.antt")
+    own = os.path.basename(path) in ("Proof.antt", "Answers.antt", "Invariants.antt")
+    return own and "/proofs/" in path
 
 
 def spelled(name):

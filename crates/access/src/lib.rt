@@ -10,7 +10,7 @@ ghost use Rattle.layout.specs.Layout.{slot_width, slots_of};
 ghost use Rattle.layout.specs.Layout.{sizes_in_range, params_in_range, shaped, words_length};
 ghost use Rattle.layout.specs.Layout.{scratch_length, key_at, stash_at, tier_at, slot_entry};
 ghost use Rattle.layout.specs.Shape.{Sized, Shaped};
-ghost use Rattle.layout.specs.Answers.{fresh-refusal, fresh-header, fresh-words};
+ghost use Rattle.layout.specs.Answers.{fresh_refusal, fresh_header, fresh_words};
 
 use layout::{HEADER_LENGTH, Header, MAX_PLACES, PLACE_WIDTH, SLOT_WIDTH, Slot};
 use refusals::WRONG_SHAPE;
@@ -68,7 +68,7 @@ pub fn write_header(words: &mut [u32], header: Header)
 
 // The heading of a dictionary that has no keys.
 pub fn fresh_header(r: u32, s: u32, station: u32) -> Header
-    ensures { result ≡ fresh-header r s station }
+    ensures { result ≡ fresh_header r s station }
 {
     Header {
         slots: r,
@@ -198,8 +198,8 @@ pub fn slot_tier(words: &[u32], slot: u32) -> u32
 
 // Lays fresh words: r, s, no keys, the station number and zeros, whatever they were; or 2, and the words stay.
 pub fn fresh(words: &mut [u32], r: u32, s: u32, station: u32) -> u32
-    ensures numbered { result ≡ fresh-refusal (length words.old) r s station }
-    ensures laid { words.new ≡ fresh-words words.old r s station }
+    ensures numbered { result ≡ fresh_refusal (length words.old) r s station }
+    ensures laid { words.new ≡ fresh_words words.old r s station }
 {
     if !is_target(words.len(), r, s, station) {
         return WRONG_SHAPE;

@@ -8,7 +8,7 @@ use Rattle.refusals.specs.Refusal.{other_issue, not_rising, first_refusal}
 use Rattle.hashing.specs.Hash.{tabulation_length, blank}
 use Rattle.layout.specs.Entries.{Entry, max_tier}
 use Rattle.layout.specs.Layout.{Params, one_issue, scratch_length, fits, image}
-use Rattle.layout.specs.Answers.{fresh-refusals}
+use Rattle.layout.specs.Answers.{fresh_refusals}
 use Rattle.outcome.specs.Outcome.{Outcome}
 
 -- "r, s and station are given as when laying", and the tabulation is lent
@@ -52,7 +52,7 @@ rising (c ∷ d ∷ S) = ltb c d && rising (d ∷ S)
 abbrev pub target_refusals : Params → ℕ → ℕ → List (ℕ × Bool)
 target_refusals P n m =
     (wrong_tabulation, not (eqb (length P.tabulation) tabulation_length))
-    ∷ (fresh-refusals n P.slots P.places P.station
+    ∷ (fresh_refusals n P.slots P.places P.station
     ++ ((short_scratch, ltb m (scratch_length P.slots P.places)) ∷ []))
 
 -- "then 5, 9, 14 and 13 (between input cards), each over the whole input",

@@ -167,6 +167,7 @@ of_tier : (L : List Entry) {t : ℕ} → In t (input_tiers (input_of L)) → (e 
 unfolding input_of input_tiers
 of_tier (e ∷ L) (here q) = (e, here refl, sym q)
 of_tier (e ∷ L) (there i) = let r = of_tier L i in (r.0, there r.1, r.2)
+of_tier [] {t = t} x' = elim x' [ ]
 
 pub input_of_sound : (L : List Entry) → ValidSet L → SoundInput (input_of L)
 input_of_sound L valid = record {

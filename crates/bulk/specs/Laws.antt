@@ -21,7 +21,7 @@ use Rattle.layout.specs.Layout.{fits, image, place_words}
 use Rattle.layout.specs.Shape.{ranged}
 use Rattle.layout.specs.Fresh.{target_sizes}
 use Rattle.layout.specs.Fitting.{full_answer, crowded_unfit}
-use Rattle.layout.specs.Answers.{lookup-values, view_of}
+use Rattle.layout.specs.Answers.{lookup_values, view_of}
 use Rattle.layout.specs.Look.{image_view}
 use Rattle.outcome.specs.Demands.{Harmless}
 use Rattle.outcome.specs.Held.{Holds, held_entry}
@@ -192,7 +192,7 @@ module _ (P : Params) (input ws scratch : List ℕ) (e : (bulk_outcome P input w
       }
 
   -- A lookup then finds exactly the keys of the input, each with its tier.
-  pub bulk_lookup : (c t : ℕ) → (lookup-values P.tabulation us c ≡ 1 ∷ t ∷ [])
+  pub bulk_lookup : (c t : ℕ) → (lookup_values P.tabulation us c ≡ 1 ∷ t ∷ [])
       ↔ In (record { key = c; tier = t }) (input_set input)
   bulk_lookup = held_entry bulk_accepted why.0.full_length
 

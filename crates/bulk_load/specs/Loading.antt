@@ -11,7 +11,7 @@ use Rattle.hashing.specs.Hash.{Hashing, tables}
 use Rattle.layout.specs.declared.Header.{Header}
 use Rattle.layout.specs.Entries.{max_tier, tier_of, tiered, tiered_self}
 use Rattle.layout.specs.Layout.{Params, with_keys, fits}
-use Rattle.layout.specs.Answers.{fresh-header}
+use Rattle.layout.specs.Answers.{fresh_header}
 use Rattle.layout.specs.Shape.{Sized, ranged}
 use Rattle.layout.specs.Fitting.{crowded_unfit}
 use Rattle.build.specs.Scratch.{edges_at, used}
@@ -127,7 +127,7 @@ module _ {tabulation input : List ℕ} (ws scratch : List ℕ) {r s station : �
   -- its set stands in scratch, and is committed under the heading of a fresh list with its number of keys
   module _ {n : ℕ} (e : n ≡ length K) (l : n ≤ 2 * r + s) {mid : List ℕ} (same : length mid ≡ length scratch)
       (D : InputLined tabulation r s station input mid) {h : Header}
-      (q : h ≡ with_keys (fresh-header r s station) n) where
+      (q : h ≡ with_keys (fresh_header r s station) n) where
     pub load_committable : Committable h ws mid
     load_committable = rw (q, e) (record {
       sizes = load_sized.0;

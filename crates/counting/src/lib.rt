@@ -4,7 +4,7 @@
 
 ghost use Rattle.std.specs.Prelude.{◌≡◌, length};
 ghost use Rattle.counters.specs.Counters.{counted};
-ghost use Rattle.layout.specs.Answers.{fresh-refusal, fresh-words};
+ghost use Rattle.layout.specs.Answers.{fresh_refusal, fresh_words};
 ghost use Rattle.outcome.specs.Outcome.{change_outcome};
 ghost use Rattle.bulk.specs.Bulk.{params_for, bulk_outcome};
 
@@ -30,8 +30,8 @@ pub fn update(
 
 // Init.
 pub fn init(words: &mut [u32], r: u32, s: u32, station: u32, counters: Counters) -> Counted
-    ensures answered { result.answer ≡ fresh-refusal (length words.old) r s station }
-    ensures laid { words.new ≡ fresh-words words.old r s station }
+    ensures answered { result.answer ≡ fresh_refusal (length words.old) r s station }
+    ensures laid { words.new ≡ fresh_words words.old r s station }
     ensures moved { result.counters ≡ counted counters result.answer }
 {
     let answer = access::fresh(words, r, s, station);

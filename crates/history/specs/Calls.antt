@@ -6,7 +6,7 @@ use Rattle.refusals.specs.Refusal.{done}
 use Rattle.hashing.specs.Hash.{tabulation_length}
 use Rattle.layout.specs.Entries.{Entry}
 use Rattle.layout.specs.Layout.{Params, params_of}
-use Rattle.layout.specs.Answers.{lookup-refusal, lookup-values, view-refusal, view_of, fresh-refusal, fresh-words}
+use Rattle.layout.specs.Answers.{lookup_refusal, lookup_values, view_refusal, view_of, fresh_refusal, fresh_words}
 use Rattle.outcome.specs.declared.Change.{Change}
 use Rattle.counters.specs.declared.Counters.{Counters}
 use Rattle.outcome.specs.Outcome.{change_outcome, check_outcome}
@@ -55,11 +55,11 @@ step t ws (change kind l scratch counters key) =
     let o = change_outcome kind (lent_of t l) ws scratch key in
     record { answer = record { number = o.answer; values = [] }; words = o.words }
 step t ws (lookup l key) =
-    record { answer = record { number = lookup-refusal (lent_of t l) ws key; values = lookup-values (lent_of t l) ws key }; words = ws }
+    record { answer = record { number = lookup_refusal (lent_of t l) ws key; values = lookup_values (lent_of t l) ws key }; words = ws }
 step t ws (check l scratch) =
     let o = check_outcome (lent_of t l) ws scratch in
     record { answer = record { number = o.answer; values = [] }; words = o.words }
-step t ws view = record { answer = record { number = view-refusal ws; values = view_of ws }; words = ws }
+step t ws view = record { answer = record { number = view_refusal ws; values = view_of ws }; words = ws }
 step t ws (other x) = record { answer = x.answer ws; words = x.words ws }
 
 -- "Each call gets all the words that the last one left": the answer of each call, and the words after it
@@ -97,8 +97,8 @@ pub data Allowed (t : List ℕ) : List ℕ → List Call → Type 0 where
 -- that an accepted salvage wrote (document 02, "Eight"), with the r, s and station of the damaged words: they hold the
 -- survivors.
 pub data Start (P : Params) (L : List Entry) (ws : List ℕ) : Type 0 where
-  laid : (before : List ℕ) → fresh-refusal (length before) P.slots P.places P.station ≡ done
-      → L ≡ [] → ws ≡ fresh-words before P.slots P.places P.station → Start P L ws
+  laid : (before : List ℕ) → fresh_refusal (length before) P.slots P.places P.station ≡ done
+      → L ≡ [] → ws ≡ fresh_words before P.slots P.places P.station → Start P L ws
   loaded : (input before scratch : List ℕ) → (bulk_outcome P input before scratch).answer ≡ done
       → L ≡ input_set input → ws ≡ (bulk_outcome P input before scratch).words → Start P L ws
   salvaged : (damaged before scratch : List ℕ) → params_of P.tabulation damaged ≡ P

@@ -14,7 +14,7 @@ use Rattle.layout.specs.Entries.{Entry, keys_of}
 use Rattle.layout.specs.Layout.{Params, another_issue, station_of, scratch_length}
 use Rattle.layout.specs.Image.{image_station}
 use Rattle.layout.specs.Canonical.{image_of_keys}
-use Rattle.layout.specs.Answers.{looked-up}
+use Rattle.layout.specs.Answers.{looked_up}
 use Rattle.layout.specs.Look.{looked_entry, looked_none}
 use Rattle.outcome.specs.declared.Change.TheVariants.{Insert, Remove}
 use Rattle.counters.specs.declared.Counters.{Counters}
@@ -85,7 +85,7 @@ module _ {P : Params} {L₀ : List Entry} {ws : List ℕ} {cs : List Call} (q : 
 
   -- A lookup that is not refused says the tier of a key of the set, and of another that it is not listed.
   pub lookup_says : (l : Lent) (key : ℕ) → (step t W (Call.lookup l key)).answer.number ≡ done
-      → (step t W (Call.lookup l key)).answer.values ≡ looked-up L key
+      → (step t W (Call.lookup l key)).answer.values ≡ looked_up L key
   unfolding step
   lookup_says l key e =
       let f = (history q).final in

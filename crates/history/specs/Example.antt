@@ -18,7 +18,7 @@ use Rattle.hashing.specs.Slots.{slot_0, slot_1}
 use Rattle.layout.specs.Entries.{Entry, keys_of, tier_of}
 use Rattle.layout.specs.Layout.{Params, another_issue, family, sizes_in_range, params_in_range, shaped, stash_of, fits, image, place_words, place_entries, tier_in}
 use Rattle.layout.specs.Layout.{slot_spots}
-use Rattle.layout.specs.Answers.{view-refusal, view_of, fresh-refusal, fresh-words}
+use Rattle.layout.specs.Answers.{view_refusal, view_of, fresh_refusal, fresh_words}
 use Rattle.layout.specs.Fitting.{without_valid, without_fits}
 use Rattle.layout.specs.Look.{image_view}
 use Rattle.layout.specs.Board.{board_tabulation, board_length, board, plain, Shown, Full, shows, full, board_rows}
@@ -141,8 +141,8 @@ words =
     4 ∷ 1 ∷ 3 ∷ 1 ∷ 0 ∷ 0 ∷ 0 ∷ 0 ∷ 10 ∷ 650 ∷ 3 ∷ 0 ∷ 0 ∷ 0 ∷ 0 ∷ 0 ∷ 0 ∷ 650 ∷ 10 ∷ 0 ∷ 0 ∷ 0 ∷ 0 ∷ 0 ∷ 0 ∷ 0 ∷ 0 ∷ 0 ∷ 0 ∷ 1290 ∷ 7 ∷ []
 
 -- Init with station 256 is refused on any words, so it may stand in a sequence.
-init_refused : (ws : List ℕ) → fresh-refusal (length ws) 4 1 256 ≡ done → ⊥
-unfolding fresh-refusal params_in_range sizes_in_range slots_in_range station_in_range
+init_refused : (ws : List ℕ) → fresh_refusal (length ws) 4 1 256 ≡ done → ⊥
+unfolding fresh_refusal params_in_range sizes_in_range slots_in_range station_in_range
 init_refused ws e = omega arith
 
 init_more : {ws : List ℕ} {cs : List Call}
@@ -174,7 +174,7 @@ may_stand =
 
 -- It is a sequence: the list had 31 words, all 7, before it was laid.
 pub sequence : Sequence P [] fresh calls
-unfolding fresh-refusal fresh-words params_in_range sizes_in_range slots_in_range station_in_range
+unfolding fresh_refusal fresh_words params_in_range sizes_in_range slots_in_range station_in_range
 sequence = record { full_length = board_length; start = laid (replicate 31 7) refl refl refl; allowed = may_stand }
 
 -- what the register answers
@@ -200,7 +200,7 @@ K6 =
 
 -- and the words of K5 say its stash.
 stash_K5 : place_words (tier_of set_K5) (stash_of P (keys_of set_K5)) ≡ 1290 ∷ 7 ∷ []
-unfolding view_of view-refusal shaped params_in_range sizes_in_range slots_in_range station_in_range
+unfolding view_of view_refusal shaped params_in_range sizes_in_range slots_in_range station_in_range
 stash_K5 = sym (image_view P set_K5 K5.fit refl) ∙ (rw K5.words_are)
 
 -- The register with set L is fed qs, replies ms, and ends with set M;
@@ -269,7 +269,7 @@ goes : Replies []
     ∷ to 0 [] (one ∷ two ∷ [])
     ∷ map (λ (row : Call × Answer). record { answer = row.1; set = set_K5 }) (drop 2 script))
     set_K5
-unfolding requests words_after step fresh-refusal params_in_range sizes_in_range slots_in_range station_in_range reply with_key below above blank another_issue trail_outcome bulk_outcome bulk_refusal
+unfolding requests words_after step fresh_refusal params_in_range sizes_in_range slots_in_range station_in_range reply with_key below above blank another_issue trail_outcome bulk_outcome bulk_refusal
 goes =
     goes_first
     (goes_fourth
@@ -341,7 +341,7 @@ abbrev pub other_calls : List Call
 other_calls = insert 1290 2 ∷ insert 650 0 ∷ remove 1290 ∷ insert 10 3 ∷ insert 1290 7 ∷ []
 
 pub other_sequence : Sequence P [] fresh other_calls
-unfolding fresh-refusal fresh-words params_in_range sizes_in_range slots_in_range station_in_range
+unfolding fresh_refusal fresh_words params_in_range sizes_in_range slots_in_range station_in_range
 other_sequence = record {
   full_length = board_length;
   start = laid (replicate 31 0) refl refl refl;

@@ -9,7 +9,7 @@ use Rattle.hashing.specs.Hash.{Family}
 use Rattle.hashing.specs.Answer.{hashes_refusal, hashes_values}
 use Rattle.layout.specs.Entries.{Entry}
 use Rattle.layout.specs.Layout.{Params}
-use Rattle.layout.specs.Answers.{fresh-refusal, fresh-words}
+use Rattle.layout.specs.Answers.{fresh_refusal, fresh_words}
 use Rattle.outcome.specs.Held.{Holds}
 use Rattle.outcome.specs.Trail.{trail_outcome}
 use Rattle.outcome.specs.TrailLaws.{trail_words, trail_any_scratch}
@@ -40,14 +40,14 @@ other_like t ws x x' f g = rw (f, g)
 
 -- init, with any r, s and station
 
-pub init_leaves : (ws : List ℕ) (r s station : ℕ) → (fresh-refusal (length ws) r s station ≡ done → ⊥) → fresh-words ws r s station ≡ ws
-unfolding fresh-words
-init_leaves ws r s station n = rw (ne_eqb (fresh-refusal (length ws) r s station) done n)
+pub init_leaves : (ws : List ℕ) (r s station : ℕ) → (fresh_refusal (length ws) r s station ≡ done → ⊥) → fresh_words ws r s station ≡ ws
+unfolding fresh_words
+init_leaves ws r s station n = rw (ne_eqb (fresh_refusal (length ws) r s station) done n)
 
 abbrev pub init : ℕ → ℕ → ℕ → Other
 init r s station = record {
-  answer = λ ws. record { number = fresh-refusal (length ws) r s station; values = [] };
-  words = λ ws. fresh-words ws r s station;
+  answer = λ ws. record { number = fresh_refusal (length ws) r s station; values = [] };
+  words = λ ws. fresh_words ws r s station;
   leaves = λ ws n. init_leaves ws r s station n;
 }
 

@@ -11,7 +11,7 @@ use Rattle.refusals.specs.Refusal.{done, first_refusal}
 use Rattle.hashing.specs.Hash.{tabulation_length, blank}
 use Rattle.layout.specs.Entries.{Entry}
 use Rattle.layout.specs.Layout.{Params}
-use Rattle.layout.specs.Answers.{lookup-refusal, lookup-values, looked-up}
+use Rattle.layout.specs.Answers.{lookup_refusal, lookup_values, looked_up}
 use Rattle.layout.specs.Look.{image_lookup_values, image_view_refusal, image_view}
 use Rattle.outcome.specs.Outcome.{check_outcome}
 use Rattle.outcome.specs.Laws.{check_tabulation, check_words, check_any_scratch}
@@ -27,18 +27,18 @@ module _ {P : Params} {L : List Entry} {ws : List ℕ} (h : Holds P L ws) (full_
   -- lookup: the model's number, and its values
 
   pub lookup_number : (l : Lent) (key : ℕ)
-      → lookup-refusal (lent_of t l) ws key ≡ first_refusal (lookup_tests P l key)
-  unfolding lookup-refusal
+      → lookup_refusal (lent_of t l) ws key ≡ first_refusal (lookup_tests P l key)
+  unfolding lookup_refusal
   lookup_number own key = rw (eq-eqb (length t) tabulation_length full_length, held_shaped h)
   lookup_number (wrong u n) key = rw (ne_eqb (length u) tabulation_length n)
 
   pub lookup_value : (l : Lent) (key : ℕ)
-      → lookup-values (lent_of t l) ws key
-      ≡ cond (eqb (first_refusal (lookup_tests P l key)) done) (looked-up L key) []
-  unfolding lookup-values
+      → lookup_values (lent_of t l) ws key
+      ≡ cond (eqb (first_refusal (lookup_tests P l key)) done) (looked_up L key) []
+  unfolding lookup_values
   lookup_value own key =
       let e = image_lookup_values P L h.is.fit full_length h.range key h.is.valid in
-      ap (λ (ws : List ℕ). lookup-values t ws key) h.is.is ∙ e ∙ (elim (test (blank key)) [
+      ap (λ (ws : List ℕ). lookup_values t ws key) h.is.is ∙ e ∙ (elim (test (blank key)) [
         | inl b ↦ rw (eq-eqb (length t) tabulation_length full_length, b)
         | inr b ↦ rw (eq-eqb (length t) tabulation_length full_length, b)
       ])

@@ -25,66 +25,66 @@ values (Listed tier) = 1 ∷ tier ∷ []
 values Absent = 0 ∷ []
 values (Refused n) = []
 
-abbrev pub lookup-refusals : List ℕ → List ℕ → ℕ → List (ℕ × Bool)
-lookup-refusals tabulation ws key =
+abbrev pub lookup_refusals : List ℕ → List ℕ → ℕ → List (ℕ × Bool)
+lookup_refusals tabulation ws key =
     (wrong_tabulation, not (eqb (length tabulation) tabulation_length))
     ∷ (wrong_shape, not (shaped ws))
     ∷ (blank_key, blank key)
     ∷ []
 
-unfoldable pub lookup-refusal : List ℕ → List ℕ → ℕ → ℕ
-lookup-refusal tabulation ws key = first_refusal (lookup-refusals tabulation ws key)
+unfoldable pub lookup_refusal : List ℕ → List ℕ → ℕ → ℕ
+lookup_refusal tabulation ws key = first_refusal (lookup_refusals tabulation ws key)
 
 -- what a lookup among these entries says: 1 and the tier of the first that has the key, or 0 if none has it
-abbrev pub looked-up : List Entry → ℕ → List ℕ
-looked-up L key = cond (member key (keys_of L)) (1 ∷ tier_of L key ∷ []) (0 ∷ [])
+abbrev pub looked_up : List Entry → ℕ → List ℕ
+looked_up L key = cond (member key (keys_of L)) (1 ∷ tier_of L key ∷ []) (0 ∷ [])
 
 -- "the number stands as a card number in its rack 0 place, its rack 1 place or one of the s drawer" places
-unfoldable pub lookup-values : List ℕ → List ℕ → ℕ → List ℕ
-lookup-values tabulation ws key =
-    cond (eqb (lookup-refusal tabulation ws key) done) (looked-up (looked_at tabulation ws key) key) []
+unfoldable pub lookup_values : List ℕ → List ℕ → ℕ → List ℕ
+lookup_values tabulation ws key =
+    cond (eqb (lookup_refusal tabulation ws key) done) (looked_up (looked_at tabulation ws key) key) []
 
 -- the stash view
 
 -- "The drawer view gives only 2, or 4 when word 3 exceeds s."
-abbrev pub view-refusals : List ℕ → List (ℕ × Bool)
-view-refusals ws = (wrong_shape, not (shaped ws)) ∷ (not_canonical, ltb (places_of ws) (stash_count ws)) ∷ []
+abbrev pub view_refusals : List ℕ → List (ℕ × Bool)
+view_refusals ws = (wrong_shape, not (shaped ws)) ∷ (not_canonical, ltb (places_of ws) (stash_count ws)) ∷ []
 
-unfoldable pub view-refusal : List ℕ → ℕ
-view-refusal ws = first_refusal (view-refusals ws)
+unfoldable pub view_refusal : List ℕ → ℕ
+view_refusal ws = first_refusal (view_refusals ws)
 
 -- "the filled stretch of the drawer as part of the lent list", "both words of each filled place"; "Refused, the stretch is empty"
 unfoldable pub view_of : List ℕ → List ℕ
-view_of ws = cond (eqb (view-refusal ws) done) (take (place_width * stash_count ws) (drop (stash_at (slots_of ws)) ws)) []
+view_of ws = cond (eqb (view_refusal ws) done) (take (place_width * stash_count ws) (drop (stash_at (slots_of ws)) ws)) []
 
 -- fresh words
 
 -- "Laying fresh takes r and s and gives only 2"; the station number "is given when a list is laid"
-abbrev pub fresh-refusals : ℕ → ℕ → ℕ → ℕ → List (ℕ × Bool)
-fresh-refusals len r s station = (wrong_shape, not (params_in_range r s station && eqb len (words_length r s))) ∷ []
+abbrev pub fresh_refusals : ℕ → ℕ → ℕ → ℕ → List (ℕ × Bool)
+fresh_refusals len r s station = (wrong_shape, not (params_in_range r s station && eqb len (words_length r s))) ∷ []
 
-unfoldable pub fresh-refusal : ℕ → ℕ → ℕ → ℕ → ℕ
-fresh-refusal len r s station = first_refusal (fresh-refusals len r s station)
+unfoldable pub fresh_refusal : ℕ → ℕ → ℕ → ℕ → ℕ
+fresh_refusal len r s station = first_refusal (fresh_refusals len r s station)
 
 -- the heading of a dictionary that has no keys
-abbrev pub fresh-header : ℕ → ℕ → ℕ → Header
-fresh-header r s station = record { slots = r; places = s; keys = 0; stashed = 0; station = station }
+abbrev pub fresh_header : ℕ → ℕ → ℕ → Header
+fresh_header r s station = record { slots = r; places = s; keys = 0; stashed = 0; station = station }
 
 -- "accepted it leaves r, s and zeros", the station number "as word 4"; a refusal leaves the words
-unfoldable pub fresh-words : List ℕ → ℕ → ℕ → ℕ → List ℕ
-fresh-words ws r s station =
-    cond (eqb (fresh-refusal (length ws) r s station) done)
-    (header_words (fresh-header r s station) ++ replicate (length ws - header_length) 0) ws
+unfoldable pub fresh_words : List ℕ → ℕ → ℕ → ℕ → List ℕ
+fresh_words ws r s station =
+    cond (eqb (fresh_refusal (length ws) r s station) done)
+    (header_words (fresh_header r s station) ++ replicate (length ws - header_length) 0) ws
 
 -- The laws. Which numbers each call can answer: "It gives 1, 2, 5, or else yes exactly when ..", "gives only 2, or 4 ..", "gives only 2".
-pub lookup-answer-in : (tabulation ws : List ℕ) (key : ℕ) → In (lookup-refusal tabulation ws key) (0 ∷ 1 ∷ 2 ∷ 5 ∷ [])
-unfolding lookup-refusal
-lookup-answer-in tabulation ws key = first_refusal_in (lookup-refusals tabulation ws key)
+pub lookup_answer_in : (tabulation ws : List ℕ) (key : ℕ) → In (lookup_refusal tabulation ws key) (0 ∷ 1 ∷ 2 ∷ 5 ∷ [])
+unfolding lookup_refusal
+lookup_answer_in tabulation ws key = first_refusal_in (lookup_refusals tabulation ws key)
 
-pub view-answer-in : (ws : List ℕ) → In (view-refusal ws) (0 ∷ 2 ∷ 4 ∷ [])
-unfolding view-refusal
-view-answer-in ws = first_refusal_in (view-refusals ws)
+pub view_answer_in : (ws : List ℕ) → In (view_refusal ws) (0 ∷ 2 ∷ 4 ∷ [])
+unfolding view_refusal
+view_answer_in ws = first_refusal_in (view_refusals ws)
 
-pub fresh-answer-in : (len r s station : ℕ) → In (fresh-refusal len r s station) (0 ∷ 2 ∷ [])
-unfolding fresh-refusal
-fresh-answer-in len r s station = first_refusal_in (fresh-refusals len r s station)
+pub fresh_answer_in : (len r s station : ℕ) → In (fresh_refusal len r s station) (0 ∷ 2 ∷ [])
+unfolding fresh_refusal
+fresh_answer_in len r s station = first_refusal_in (fresh_refusals len r s station)

@@ -14,7 +14,7 @@ use Rattle.basics.specs.Sets.{none}
 use Rattle.basics.specs.Lists.{drop_zeros}
 use Rattle.refusals.specs.Refusal.{done}
 use Rattle.layout.specs.Layout.{Params, ValidSet, slot_width, place_width, header_words, header_length, words_length, params_in_range, fits, slot_words, image, fits_by, image_by, slot_words_by}
-use Rattle.layout.specs.Answers.{fresh-refusal, fresh-header, fresh-words}
+use Rattle.layout.specs.Answers.{fresh_refusal, fresh_header, fresh_words}
 use Rattle.layout.specs.Image.{le_fits}
 
 pub empty_valid : ValidSet []
@@ -33,7 +33,7 @@ module _ (P : Params) where
 
   -- r, s, no keys, the station number and zeros
   pub empty_image : image P []
-      ≡ header_words (fresh-header P.slots P.places P.station) ++ replicate (words_length P.slots P.places - header_length) 0
+      ≡ header_words (fresh_header P.slots P.places P.station) ++ replicate (words_length P.slots P.places - header_length) 0
   unfolding image image_by stash
   empty_image =
       let r = P.slots in
@@ -49,27 +49,27 @@ target_sizes len r s station e =
     (p.0, eqb-true len (words_length r s) p.1)
 
 -- an accepted call lays the image of the empty set
-module _ (P : Params) (ws : List ℕ) (accepted : fresh-refusal (length ws) P.slots P.places P.station ≡ done) where
+module _ (P : Params) (ws : List ℕ) (accepted : fresh_refusal (length ws) P.slots P.places P.station ≡ done) where
   pub fresh_sizes : (params_in_range P.slots P.places P.station ≡ true) × (length ws ≡ words_length P.slots P.places)
-  unfolding fresh-refusal
+  unfolding fresh_refusal
   fresh_sizes = elim (test (params_in_range P.slots P.places P.station && eqb (length ws) (words_length P.slots P.places))) [
     | inl e ↦ target_sizes (length ws) P.slots P.places P.station e
     | inr e ↦ absurd (let z : ◌≡◌ {A = ℕ} 2 0 = rw e at accepted in omega arith)
   ]
 
-  pub fresh_image : fresh-words ws P.slots P.places P.station ≡ image P []
-  unfolding fresh-words
+  pub fresh_image : fresh_words ws P.slots P.places P.station ≡ image P []
+  unfolding fresh_words
   fresh_image = rw (accepted, fresh_sizes.1) (sym (empty_image P))
 
 -- the same by the test that decides, for the code of `fresh`
 module _ (ws : List ℕ) (r s station : ℕ) where
   pub fresh_refused : (params_in_range r s station && eqb (length ws) (words_length r s)) ≡ false
-      → (2 ≡ fresh-refusal (length ws) r s station) × (ws ≡ fresh-words ws r s station)
-  unfolding fresh-refusal fresh-words
+      → (2 ≡ fresh_refusal (length ws) r s station) × (ws ≡ fresh_words ws r s station)
+  unfolding fresh_refusal fresh_words
   fresh_refused e = (rw e, rw e)
 
   pub fresh_accepted : (params_in_range r s station && eqb (length ws) (words_length r s)) ≡ true
-      → (0 ≡ fresh-refusal (length ws) r s station)
-      × (header_words (fresh-header r s station) ++ drop header_length (replicate (length ws) 0) ≡ fresh-words ws r s station)
-  unfolding fresh-refusal fresh-words
+      → (0 ≡ fresh_refusal (length ws) r s station)
+      × (header_words (fresh_header r s station) ++ drop header_length (replicate (length ws) 0) ≡ fresh_words ws r s station)
+  unfolding fresh_refusal fresh_words
   fresh_accepted e = (rw e, rw (e, drop_zeros header_length (length ws)))

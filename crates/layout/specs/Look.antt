@@ -15,7 +15,7 @@ use Rattle.hashing.specs.Hash.{Family, tabulation_length, blank}
 use Rattle.hashing.specs.Slots.{slot_0, slot_1}
 use Rattle.layout.specs.Entries.{Entry, keys_of, tier_of, tiered, key_in, tiered_self, tiered_in, in_tiered}
 use Rattle.layout.specs.Layout.{Params, ValidSet, slots_of, places_of, key_at, tier_at, place_at, place_entries, params_in_range, family_of, stash_of, fits, image, place_width, place_words, stash_at, stash_count, looked_at, tier_in}
-use Rattle.layout.specs.Answers.{lookup-refusal, lookup-values, looked-up, view-refusal, view_of}
+use Rattle.layout.specs.Answers.{lookup_refusal, lookup_values, looked_up, view_refusal, view_of}
 use Rattle.layout.specs.Shape.{ranged}
 use Rattle.layout.specs.Image.{fits_le, image_slots, image_places, image_stashed, image_stash, image_shaped, place_words_length}
 use Rattle.layout.specs.Standing.{not_blank, looked_key_word, image_key_in, image_in_looked, tier_in_image}
@@ -23,7 +23,7 @@ use Rattle.layout.specs.Standing.{not_blank, looked_key_word, image_key_in, imag
 -- of n places that begin at word `at`, the first that holds the key counts
 first_place : (n : ℕ) (ws : List ℕ) (at key i : ℕ) → i < n → get_or ws (at + place_width * i) 0 ≡ key
     → ((j : ℕ) → j < i → get_or ws (at + place_width * j) 0 ≡ key → ⊥)
-    → looked-up (place_entries n (drop at ws)) key ≡ 1 ∷ get_or ws (at + place_width * i + 1) 0 ∷ []
+    → looked_up (place_entries n (drop at ws)) key ≡ 1 ∷ get_or ws (at + place_width * i + 1) 0 ∷ []
 unfolding place_entries
 first_place zero ws at key i l q none = absurd (omega arith)
 first_place (suc n) ws at key zero l q none =
@@ -38,7 +38,7 @@ first_place (suc n) ws at key (suc i) l q none =
     (first_place n ws (at + place_width) key i (omega arith) (rw (e i) at q) (λ j m. rw (e j) at (none (suc j) (omega arith))))
 
 -- What is looked up among the entries of a set: the tier of exactly its keys, and of the others that they are not listed.
-pub looked_entry : (L : List Entry) → Asc (keys_of L) → (c t : ℕ) → (looked-up L c ≡ 1 ∷ t ∷ []) ↔ In (record { key = c; tier = t }) L
+pub looked_entry : (L : List Entry) → Asc (keys_of L) → (c t : ℕ) → (looked_up L c ≡ 1 ∷ t ∷ []) ↔ In (record { key = c; tier = t }) L
 looked_entry L asc c t = (
   λ v. elim (test (member c (keys_of L))) [
     | inl m ↦
@@ -52,7 +52,7 @@ looked_entry L asc c t = (
       rw (in_member (key_in L i), q),
 )
 
-pub looked_none : (L : List Entry) (c : ℕ) → (looked-up L c ≡ 0 ∷ []) ↔ (In c (keys_of L) → ⊥)
+pub looked_none : (L : List Entry) (c : ℕ) → (looked_up L c ≡ 0 ∷ []) ↔ (In c (keys_of L) → ⊥)
 looked_none L c = (λ v i. zero_one (cc (rw (in_member i) at v)), λ n. rw (no_member c (keys_of L) n))
 
 -- "should a tampered list show the card more than once, the first in word order counts": on any words, canonical or not, the tier word of its slot in table 0,
@@ -61,20 +61,20 @@ module _ (tabulation ws : List ℕ) (key : ℕ) where
   F = family_of tabulation ws
 
   pub first_in_table_0 : get_or ws (key_at (slot_0 F key)) 0 ≡ key
-      → looked-up (looked_at tabulation ws key) key ≡ 1 ∷ get_or ws (tier_at (slot_0 F key)) 0 ∷ []
+      → looked_up (looked_at tabulation ws key) key ≡ 1 ∷ get_or ws (tier_at (slot_0 F key)) 0 ∷ []
   first_in_table_0 q = rw (eq-eqb key (get_or ws (key_at (slot_0 F key)) 0) (sym q))
 
   module _ (n : get_or ws (key_at (slot_0 F key)) 0 ≡ key → ⊥) where
     -- where the key does not stand there, that of its slot in table 1,
     pub first_in_table_1 : get_or ws (key_at (slot_1 F key)) 0 ≡ key
-        → looked-up (looked_at tabulation ws key) key ≡ 1 ∷ get_or ws (tier_at (slot_1 F key)) 0 ∷ []
+        → looked_up (looked_at tabulation ws key) key ≡ 1 ∷ get_or ws (tier_at (slot_1 F key)) 0 ∷ []
     first_in_table_1 q =
         rw (ne_eqb key (get_or ws (key_at (slot_0 F key)) 0) (λ z. n (sym z)), eq-eqb key (get_or ws (key_at (slot_1 F key)) 0) (sym q))
 
     -- and else that of the first place of the stash in which it stands.
     pub first_in_stash : (get_or ws (key_at (slot_1 F key)) 0 ≡ key → ⊥) → (i : ℕ) → i < places_of ws
         → get_or ws (place_at (slots_of ws) i) 0 ≡ key → ((j : ℕ) → j < i → get_or ws (place_at (slots_of ws) j) 0 ≡ key → ⊥)
-        → looked-up (looked_at tabulation ws key) key ≡ 1 ∷ get_or ws (place_at (slots_of ws) i + 1) 0 ∷ []
+        → looked_up (looked_at tabulation ws key) key ≡ 1 ∷ get_or ws (place_at (slots_of ws) i + 1) 0 ∷ []
     first_in_stash m i l q none =
         rw (ne_eqb key (get_or ws (key_at (slot_0 F key)) 0) (λ z. n (sym z)), ne_eqb key (get_or ws (key_at (slot_1 F key)) 0) (λ z. m (sym z)))
         (first_place (places_of ws) ws (stash_at (slots_of ws)) key i l q none)
@@ -82,7 +82,7 @@ module _ (tabulation ws : List ℕ) (key : ℕ) where
 module _ (P : Params) (L : List Entry) (e : fits P (keys_of L) ≡ true) where
   -- On the image of a set exactly the keys of the set are found, with their tiers.
   pub image_found : ValidSet L → 0 < P.slots → (key : ℕ) → blank key ≡ false
-      → looked-up (looked_at P.tabulation (image P L) key) key ≡ looked-up L key
+      → looked_up (looked_at P.tabulation (image P L) key) key ≡ looked_up L key
   unfolding tier_in
   image_found valid some key b =
       let ws = image P L in
@@ -98,12 +98,12 @@ module _ (P : Params) (L : List Entry) (e : fits P (keys_of L) ≡ true) where
 
   -- What a call of lookup answers on the image of a set: 5 for a blank key, and else 0, with 1 and the tier of a key of the set, and with 0 of another.
   module _ (full_length : length P.tabulation ≡ tabulation_length) (range : params_in_range P.slots P.places P.station ≡ true) (key : ℕ) where
-    image_lookup_refusal : lookup-refusal P.tabulation (image P L) key ≡ cond (blank key) blank_key done
-    unfolding lookup-refusal
+    image_lookup_refusal : lookup_refusal P.tabulation (image P L) key ≡ cond (blank key) blank_key done
+    unfolding lookup_refusal
     image_lookup_refusal = rw (eq-eqb (length P.tabulation) tabulation_length full_length, image_shaped P L range e)
 
-    pub image_lookup_values : ValidSet L → lookup-values P.tabulation (image P L) key ≡ cond (blank key) [] (looked-up L key)
-    unfolding lookup-values
+    pub image_lookup_values : ValidSet L → lookup_values P.tabulation (image P L) key ≡ cond (blank key) [] (looked_up L key)
+    unfolding lookup_values
     image_lookup_values valid = elim (test (blank key)) [
       | inl b ↦ rw (image_lookup_refusal, b)
       | inr b ↦ rw (image_lookup_refusal, b, image_found valid (ranged P.slots P.places P.station range).0.has_slots key b)
@@ -114,8 +114,8 @@ module _ (P : Params) (L : List Entry) (e : fits P (keys_of L) ≡ true) where
     abbrev S : List ℕ
     S = keys_of L
 
-    pub image_view_refusal : view-refusal (image P L) ≡ done
-    unfolding view-refusal
+    pub image_view_refusal : view_refusal (image P L) ≡ done
+    unfolding view_refusal
     image_view_refusal =
         rw (
           image_shaped P L range e,
@@ -129,7 +129,7 @@ module _ (P : Params) (L : List Entry) (e : fits P (keys_of L) ≡ true) where
     image_view =
         let ws = image P L in
         let e : view_of ws ≡ take (place_width * stash_count ws) (drop (stash_at (slots_of ws)) ws) =
-        ap (λ (t : Bool). cond t (take (place_width * stash_count ws) (drop (stash_at (slots_of ws)) ws)) []) (eq-eqb (view-refusal ws) done image_view_refusal) in
+        ap (λ (t : Bool). cond t (take (place_width * stash_count ws) (drop (stash_at (slots_of ws)) ws)) []) (eq-eqb (view_refusal ws) done image_view_refusal) in
         e
         ∙ (rw (image_slots P L, image_stashed P L, image_stash P L)
         (take_at (place_words (tier_of L) (stash_of P S)) _ (place_width * length (stash_of P S)) (place_words_length (tier_of L) (stash_of P S))))

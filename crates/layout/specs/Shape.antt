@@ -6,7 +6,7 @@ use Rattle.basics.specs.Tests.{and_true}
 use Rattle.refusals.specs.Refusal.{none, and, front_none}
 use Rattle.hashing.specs.Hash.{Family, tables, slots_in_range, station_in_range, max_slots, max_station, in_range_pos, in_range_max, range_in, station_max, station_in}
 use Rattle.layout.specs.Layout.{family_of, header_length, slots_of, places_of, stash_count, station_of, max_places, sizes_in_range, params_in_range, shaped, words_length}
-use Rattle.layout.specs.Answers.{view-refusals, view-refusal}
+use Rattle.layout.specs.Answers.{view_refusals, view_refusal}
 use Rattle.layout.specs.declared.Header.{Header}
 
 -- r and s are in their ranges
@@ -84,7 +84,7 @@ pub record Viewed (ws : List ℕ) : Type 0 where
   pub shape : Shaped ws
   pub filled : stash_count ws ≤ places_of ws
 
-pub viewed : (ws : List ℕ) → view-refusal ws ≡ 0 → Viewed ws
-unfolding view-refusal
+pub viewed : (ws : List ℕ) → view_refusal ws ≡ 0 → Viewed ws
+unfolding view_refusal
 viewed ws e =
-    elim (front_none (view-refusals ws) [] e refl) [ and a (and b none) ↦ record { shape = shape ws (not-false _ a); filled = ltb-false _ _ b } ]
+    elim (front_none (view_refusals ws) [] e refl) [ and a (and b none) ↦ record { shape = shape ws (not-false _ a); filled = ltb-false _ _ b } ]

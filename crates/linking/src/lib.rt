@@ -57,7 +57,7 @@ fn reroot_graph(scratch: &mut [u32], r: u32, s: u32, n: usize, slot: u32, carry:
 }
 
 // What is found of a rank: its two slots, `first` and `second`, and the representatives of their sets, `one` and `two`.
-#[derive(Drop)]
+#[derive(Clone, Copy)]
 struct Ends {
     first: u32,
     second: u32,

@@ -9,7 +9,7 @@ ghost use Rattle.hashing.specs.Hash.{tabulation_length};
 ghost use Rattle.layout.specs.Entries.{tier_of};
 ghost use Rattle.layout.specs.Layout.{slots_of, key_at, slot_entry, stash_entries, looked_at};
 ghost use Rattle.layout.specs.Shape.{Shaped};
-ghost use Rattle.layout.specs.Answers.{number, values, lookup-refusal, lookup-values, looked-up, view-refusal, view_of};
+ghost use Rattle.layout.specs.Answers.{number, values, lookup_refusal, lookup_values, looked_up, view_refusal, view_of};
 ghost use Rattle.lookup.specs.Found.{own_slots};
 
 use access::{is_shaped, key_in, read_header, slot_tier, stash_start};
@@ -31,7 +31,7 @@ fn in_slot(words: &[u32], slot: u32, key: u32) -> bool
 fn in_slots(tabulation: &[u16], words: &[u32], key: u32) -> Found
     requires { (length tabulation.now ≡ tabulation_length) × Shaped words.now }
     ensures numbered { number result ≡ done }
-    ensures valued { values result ≡ looked-up (own_slots tabulation.now words.now key) key }
+    ensures valued { values result ≡ looked_up (own_slots tabulation.now words.now key) key }
 {
     let header = read_header(words);
     let first = slots::first_slot(tabulation, header.slots, header.station, key);
@@ -49,7 +49,7 @@ fn in_slots(tabulation: &[u16], words: &[u32], key: u32) -> Found
 fn in_stash(words: &[u32], key: u32) -> Found
     requires { Shaped words.now }
     ensures numbered { number result ≡ done }
-    ensures valued { values result ≡ looked-up (stash_entries words.now) key }
+    ensures valued { values result ≡ looked_up (stash_entries words.now) key }
 {
     let header = read_header(words);
     let start = stash_start(header.slots);
@@ -97,8 +97,8 @@ pub fn tier_at(words: &[u32], first: u32, second: u32, key: u32) -> u32
 
 // The tier of the key, or that it is not there, on any words of the right shape; or 1, 2 or 5.
 pub fn lookup(tabulation: &[u16], words: &[u32], key: u32) -> Found
-    ensures numbered { number result ≡ lookup-refusal tabulation.now words.now key }
-    ensures valued { values result ≡ lookup-values tabulation.now words.now key }
+    ensures numbered { number result ≡ lookup_refusal tabulation.now words.now key }
+    ensures valued { values result ≡ lookup_values tabulation.now words.now key }
 {
     if tabulation.len() != TABULATION_LENGTH {
         return Found::Refused(WRONG_TABULATION);
@@ -121,7 +121,7 @@ pub fn lookup(tabulation: &[u16], words: &[u32], key: u32) -> Found
 fn found_within(tabulation: &[u16], words: &[u32], key: u32) -> Found
     requires { (length tabulation.now ≡ tabulation_length) × Shaped words.now }
     ensures numbered { number result ≡ done }
-    ensures valued { values result ≡ looked-up (looked_at tabulation.now words.now key) key }
+    ensures valued { values result ≡ looked_up (looked_at tabulation.now words.now key) key }
 {
     let header = read_header(words);
     let one = slots::first_slot(tabulation, header.slots, header.station, key);
@@ -137,8 +137,8 @@ fn found_within(tabulation: &[u16], words: &[u32], key: u32) -> Found
 // What `lookup` answers, by a search of its own, for calls that look a key up on the way to something else. So the
 // library calls `lookup` once, for the exported lookup, and the compiler puts it in the place of that call.
 pub fn lookup_within(tabulation: &[u16], words: &[u32], key: u32) -> Found
-    ensures numbered { number result ≡ lookup-refusal tabulation.now words.now key }
-    ensures valued { values result ≡ lookup-values tabulation.now words.now key }
+    ensures numbered { number result ≡ lookup_refusal tabulation.now words.now key }
+    ensures valued { values result ≡ lookup_values tabulation.now words.now key }
 {
     if tabulation.len() != TABULATION_LENGTH {
         return Found::Refused(WRONG_TABULATION);
@@ -154,7 +154,7 @@ pub fn lookup_within(tabulation: &[u16], words: &[u32], key: u32) -> Found
 
 // The number that goes with the stash view: 0, 2 or 4.
 pub fn stash_refusal(words: &[u32]) -> u32
-    ensures { result ≡ view-refusal words.now }
+    ensures { result ≡ view_refusal words.now }
 {
     if !is_shaped(words) {
         return WRONG_SHAPE;

@@ -8,7 +8,7 @@ use Rattle.refusals.specs.Refusal.{done}
 use Rattle.layout.specs.Entries.{Entry}
 use Rattle.layout.specs.Layout.{params_of, set_in}
 use Rattle.layout.specs.Canonical.{ImageOf, canonical_true}
-use Rattle.layout.specs.Answers.{lookup-values, fresh-refusal, fresh-words, fresh-answer-in}
+use Rattle.layout.specs.Answers.{lookup_values, fresh_refusal, fresh_words, fresh_answer_in}
 use Rattle.outcome.specs.declared.Change.{Change}
 use Rattle.outcome.specs.Outcome.{Outcome, changed, change_outcome, check_outcome}
 use Rattle.outcome.specs.Laws.{change_answers, check_answers, change_answer_in, check_answer_in, change_passed, change_refused, change_scratch, check_words, check_scratch}
@@ -29,7 +29,7 @@ pub record Renewed (tabulation ws : List ℕ) (L : List Entry) (us : List ℕ) :
   -- the old set, of which L is the change, is the one whose image the words were
   pub was : ImageOf (params_of tabulation ws) (set_in tabulation ws) ws
   pub image : ImageOf (params_of tabulation ws) L us
-  pub looked : (c t : ℕ) → (lookup-values tabulation us c ≡ 1 ∷ t ∷ []) ↔ In (record { key = c; tier = t }) L
+  pub looked : (c t : ℕ) → (lookup_values tabulation us c ≡ 1 ∷ t ∷ []) ↔ In (record { key = c; tier = t }) L
 
 -- The laws: every call is harmless, and an accepted change renews the words.
 pub change_harmless : (kind : Change) (tabulation ws scratch : List ℕ) (key : ℕ)
@@ -49,11 +49,11 @@ check_harmless tabulation ws scratch = record {
 
 -- init borrows no scratch; as an outcome with an empty one
 pub init_harmless : (ws : List ℕ) (r s station : ℕ)
-    → Harmless (0 ∷ 2 ∷ []) ws [] (record { answer = fresh-refusal (length ws) r s station; words = fresh-words ws r s station; scratch = [] })
-unfolding fresh-words
+    → Harmless (0 ∷ 2 ∷ []) ws [] (record { answer = fresh_refusal (length ws) r s station; words = fresh_words ws r s station; scratch = [] })
+unfolding fresh_words
 init_harmless ws r s station = record {
-  numbered = fresh-answer-in (length ws) r s station;
-  unchanged = λ n. rw (ne_eqb (fresh-refusal (length ws) r s station) done n);
+  numbered = fresh_answer_in (length ws) r s station;
+  unchanged = λ n. rw (ne_eqb (fresh_refusal (length ws) r s station) done n);
   cleared = refl;
 }
 

@@ -12,7 +12,7 @@ use Rattle.basics.specs.Sets.{Asc, without, member, member_in, in_member, out_in
 use Rattle.cuckoo.specs.Placement.{Placement}
 use Rattle.ordered.specs.Keys.{with_key}
 use Rattle.ordered.specs.Place.{with_cases, with_here, with_there, asc_with, with_same, without_with, length_with}
-use Rattle.refusals.specs.Refusal.{done, short_scratch, blank_key, key_present, key_absent, stash_full, wrong_tier, other_tier, other_issue, first_refusal, none, and, front_none, last_turned}
+use Rattle.refusals.specs.Refusal.{done, short_scratch, blank_key, key_present, key_absent, stash_full, wrong_tier, other_tier, other_issue, first_refusal, None, none, and, front_none, last_turned}
 use Rattle.hashing.specs.Hash.{tabulation_length, first_part, blank}
 use Rattle.hashing.specs.Issues.{not_blank_iff}
 use Rattle.hashing.specs.Slots.{slot_0, slot_1}
@@ -23,7 +23,7 @@ use Rattle.layout.specs.Image.{image_shaped}
 use Rattle.layout.specs.Issues.{no_other, listed_alone, one_issue_part, one_issue_with}
 use Rattle.layout.specs.Reissued.{reissued_fits, instead_reissues, instead_is}
 use Rattle.layout.specs.Canonical.{canonical, ImageOf, canonical_true, image_canonical, image_of_params, image_of_set}
-use Rattle.layout.specs.Answers.{lookup-values, looked-up}
+use Rattle.layout.specs.Answers.{lookup_values, looked_up}
 use Rattle.layout.specs.Look.{looked_entry, image_lookup_values}
 use Rattle.layout.specs.Fitting.{without_valid, without_fits, fits_placement, full_answer, crowded_unfit}
 use Rattle.outcome.specs.declared.Change.{Change}
@@ -157,23 +157,32 @@ one_too_many P key {S} some valid b m l =
     crowded_unfit P (with_valid key b valid).asc some
     (omega (arith, length_with key S valid.asc (λ i. true≢false (sym (in_member i) ∙ m))))
 
+-- each of five refusals, or of six, of which none applies
+none_five : {p q r s t : ℕ × Bool} → None (p ∷ q ∷ r ∷ s ∷ t ∷ [])
+    → (p.1 ≡ false) × (q.1 ≡ false) × (r.1 ≡ false) × (s.1 ≡ false) × (t.1 ≡ false)
+none_five (and b (and c (and d (and e (and f none))))) = (b, c, d, e, f)
+
+none_six : {p q r s t u : ℕ × Bool} → None (p ∷ q ∷ r ∷ s ∷ t ∷ u ∷ [])
+    → (p.1 ≡ false) × (q.1 ≡ false) × (r.1 ≡ false) × (s.1 ≡ false) × (t.1 ≡ false) × (u.1 ≡ false)
+none_six (and b (and c (and d (and e (and f (and g none)))))) = (b, c, d, e, f, g)
+
 -- what is known where no refusal of the set is given, or 8
 module _ (P : Params) (key : ℕ) (L : List Entry) where
   insert_tried : (tier : ℕ) {n : ℕ} → first_refusal ((blank_key, blank key) ∷ set_refusals (Insert tier) P key L) ≡ n → (n ≡ done) ⊎ (n ≡ stash_full)
       → (blank key ≡ false) × (tier ≤ max_tier) × (another_issue key (keys_of L) ≡ false) × (member key (keys_of L) ≡ false)
   insert_tried tier e d =
-      elim (front_none
+      let tried = none_five (front_none
       ((blank_key, blank key) ∷ (wrong_tier, ltb max_tier tier) ∷ (other_issue, another_issue key (keys_of L))
       ∷ (other_tier, member key (keys_of L) && not (eqb (tier_of L key) tier)) ∷ (key_present, member key (keys_of L)) ∷ [])
       ((stash_full, not (fits P (with_key key (keys_of L)))) ∷ []) e
-      (elim d [ inl z ↦ rw z | inr z ↦ rw z ])) [ and b (and t (and i (and o (and m none)))) ↦ (b, ltb-false max_tier tier t, i, m) ]
+      (elim d [ inl z ↦ rw z | inr z ↦ rw z ])) in
+      (tried.0, ltb-false max_tier tier tried.1, tried.2, tried.4)
 
   insert_accepts : (tier : ℕ) → first_refusal ((blank_key, blank key) ∷ set_refusals (Insert tier) P key L) ≡ done
       → (blank key ≡ false) × (tier ≤ max_tier) × (another_issue key (keys_of L) ≡ false) × (fits P (with_key key (keys_of L)) ≡ true)
   insert_accepts tier e =
-      elim (front_none ((blank_key, blank key) ∷ set_refusals (Insert tier) P key L) [] e refl) [
-        | and b (and t (and i (and o (and m (and f none))))) ↦ (b, ltb-false max_tier tier t, i, not-false _ f)
-      ]
+      let tried = none_six (front_none ((blank_key, blank key) ∷ set_refusals (Insert tier) P key L) [] e refl) in
+      (tried.0, ltb-false max_tier tier tried.1, tried.2, not-false _ tried.5)
 
   remove_accepts : first_refusal ((blank_key, blank key) ∷ set_refusals Remove P key L) ≡ done
       → (blank key ≡ false) × (member key (keys_of L) ≡ true)
@@ -308,12 +317,12 @@ held_changed {P} {L} {ws} h kind scratch key e = rw (held_params h, held_set_in 
 
 -- On words that hold L a lookup with the same tabulation says what L says, but for a blank key, which is refused: so it finds exactly the entries of L.
 pub held_lookup : {P : Params} {L : List Entry} {ws : List ℕ} → Holds P L ws → length P.tabulation ≡ tabulation_length → (c : ℕ)
-    → lookup-values P.tabulation ws c ≡ cond (blank c) [] (looked-up L c)
+    → lookup_values P.tabulation ws c ≡ cond (blank c) [] (looked_up L c)
 held_lookup {P} {L} {ws} h full_length c =
-    ap (λ (us : List ℕ). lookup-values P.tabulation us c) h.is.is ∙ image_lookup_values P L h.is.fit full_length h.range c h.is.valid
+    ap (λ (us : List ℕ). lookup_values P.tabulation us c) h.is.is ∙ image_lookup_values P L h.is.fit full_length h.range c h.is.valid
 
 pub held_entry : {P : Params} {L : List Entry} {ws : List ℕ} → Holds P L ws → length P.tabulation ≡ tabulation_length → (c t : ℕ)
-    → (lookup-values P.tabulation ws c ≡ 1 ∷ t ∷ []) ↔ In (record { key = c; tier = t }) L
+    → (lookup_values P.tabulation ws c ≡ 1 ∷ t ∷ []) ↔ In (record { key = c; tier = t }) L
 held_entry {P} {L} {ws} h full_length c t =
     let e = held_lookup h full_length c in
     let found = looked_entry L h.is.valid.keys.asc c t in (
@@ -327,7 +336,7 @@ held_entry {P} {L} {ws} h full_length c t =
 -- Demand 2, "On such a list, with the same book, a look-up says yes exactly for the cards in the set.", with their
 -- tiers: after an accepted insert or remove, for the new set.
 pub change_lookup : (kind : Change) (tabulation ws scratch : List ℕ) (key : ℕ) → (change_outcome kind tabulation ws scratch key).answer ≡ done → (c t : ℕ)
-    → (lookup-values tabulation (change_outcome kind tabulation ws scratch key).words c ≡ 1 ∷ t ∷ [])
+    → (lookup_values tabulation (change_outcome kind tabulation ws scratch key).words c ≡ 1 ∷ t ∷ [])
     ↔ In (record { key = c; tier = t }) (changed kind key (set_in tabulation ws))
 change_lookup kind tabulation ws scratch key e c t =
     held_entry (change_accepted kind tabulation ws scratch key e) (change_passed tabulation ws scratch kind key (inl e)).0.full_length c t

@@ -6,7 +6,7 @@ use Rattle.basics.specs.Sets.{member}
 use Rattle.refusals.specs.Refusal.{done, not_canonical, key_absent, wrong_price, first_refusal}
 use Rattle.layout.specs.Entries.{max_tier, keys_of}
 use Rattle.layout.specs.Layout.{looked_at, tier_in}
-use Rattle.layout.specs.Answers.{lookup-refusals}
+use Rattle.layout.specs.Answers.{lookup_refusals}
 use Rattle.outcome.specs.declared.Sale.{Sale}
 use Rattle.outcome.specs.declared.Opened.{Opened}
 use Rattle.outcome.specs.declared.Opened.TheVariants.{Open, Refused}
@@ -61,7 +61,7 @@ found_refusals tabulation ws key base steps =
     ∷ []
 
 abbrev pub sale_refusals : List ℕ → List ℕ → ℕ → ℕ → List ℤ → List (ℕ × Bool)
-sale_refusals tabulation ws key base steps = lookup-refusals tabulation ws key ++ found_refusals tabulation ws key base steps
+sale_refusals tabulation ws key base steps = lookup_refusals tabulation ws key ++ found_refusals tabulation ws key base steps
 
 unfoldable pub sale_refusal : List ℕ → List ℕ → ℕ → ℕ → List ℤ → ℕ
 sale_refusal tabulation ws key base steps = first_refusal (sale_refusals tabulation ws key base steps)

@@ -14,7 +14,7 @@ use Rattle.refusals.specs.Refusal.{done, not_canonical, blank_key, key_absent, w
 use Rattle.hashing.specs.Hash.{tabulation_length, blank}
 use Rattle.layout.specs.Entries.{Entry, max_tier, keys_of, tier_of}
 use Rattle.layout.specs.Layout.{Params, looked_at, tier_in}
-use Rattle.layout.specs.Answers.{lookup-refusals, lookup-refusal, lookup-values, looked-up}
+use Rattle.layout.specs.Answers.{lookup_refusals, lookup_refusal, lookup_values, looked_up}
 use Rattle.layout.specs.Look.{looked_entry, image_found}
 use Rattle.outcome.specs.declared.Sale.{Sale}
 use Rattle.outcome.specs.Held.{Holds, held_some, held_shaped, tier_of_bound}
@@ -37,16 +37,16 @@ unfolding closed
 closed_price s = refl
 
 -- What a lookup among entries says of them: it finds the key, and its tier, or it does not.
-looked_listed : (L : List Entry) (key tier : ℕ) → looked-up L key ≡ 1 ∷ tier ∷ [] → (member key (keys_of L) ≡ true) × (tier_of L key ≡ tier)
+looked_listed : (L : List Entry) (key tier : ℕ) → looked_up L key ≡ 1 ∷ tier ∷ [] → (member key (keys_of L) ≡ true) × (tier_of L key ≡ tier)
 looked_listed L key tier e = elim (test (member key (keys_of L))) [
   | inl m ↦ (m, cc (rw m at e))
   | inr m ↦ absurd (zero_one (cc (rw m at e)))
 ]
 
-looked_absent : (L : List Entry) (key : ℕ) → looked-up L key ≡ 0 ∷ [] → member key (keys_of L) ≡ false
+looked_absent : (L : List Entry) (key : ℕ) → looked_up L key ≡ 0 ∷ [] → member key (keys_of L) ≡ false
 looked_absent L key e = elim (test (member key (keys_of L))) [ inl m ↦ absurd (zero_one (sym (cc (rw m at e)))) | inr m ↦ m ]
 
-looked_some : (L : List Entry) (key : ℕ) → looked-up L key ≡ [] → ⊥
+looked_some : (L : List Entry) (key : ℕ) → looked_up L key ≡ [] → ⊥
 looked_some L key e = elim (test (member key (keys_of L))) [
   | inl m ↦ omega (arith, ap length (rw m at e))
   | inr m ↦ omega (arith, ap length (rw m at e))
@@ -54,18 +54,18 @@ looked_some L key e = elim (test (member key (keys_of L))) [
 
 module _ (tabulation ws : List ℕ) (key : ℕ) where
   -- A lookup that says something was not refused, and the entries that it looks at say it;
-  told : {v : ℕ} {vs : List ℕ} → lookup-values tabulation ws key ≡ v ∷ vs
-      → (lookup-refusal tabulation ws key ≡ done) × (looked-up (looked_at tabulation ws key) key ≡ v ∷ vs)
-  unfolding lookup-values
-  told e = elim (eq? (lookup-refusal tabulation ws key) done) [
-    | inl q ↦ (q, rw (eq-eqb (lookup-refusal tabulation ws key) done q) at e)
-    | inr n ↦ absurd (omega (arith, ap length (rw (ne_eqb (lookup-refusal tabulation ws key) done n) at e)))
+  told : {v : ℕ} {vs : List ℕ} → lookup_values tabulation ws key ≡ v ∷ vs
+      → (lookup_refusal tabulation ws key ≡ done) × (looked_up (looked_at tabulation ws key) key ≡ v ∷ vs)
+  unfolding lookup_values
+  told e = elim (eq? (lookup_refusal tabulation ws key) done) [
+    | inl q ↦ (q, rw (eq-eqb (lookup_refusal tabulation ws key) done q) at e)
+    | inr n ↦ absurd (omega (arith, ap length (rw (ne_eqb (lookup_refusal tabulation ws key) done n) at e)))
   ]
 
   -- one that says nothing was.
-  pub untold : lookup-values tabulation ws key ≡ [] → lookup-refusal tabulation ws key ≡ done → ⊥
-  unfolding lookup-values
-  untold e q = looked_some (looked_at tabulation ws key) key (rw (eq-eqb (lookup-refusal tabulation ws key) done q) at e)
+  pub untold : lookup_values tabulation ws key ≡ [] → lookup_refusal tabulation ws key ≡ done → ⊥
+  unfolding lookup_values
+  untold e q = looked_some (looked_at tabulation ws key) key (rw (eq-eqb (lookup_refusal tabulation ws key) done q) at e)
 
 module _ (tabulation ws : List ℕ) (key base : ℕ) (steps : List ℤ) where
   -- Refused, there is no value, and a lent record stays;
@@ -82,22 +82,22 @@ module _ (tabulation ws : List ℕ) (key base : ℕ) (steps : List ℤ) where
   sale_done e = let t = eq-eqb (sale_refusal tabulation ws key base steps) done e in (rw t, λ old. rw t)
 
   -- "Opening checks as look-up does": what a lookup is refused with, the opening is refused with,
-  pub sale_as_lookup : (lookup-refusal tabulation ws key ≡ done → ⊥) → sale_refusal tabulation ws key base steps ≡ lookup-refusal tabulation ws key
-  unfolding sale_refusal lookup-refusal
-  sale_as_lookup n = front_applies (lookup-refusals tabulation ws key) (found_refusals tabulation ws key base steps) n
+  pub sale_as_lookup : (lookup_refusal tabulation ws key ≡ done → ⊥) → sale_refusal tabulation ws key base steps ≡ lookup_refusal tabulation ws key
+  unfolding sale_refusal lookup_refusal
+  sale_as_lookup n = front_applies (lookup_refusals tabulation ws key) (found_refusals tabulation ws key base steps) n
 
-  looked : lookup-refusal tabulation ws key ≡ done → sale_refusal tabulation ws key base steps ≡ first_refusal (found_refusals tabulation ws key base steps)
-  unfolding sale_refusal lookup-refusal
+  looked : lookup_refusal tabulation ws key ≡ done → sale_refusal tabulation ws key base steps ≡ first_refusal (found_refusals tabulation ws key base steps)
+  unfolding sale_refusal lookup_refusal
   looked e =
-      front_passes (lookup-refusals tabulation ws key) (found_refusals tabulation ws key base steps)
-      (front_none (lookup-refusals tabulation ws key) [] e refl)
+      front_passes (lookup_refusals tabulation ws key) (found_refusals tabulation ws key base steps)
+      (front_none (lookup_refusals tabulation ws key) [] e refl)
 
   -- then, by what look-up says: 7 where it says that the key is not listed,
-  pub sale_absent : lookup-values tabulation ws key ≡ 0 ∷ [] → sale_refusal tabulation ws key base steps ≡ key_absent
+  pub sale_absent : lookup_values tabulation ws key ≡ 0 ∷ [] → sale_refusal tabulation ws key base steps ≡ key_absent
   sale_absent e = let l = told tabulation ws key e in looked l.0 ∙ (rw (looked_absent (looked_at tabulation ws key) key l.1))
 
   -- and else 4, "if the tier found is above 7", and 12.
-  pub sale_listed : (tier : ℕ) → lookup-values tabulation ws key ≡ 1 ∷ tier ∷ []
+  pub sale_listed : (tier : ℕ) → lookup_values tabulation ws key ≡ 1 ∷ tier ∷ []
       → (sale_refusal tabulation ws key base steps
       ≡ first_refusal ((not_canonical, ltb max_tier tier) ∷ (wrong_price, unpriced base steps tier) ∷ []))
       × (tier_in tabulation ws key ≡ tier)
@@ -209,8 +209,8 @@ module _ (tabulation ws : List ℕ) (key base : ℕ) (steps : List ℤ) (e : sal
   abbrev tier : ℕ
   tier = tier_in tabulation ws key
 
-  looked_done : lookup-refusal tabulation ws key ≡ done
-  looked_done = elim (eq? (lookup-refusal tabulation ws key) done) [
+  looked_done : lookup_refusal tabulation ws key ≡ done
+  looked_done = elim (eq? (lookup_refusal tabulation ws key) done) [
     | inl q ↦ q
     | inr n ↦ absurd (n (sym (sale_as_lookup tabulation ws key base steps n) ∙ e))
   ]
@@ -219,9 +219,9 @@ module _ (tabulation ws : List ℕ) (key base : ℕ) (steps : List ℤ) (e : sal
   passed = three (front_none (found_refusals tabulation ws key base steps) [] (sym (looked tabulation ws key base steps looked_done) ∙ e) refl)
 
   -- A sale is opened where the key is listed, at a tier up to 7, and all is fair.
-  pub opened_listed : lookup-values tabulation ws key ≡ 1 ∷ tier ∷ []
-  unfolding lookup-values tier_in
-  opened_listed = rw (eq-eqb (lookup-refusal tabulation ws key) done looked_done, not-false (member key (keys_of (looked_at tabulation ws key))) passed.0)
+  pub opened_listed : lookup_values tabulation ws key ≡ 1 ∷ tier ∷ []
+  unfolding lookup_values tier_in
+  opened_listed = rw (eq-eqb (lookup_refusal tabulation ws key) done looked_done, not-false (member key (keys_of (looked_at tabulation ws key))) passed.0)
 
   pub opened_fair : Fair base steps tier
   opened_fair = (fair_iff base steps tier).0 passed.1.1
@@ -253,7 +253,7 @@ module _ (tabulation ws : List ℕ) (key base : ℕ) (steps : List ℤ) (e : sal
 module _ {P : Params} {L : List Entry} {ws : List ℕ} (h : Holds P L ws) (full_length : length P.tabulation ≡ tabulation_length)
     (key base : ℕ) (steps : List ℤ) where
   -- what is found there is the set's
-  found : blank key ≡ false → looked-up (looked_at P.tabulation ws key) key ≡ looked-up L key
+  found : blank key ≡ false → looked_up (looked_at P.tabulation ws key) key ≡ looked_up L key
   found b = rw h.is.is (image_found P L h.is.fit h.is.valid (held_some h) key b)
 
   -- 1, 2 and 4 never apply, and the rest with L as "the set".

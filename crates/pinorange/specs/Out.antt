@@ -8,29 +8,29 @@ use mathlib.Core.List.{List, []}
 use Rattle.std.proofs.Math.ListN.{get_or}
 use Rattle.refusals.specs.Refusal.{done}
 use Rattle.layout.specs.Layout.{slots_of, stash_count, stash_at, place_width}
-use Rattle.layout.specs.Answers.{lookup-values, view-refusal, view_of}
+use Rattle.layout.specs.Answers.{lookup_values, view_refusal, view_of}
 use Rattle.outcome.specs.declared.Traced.{Traced}
 use Rattle.outcome.specs.Trail.{number, values, TrailOutcome, trail_outcome}
 use Rattle.survivors.specs.declared.Salvaged.{Salvaged}
 use Rattle.survivors.specs.Salvage.{SalvageOutcome, salvage_outcome}
 use Rattle.survivors.specs.Salvage as Salvage
 use Rattle.stolen.specs.declared.Reported.{Reported}
-use Rattle.stolen.specs.Answers.{stolen-lookup-refusal, stolen-lookup-values}
+use Rattle.stolen.specs.Answers.{stolen_lookup_refusal, stolen_lookup_values}
 use Rattle.stolen.specs.Answers as Stolen
 
 -- the values of a lookup, 1 and the tier or 0, each in its place; where there is none, what stood there before
 unfoldable pub listed_out : List ℕ → List ℕ → ℕ → ℕ → ℕ
-listed_out tabulation ws key old = get_or (lookup-values tabulation ws key) 0 old
+listed_out tabulation ws key old = get_or (lookup_values tabulation ws key) 0 old
 
 unfoldable pub tier_out : List ℕ → List ℕ → ℕ → ℕ → ℕ
-tier_out tabulation ws key old = get_or (lookup-values tabulation ws key) 1 old
+tier_out tabulation ws key old = get_or (lookup_values tabulation ws key) 1 old
 
 -- where the view begins and how many words it has; 0 and 0 when it is refused
 unfoldable pub offset_out : List ℕ → ℕ
-offset_out ws = cond (eqb (view-refusal ws) done) (stash_at (slots_of ws)) 0
+offset_out ws = cond (eqb (view_refusal ws) done) (stash_at (slots_of ws)) 0
 
 unfoldable pub length_out : List ℕ → ℕ
-length_out ws = cond (eqb (view-refusal ws) done) (place_width * stash_count ws) 0
+length_out ws = cond (eqb (view_refusal ws) done) (place_width * stash_count ws) 0
 
 -- how many keys a trail has; refused, what stood there before
 unfoldable pub count_out : List ℕ → List ℕ → List ℕ → ℕ → List ℕ → ℕ → ℕ
@@ -42,12 +42,12 @@ lost_out tabulation ws target scratch old = get_or (salvage_outcome tabulation w
 
 -- whether a key is reported stolen; refused, what stood there before
 unfoldable pub reported_out : List ℕ → List ℕ → ℕ → ℕ → ℕ → ℕ
-reported_out tabulation ws station key old = get_or (stolen-lookup-values tabulation ws station key) 0 old
+reported_out tabulation ws station key old = get_or (stolen_lookup_values tabulation ws station key) 0 old
 
 -- The laws: offset and length name the very words that the view is
 pub stretch : (ws : List ℕ) → take (length_out ws) (drop (offset_out ws) ws) ≡ view_of ws
 unfolding offset_out length_out view_of
-stretch ws = go (eqb (view-refusal ws) done)
+stretch ws = go (eqb (view_refusal ws) done)
   where
     go : (t : Bool) → take (cond t (place_width * stash_count ws) 0) (drop (cond t (stash_at (slots_of ws)) 0) ws)
         ≡ cond t (take (place_width * stash_count ws) (drop (stash_at (slots_of ws)) ws)) []
@@ -55,7 +55,7 @@ stretch ws = go (eqb (view-refusal ws) done)
     go false = refl
 
 -- what the values of an answer say of the out-parameters
-module _ (tabulation ws : List ℕ) (key old : ℕ) {vs : List ℕ} (e : vs ≡ lookup-values tabulation ws key) where
+module _ (tabulation ws : List ℕ) (key old : ℕ) {vs : List ℕ} (e : vs ≡ lookup_values tabulation ws key) where
   pub listed_value : get_or vs 0 old ≡ listed_out tabulation ws key old
   unfolding listed_out
   listed_value = ap (λ (l : List ℕ). get_or l 0 old) e
@@ -102,9 +102,9 @@ handed_salvage tabulation ws target scratch old q e = (
 
 -- what is handed on of a lookup's answer f, which was found to be g
 pub handed_reported : (tabulation ws : List ℕ) (station key old : ℕ) {f g : Reported} → f ≡ g
-    → (Stolen.number f ≡ stolen-lookup-refusal tabulation ws station key)
-    × (Stolen.values f ≡ stolen-lookup-values tabulation ws station key)
-    → (Stolen.number g ≡ stolen-lookup-refusal tabulation ws station key)
+    → (Stolen.number f ≡ stolen_lookup_refusal tabulation ws station key)
+    × (Stolen.values f ≡ stolen_lookup_values tabulation ws station key)
+    → (Stolen.number g ≡ stolen_lookup_refusal tabulation ws station key)
     × (get_or (Stolen.values g) 0 old ≡ reported_out tabulation ws station key old)
 unfolding reported_out
 handed_reported tabulation ws station key old q e =

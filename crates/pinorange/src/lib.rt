@@ -6,7 +6,7 @@
 ghost use Rattle.std.specs.Prelude.{◌≡◌, length};
 ghost use Rattle.hashing.specs.Hash.{tables};
 ghost use Rattle.hashing.specs.Answer.{hashes_refusal, written};
-ghost use Rattle.layout.specs.Answers.{lookup-refusal, view-refusal, fresh-refusal, fresh-words};
+ghost use Rattle.layout.specs.Answers.{lookup_refusal, view_refusal, fresh_refusal, fresh_words};
 ghost use Rattle.outcome.specs.Outcome.{change_outcome, check_outcome};
 ghost use Rattle.bulk.specs.Bulk.{params_for, bulk_outcome};
 ghost use Rattle.outcome.specs.Trail.{trail_outcome};
@@ -14,8 +14,8 @@ ghost use Rattle.outcome.specs.Sale.{sale_refusal, sale_left, closed};
 ghost use Rattle.counters.specs.Counters.{counted};
 ghost use Rattle.pinorange.specs.House.{house_answer, housed};
 ghost use Rattle.survivors.specs.Salvage.{salvage_outcome};
-ghost use Rattle.stolen.specs.Answers.{stolen-init-refusal, stolen-init-words, stolen-lookup-refusal};
-ghost use Rattle.stolen.specs.Answers.{stolen-insert-refusal, stolen-insert-words};
+ghost use Rattle.stolen.specs.Answers.{stolen_init_refusal, stolen_init_words, stolen_lookup_refusal};
+ghost use Rattle.stolen.specs.Answers.{stolen_insert_refusal, stolen_insert_words};
 ghost use Rattle.pinorange.specs.Out.{listed_out, tier_out, offset_out, length_out, count_out, lost_out};
 ghost use Rattle.pinorange.specs.Out.{reported_out};
 
@@ -38,7 +38,7 @@ pub extern "C" fn pinorange_lookup(
     listed: &mut u32,
     tier: &mut u32,
 ) -> u32
-    ensures numbered { result ≡ lookup-refusal tabulation.now words.now key }
+    ensures numbered { result ≡ lookup_refusal tabulation.now words.now key }
     ensures told { listed.new ≡ listed_out tabulation.now words.now key
         listed.old }
     ensures priced { tier.new ≡ tier_out tabulation.now words.now key
@@ -63,7 +63,7 @@ pub extern "C" fn pinorange_lookup(
 // Refused, both are 0: an empty stretch. (`len`, since a parameter `length` would hide the list's in the contract.)
 #[unsafe(no_mangle)]
 pub extern "C" fn pinorange_stash(words: &[u32], offset: &mut u32, len: &mut u32) -> u32
-    ensures numbered { result ≡ view-refusal words.now }
+    ensures numbered { result ≡ view_refusal words.now }
     ensures placed { offset.new ≡ offset_out words.now }
     ensures measured { len.new ≡ length_out words.now }
 {
@@ -89,8 +89,8 @@ pub extern "C" fn pinorange_init(
     station: u32,
     counters: &mut Counters,
 ) -> u32
-    ensures answered { result ≡ fresh-refusal (length words.old) r s station }
-    ensures laid { words.new ≡ fresh-words words.old r s station }
+    ensures answered { result ≡ fresh_refusal (length words.old) r s station }
+    ensures laid { words.new ≡ fresh_words words.old r s station }
     ensures moved { counters.new ≡ counted counters.old result }
 {
     let old = *counters;
@@ -265,8 +265,8 @@ pub extern "C" fn pinorange_close_sale(sale: &Sale) -> u32
 // Lays an empty list of stolen keys: zeros.
 #[unsafe(no_mangle)]
 pub extern "C" fn pinorange_stolen_init(words: &mut [u32]) -> u32
-    ensures numbered { result ≡ stolen-init-refusal words.old }
-    ensures laid { words.new ≡ stolen-init-words words.old }
+    ensures numbered { result ≡ stolen_init_refusal words.old }
+    ensures laid { words.new ≡ stolen_init_words words.old }
 {
     stolen_table::init(words)
 }
@@ -280,9 +280,9 @@ pub extern "C" fn pinorange_stolen_insert(
     key: u32,
 ) -> u32
     ensures numbered { result
-        ≡ stolen-insert-refusal tabulation.now words.old station key }
+        ≡ stolen_insert_refusal tabulation.now words.old station key }
     ensures laid { words.new
-        ≡ stolen-insert-words tabulation.now words.old station key }
+        ≡ stolen_insert_words tabulation.now words.old station key }
 {
     stolen_table::insert(tabulation, words, station, key)
 }
@@ -297,7 +297,7 @@ pub extern "C" fn pinorange_stolen_lookup(
     reported: &mut u32,
 ) -> u32
     ensures numbered { result
-        ≡ stolen-lookup-refusal tabulation.now words.now station key }
+        ≡ stolen_lookup_refusal tabulation.now words.now station key }
     ensures told { reported.new ≡ reported_out tabulation.now words.now station key
         reported.old }
 {

@@ -13,7 +13,7 @@ use Rattle.basics.specs.Sets.{member, in_member, no_member}
 use Rattle.basics.specs.Parts.{to_end}
 use Rattle.layout.specs.Entries.{Entry, keys_of}
 use Rattle.layout.specs.Layout.{place_width, place_entries}
-use Rattle.layout.specs.Answers.{looked-up}
+use Rattle.layout.specs.Answers.{looked_up}
 
 -- a word is among two stretches: found already, or in what is left of either
 regroup : (f a b x y : Bool) → (f || ((a || x) || (b || y))) ≡ (((f || a) || b) || (x || y))
@@ -42,7 +42,7 @@ module _ (places : List ℕ) (count key : ℕ) where
   -- a key that is no word of either half is in no place
   pub not_among : place_width * count ≤ length places
       → (member key (take count places) || member key (take (length places - count) (drop count places))) ≡ false
-      → 0 ∷ [] ≡ looked-up (place_entries count places) key
+      → 0 ∷ [] ≡ looked_up (place_entries count places) key
   not_among l t =
       let e = rw (to_end count places) at t in
       let out : In key (keys_of (place_entries count places)) → ⊥ = λ i.
@@ -60,10 +60,10 @@ module _ (places : List ℕ) (count key : ℕ) where
   abbrev pub from_place : ℕ → List Entry
   from_place i = place_entries (count - i) (drop (place_width * i) places)
 
-  pub all_places : looked-up (place_entries count places) key ≡ looked-up (from_place 0) key
+  pub all_places : looked_up (place_entries count places) key ≡ looked_up (from_place 0) key
   all_places = let e : count - 0 ≡ count = omega arith in rw e
 
-  pub no_place : 0 ∷ [] ≡ looked-up (from_place count) key
+  pub no_place : 0 ∷ [] ≡ looked_up (from_place count) key
   unfolding place_entries
   no_place = let e : count - count ≡ 0 = omega arith in rw e
 
@@ -78,8 +78,8 @@ module _ (places : List ℕ) (count key : ℕ) where
         rw (e, get_or-drop (place_width * i) places 0 0, get_or-drop (place_width * i) places 1 0, drop-drop place_width (place_width * i) places, f, g)
 
     -- it is in the first of them, or in a later one
-    pub place_here : key ≡ get_or places (place_width * i) 0 → 1 ∷ get_or places (place_width * i + 1) 0 ∷ [] ≡ looked-up (from_place i) key
+    pub place_here : key ≡ get_or places (place_width * i) 0 → 1 ∷ get_or places (place_width * i + 1) 0 ∷ [] ≡ looked_up (from_place i) key
     place_here q = rw (place_first, eq-eqb key (get_or places (place_width * i) 0) q)
 
-    pub place_later : (key ≡ get_or places (place_width * i) 0 → ⊥) → looked-up (from_place i) key ≡ looked-up (from_place (suc i)) key
+    pub place_later : (key ≡ get_or places (place_width * i) 0 → ⊥) → looked_up (from_place i) key ≡ looked_up (from_place (suc i)) key
     place_later n = rw (place_first, ne_eqb key (get_or places (place_width * i) 0) n)

@@ -7,7 +7,7 @@ ghost use Rattle.std.specs.Prelude.{◌≡◌, ◌||◌, ◌*◌, ◌≤◌, len
 ghost use Rattle.basics.specs.Sets.{member};
 ghost use Rattle.refusals.specs.Refusal.{done};
 ghost use Rattle.layout.specs.Layout.{place_width, max_places, place_entries};
-ghost use Rattle.layout.specs.Answers.{number, values, looked-up};
+ghost use Rattle.layout.specs.Answers.{number, values, looked_up};
 
 use layout::{Found, PLACE_WIDTH};
 
@@ -30,7 +30,7 @@ fn among(front: &[u32], back: &[u32], word: u32) -> bool
 pub fn find_place(places: &[u32], count: usize, key: u32) -> Found
     requires { (length places.now ≡ place_width * count) × (count ≤ max_places) }
     ensures numbered { number result ≡ done }
-    ensures valued { values result ≡ looked-up (place_entries count places.now) key }
+    ensures valued { values result ≡ looked_up (place_entries count places.now) key }
 {
     if !among(&places[..count], &places[count..], key) {
         return Found::Absent;

@@ -12,7 +12,7 @@ use Rattle.std.proofs.lemmas.Int.{to_z-of_z}
 use Rattle.basics.specs.Tests.{test, and_true}
 use Rattle.refusals.specs.Refusal.{done, not_canonical, key_absent, wrong_price, first_refusal}
 use Rattle.layout.specs.Entries.{max_tier}
-use Rattle.layout.specs.Answers.{lookup-refusal, lookup-values}
+use Rattle.layout.specs.Answers.{lookup_refusal, lookup_values}
 use Rattle.layout.specs.declared.Found.{Found}
 use Rattle.layout.specs.declared.Found.TheVariants.{Listed, Absent, Refused}
 use Rattle.outcome.specs.Sale.{record_values, base_in_range, step_in_range, all_in_range, litre_price, unpriced}
@@ -163,17 +163,17 @@ module _ (tabulation ws : List ℕ) (key base : ℕ) (steps : List ℤ) where
   refusal_answers : {n : ℕ} → (n ≡ done → ⊥) → sale_refusal tabulation ws key base steps ≡ n → Answers n []
   refusal_answers n e = (sym e, sym (sale_refused tabulation ws key base steps (λ d. n (sym e ∙ d))).0)
 
-  pub refused_answers : {n : ℕ} → n ≡ lookup-refusal tabulation ws key → [] ≡ lookup-values tabulation ws key → Answers n []
+  pub refused_answers : {n : ℕ} → n ≡ lookup_refusal tabulation ws key → [] ≡ lookup_values tabulation ws key → Answers n []
   refused_answers e v =
       let n = untold tabulation ws key (sym v) in
       refusal_answers (λ d. n (sym e ∙ d)) (sale_as_lookup tabulation ws key base steps n ∙ sym e)
 
   -- 7,
-  pub absent_answers : 0 ∷ [] ≡ lookup-values tabulation ws key → Answers key_absent []
+  pub absent_answers : 0 ∷ [] ≡ lookup_values tabulation ws key → Answers key_absent []
   absent_answers v = refusal_answers (λ d. omega arith) (sale_absent tabulation ws key base steps (sym v))
 
   -- or what the tier decides.
-  pub listed_answers : {tier n : ℕ} {vs : List ℕ} → 1 ∷ tier ∷ [] ≡ lookup-values tabulation ws key
+  pub listed_answers : {tier n : ℕ} {vs : List ℕ} → 1 ∷ tier ∷ [] ≡ lookup_values tabulation ws key
       → n ≡ tier_refusal tier base steps → vs ≡ tier_values key tier base steps → Answers n vs
   unfolding tier_refusal tier_values sale_values sale_of
   listed_answers {tier} v e f =

@@ -10,8 +10,8 @@ use Rattle.refusals.specs.Refusal.{first_refusal}
 use Rattle.hashing.specs.Hash.{tabulation_length, max_station, station_in_range, blank, Family, tables}
 use Rattle.hashing.specs.Slots.{slot_0}
 use Rattle.probing.specs.Rule.{look}
-use Rattle.stolen.specs.Answers.{stolen-image, says, stolen-lookup-refusal, stolen-lookup-values}
-use Rattle.stolen.specs.Answers.{stolen-insert-refusal, stolen-insert-words}
+use Rattle.stolen.specs.Answers.{stolen_image, says, stolen_lookup_refusal, stolen_lookup_values}
+use Rattle.stolen.specs.Answers.{stolen_insert_refusal, stolen_insert_words}
 
 -- A call with its arguments, the words aside. Each may lend any book, of any length, and name any station.
 pub data StolenCall : Type 0 where
@@ -27,13 +27,13 @@ pub record StolenStep : Type 0 where
 -- by the very definitions that the contracts cite
 unfoldable pub stolen_step : List ℕ → StolenCall → StolenStep
 stolen_step ws (insert tabulation station key) = record {
-  number = stolen-insert-refusal tabulation ws station key;
+  number = stolen_insert_refusal tabulation ws station key;
   values = [];
-  words = stolen-insert-words tabulation ws station key;
+  words = stolen_insert_words tabulation ws station key;
 }
 stolen_step ws (lookup tabulation station key) = record {
-  number = stolen-lookup-refusal tabulation ws station key;
-  values = stolen-lookup-values tabulation ws station key;
+  number = stolen_lookup_refusal tabulation ws station key;
+  values = stolen_lookup_values tabulation ws station key;
   words = ws;
 }
 
@@ -79,7 +79,7 @@ module _ (R : Register) (tabulation : List ℕ) (station : ℕ) where
   register_insert_tests key =
       (wrong_tabulation, not (eqb (length tabulation) tabulation_length))
       ∷ (wrong_shape, not (station_in_range station))
-      ∷ (not_canonical, not (same (stolen-image R.family R.keys) (stolen-image named R.keys)))
+      ∷ (not_canonical, not (same (stolen_image R.family R.keys) (stolen_image named R.keys)))
       ∷ (blank_key, blank key)
       ∷ (key_present, member key R.keys)
       ∷ (table_full, eqb (length R.keys) R.family.slots)
@@ -90,7 +90,7 @@ module _ (R : Register) (tabulation : List ℕ) (station : ℕ) where
   abbrev pub hears : ℕ → Bool
   hears key =
       cond names_own (member key R.keys)
-      (look (slot_0 named) R.family.slots (stolen-image R.family R.keys) key)
+      (look (slot_0 named) R.family.slots (stolen_image R.family R.keys) key)
 
 -- a refusal changes nothing; an accepted key is in the set, under the call's book and station
 unfoldable pub stolen_reply : Register → StolenCall → StolenReply

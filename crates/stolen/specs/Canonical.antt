@@ -21,14 +21,14 @@ use Rattle.probing.specs.Walls.{Barrier}
 use Rattle.probing.specs.Image.{KeySet, image_arranged, arranged_image, look_arranged, room, add_arranged, empty_room}
 use Rattle.probing.specs.Canonical.{canonical_image, image_canonical, table_keys_asc, table_keys_length}
 use Rattle.probing.specs.Canonical.{table_keys_contained, arranged_keys}
-use Rattle.stolen.specs.Answers.{stolen-image, stolen-canonical}
+use Rattle.stolen.specs.Answers.{stolen_image, stolen_canonical}
 
 -- the words are the image of the set S in a list of this family
 pub record StolenImage (F : Family) (S ws : List ℕ) : Type 0 where
   pub ascending : Asc S
   pub keys : (c : ℕ) → In c S → blank c ≡ false
   pub fits : length S ≤ F.slots
-  pub is : ws ≡ stolen-image F S
+  pub is : ws ≡ stolen_image F S
 
 -- a key that is not blank is 10 or more
 pub not_blank : (c : ℕ) → blank c ≡ false → 10 ≤ c
@@ -68,48 +68,48 @@ module _ (F : Family) (some : 0 < F.slots) (ws : List ℕ) where
   -- The key is put in by displacement: "the image of the old set with the card".
   pub inserted : {S : List ℕ} → StolenImage F S ws → (key : ℕ) → blank key ≡ false → member key S ≡ false
       → length S < F.slots
-      → add (slot_0 F) F.slots ws key ≡ stolen-image F (with_key key S)
+      → add (slot_0 F) F.slots ws key ≡ stolen_image F (with_key key S)
   inserted {S} v key b n l =
       let w = image_arranged_by v in
       let e = room w l in
       let out : In key S → ⊥ = λ i. true≢false (sym (in_member i) ∙ n) in
       arranged_image starts (asc_with key v.ascending) (add_arranged starts e.0 w (omega (arith, not_blank key b)) out e.1.0 e.1.1)
 
-  true_canonical : StolenImage F (table_keys ws) ws → stolen-canonical F ws ≡ true
-  unfolding stolen-canonical
+  true_canonical : StolenImage F (table_keys ws) ws → stolen_canonical F ws ≡ true
+  unfolding stolen_canonical
   true_canonical v =
-      rw (false_any blank (table_keys ws) v.keys, true_same ws (stolen-image F (table_keys ws)) v.is)
+      rw (false_any blank (table_keys ws) v.keys, true_same ws (stolen_image F (table_keys ws)) v.is)
 
-  pub image_of_canonical : {S : List ℕ} → StolenImage F S ws → (S ≡ table_keys ws) × (stolen-canonical F ws ≡ true)
+  pub image_of_canonical : {S : List ℕ} → StolenImage F S ws → (S ≡ table_keys ws) × (stolen_canonical F ws ≡ true)
   image_of_canonical {S} v =
       let e = sym (image_keys v) in
       let w : StolenImage F (table_keys ws) ws = rw e at v in
       (e, true_canonical w)
 
   module _ (long : length ws ≡ F.slots) where
-    pub canonical_true : stolen-canonical F ws ≡ true → StolenImage F (table_keys ws) ws
-    unfolding stolen-canonical
+    pub canonical_true : stolen_canonical F ws ≡ true → StolenImage F (table_keys ws) ws
+    unfolding stolen_canonical
     canonical_true e =
-        let r = and_true (not (any blank (table_keys ws))) (same ws (stolen-image F (table_keys ws))) e in
+        let r = and_true (not (any blank (table_keys ws))) (same ws (stolen_image F (table_keys ws))) e in
         record {
           ascending = table_keys_asc ws;
           keys = any_false blank (table_keys ws) (not-true _ r.0);
           fits = omega (arith, table_keys_length ws);
-          is = same_true ws (stolen-image F (table_keys ws)) r.1;
+          is = same_true ws (stolen_image F (table_keys ws)) r.1;
         }
 
     -- The words pass exactly if they are the image of a set; so 4 is that they are the image of none.
-    pub stolen_canonical_iff : (stolen-canonical F ws ≡ true) ↔ ((S : List ℕ) × StolenImage F S ws)
+    pub stolen_canonical_iff : (stolen_canonical F ws ≡ true) ↔ ((S : List ℕ) × StolenImage F S ws)
     stolen_canonical_iff = (λ e. (table_keys ws, canonical_true e), λ v. (image_of_canonical v.1).1)
 
-    pub stolen_not_canonical_iff : (stolen-canonical F ws ≡ false) ↔ ((S : List ℕ) → StolenImage F S ws → ⊥)
+    pub stolen_not_canonical_iff : (stolen_canonical F ws ≡ false) ↔ ((S : List ℕ) → StolenImage F S ws → ⊥)
     stolen_not_canonical_iff = (
       λ e S v. true≢false (sym (image_of_canonical v).1 ∙ e),
-      λ n. elim (test (stolen-canonical F ws)) [ inl e ↦ absurd (n (table_keys ws) (canonical_true e)) | inr e ↦ e ],
+      λ n. elim (test (stolen_canonical F ws)) [ inl e ↦ absurd (n (table_keys ws) (canonical_true e)) | inr e ↦ e ],
     )
 
     -- So they are exactly if no key that stands is blank, and on each one's way to its slot stand smaller keys alone.
-    pub stolen_ordered_iff : (stolen-canonical F ws ≡ true)
+    pub stolen_ordered_iff : (stolen_canonical F ws ≡ true)
         ↔ (((p : ℕ) → 0 < get_or ws p 0 → blank (get_or ws p 0) ≡ false) × Ordered (slot_0 F) F.slots ws)
     stolen_ordered_iff =
         let k = table_keys_contained ws in (
@@ -128,9 +128,9 @@ module _ (F : Family) (some : 0 < F.slots) (ws : List ℕ) where
 
     -- It is decided in one round over the slots, behind a slot that no key passes.
     pub canonical_settled : (b : ℕ) → b < F.slots → Barrier F.slots ws b
-        → stolen-canonical F ws ≡ all_settled F.slots ws b (slot_0 F) 10 F.slots 0
+        → stolen_canonical F ws ≡ all_settled F.slots ws b (slot_0 F) 10 F.slots 0
     canonical_settled b inside wall =
-        bool_ext (stolen-canonical F ws) (all_settled F.slots ws b (slot_0 F) 10 F.slots 0)
+        bool_ext (stolen_canonical F ws) (all_settled F.slots ws b (slot_0 F) 10 F.slots 0)
         (λ e.
         let v = canonical_true e in
         image_canonical (slot_0 F) F.slots 10 ws b inside wall starts (omega arith) (key_set v) v.fits v.is)

@@ -16,12 +16,12 @@ use Rattle.hashing.specs.Hash.{tabulation_length, slots_in_range, station_in_ran
 use Rattle.hashing.specs.Slots.{slot_0}
 use Rattle.probing.specs.Rule.{table_image, placed, look, table_keys}
 use Rattle.probing.specs.Canonical.{look_stands}
-use Rattle.stolen.specs.Answers.{stolen-family, says, stolen-init-refusal, stolen-init-words}
-use Rattle.stolen.specs.Answers.{stolen-lookup-refusal, stolen-lookup-refusals, stolen-lookup-values}
-use Rattle.stolen.specs.Answers.{lookup_refused, lookup-accepted}
-use Rattle.stolen.specs.Answers.{stolen-insert-refusal, stolen-insert-refusals, stolen-insert-words}
-use Rattle.stolen.specs.Answers.{insert-accepted}
-use Rattle.stolen.specs.Answers.{stolen-canonical}
+use Rattle.stolen.specs.Answers.{stolen_family, says, stolen_init_refusal, stolen_init_words}
+use Rattle.stolen.specs.Answers.{stolen_lookup_refusal, stolen_lookup_refusals, stolen_lookup_values}
+use Rattle.stolen.specs.Answers.{lookup_refused, lookup_accepted}
+use Rattle.stolen.specs.Answers.{stolen_insert_refusal, stolen_insert_refusals, stolen_insert_words}
+use Rattle.stolen.specs.Answers.{insert_accepted}
+use Rattle.stolen.specs.Answers.{stolen_canonical}
 use Rattle.stolen.specs.Canonical.{StolenImage, not_blank, image_length, image_keys, image_of_canonical}
 use Rattle.stolen.specs.Canonical.{canonical_true, look_listed, room_left}
 
@@ -31,45 +31,45 @@ unfolding table_image placed
 zeros_image F = record { ascending = none; keys = λ c i. elim i [ ]; fits = omega arith; is = refl }
 
 -- so an accepted init leaves it, whatever the words were; and a refused one leaves them
-pub init_image : (tabulation ws : List ℕ) (station : ℕ) → stolen-init-refusal ws ≡ done
-    → StolenImage (stolen-family tabulation ws station) [] (stolen-init-words ws)
-unfolding stolen-init-words
+pub init_image : (tabulation ws : List ℕ) (station : ℕ) → stolen_init_refusal ws ≡ done
+    → StolenImage (stolen_family tabulation ws station) [] (stolen_init_words ws)
+unfolding stolen_init_words
 init_image tabulation ws station e =
-    rw (eq-eqb (stolen-init-refusal ws) done e) (zeros_image (stolen-family tabulation ws station))
+    rw (eq-eqb (stolen_init_refusal ws) done e) (zeros_image (stolen_family tabulation ws station))
 
 module _ (tabulation ws : List ℕ) (station key : ℕ) where
   -- what is known where a call is not refused
-  pub lookup_passes : stolen-lookup-refusal tabulation ws station key ≡ done
-      → None (stolen-lookup-refusals tabulation ws station key)
-  unfolding stolen-lookup-refusal
-  lookup_passes e = front_none (stolen-lookup-refusals tabulation ws station key) [] e refl
+  pub lookup_passes : stolen_lookup_refusal tabulation ws station key ≡ done
+      → None (stolen_lookup_refusals tabulation ws station key)
+  unfolding stolen_lookup_refusal
+  lookup_passes e = front_none (stolen_lookup_refusals tabulation ws station key) [] e refl
 
-  pub insert_passes : stolen-insert-refusal tabulation ws station key ≡ done
-      → None (stolen-insert-refusals tabulation ws station key)
-  unfolding stolen-insert-refusal
-  insert_passes e = front_none (stolen-insert-refusals tabulation ws station key) [] e refl
+  pub insert_passes : stolen_insert_refusal tabulation ws station key ≡ done
+      → None (stolen_insert_refusals tabulation ws station key)
+  unfolding stolen_insert_refusal
+  insert_passes e = front_none (stolen_insert_refusals tabulation ws station key) [] e refl
 
   slots_there : not (slots_in_range (length ws) && station_in_range station) ≡ false → 0 < length ws
   slots_there e =
       in_range_pos (length ws) (and_true (slots_in_range (length ws)) (station_in_range station) (not-false _ e)).0
 
   -- "on a canonical list it is yes exactly for the set"
-  pub stolen_lookup_image : {S : List ℕ} → StolenImage (stolen-family tabulation ws station) S ws
-      → stolen-lookup-refusal tabulation ws station key ≡ done
-      → stolen-lookup-values tabulation ws station key ≡ says (member key S)
+  pub stolen_lookup_image : {S : List ℕ} → StolenImage (stolen_family tabulation ws station) S ws
+      → stolen_lookup_refusal tabulation ws station key ≡ done
+      → stolen_lookup_values tabulation ws station key ≡ says (member key S)
   stolen_lookup_image {S} v e = go (lookup_passes e)
     where
-      go : None (stolen-lookup-refusals tabulation ws station key)
-          → stolen-lookup-values tabulation ws station key ≡ says (member key S)
+      go : None (stolen_lookup_refusals tabulation ws station key)
+          → stolen_lookup_values tabulation ws station key ≡ says (member key S)
       go (and a (and b (and c none))) =
-          lookup-accepted tabulation ws station key e
-          ∙ ap says (look_listed (stolen-family tabulation ws station) (slots_there b) ws v key c)
+          lookup_accepted tabulation ws station key e
+          ∙ ap says (look_listed (stolen_family tabulation ws station) (slots_there b) ws v key c)
 
   -- On any words, under any book and station, a yes is given for a key alone that stands in the words.
-  pub yes_stands : stolen-lookup-values tabulation ws station key ≡ 1 ∷ [] → In key (table_keys ws)
+  pub yes_stands : stolen_lookup_values tabulation ws station key ≡ 1 ∷ [] → In key (table_keys ws)
   yes_stands e =
-      elim (eq? (stolen-lookup-refusal tabulation ws station key) done) [
-        | inl d ↦ go (lookup_passes d) (sym (lookup-accepted tabulation ws station key d) ∙ e)
+      elim (eq? (stolen_lookup_refusal tabulation ws station key) done) [
+        | inl d ↦ go (lookup_passes d) (sym (lookup_accepted tabulation ws station key d) ∙ e)
         | inr n ↦ absurd (nothing (sym (lookup_refused tabulation ws station key n) ∙ e))
       ]
     where
@@ -80,34 +80,34 @@ module _ (tabulation ws : List ℕ) (station key : ℕ) where
       told true q = refl
       told false q = absurd (omega (arith, ap (λ (l : List ℕ). get_or l 0 0) q))
 
-      go : None (stolen-lookup-refusals tabulation ws station key)
-          → says (look (slot_0 (stolen-family tabulation ws station)) (length ws) ws key) ≡ 1 ∷ []
+      go : None (stolen_lookup_refusals tabulation ws station key)
+          → says (look (slot_0 (stolen_family tabulation ws station)) (length ws) ws key) ≡ 1 ∷ []
           → In key (table_keys ws)
       go (and a (and b (and c none))) q =
-          look_stands (slot_0 (stolen-family tabulation ws station)) (length ws) ws key (omega arith)
+          look_stands (slot_0 (stolen_family tabulation ws station)) (length ws) ws key (omega arith)
           (omega (arith, not_blank key c)) (told _ q)
 
   -- An accepted insert was made on the image of the keys that stand in the words,
-  pub accepted_image : stolen-insert-refusal tabulation ws station key ≡ done
-      → StolenImage (stolen-family tabulation ws station) (table_keys ws) ws
+  pub accepted_image : stolen_insert_refusal tabulation ws station key ≡ done
+      → StolenImage (stolen_family tabulation ws station) (table_keys ws) ws
   accepted_image e = go (insert_passes e)
     where
-      go : None (stolen-insert-refusals tabulation ws station key)
-          → StolenImage (stolen-family tabulation ws station) (table_keys ws) ws
+      go : None (stolen_insert_refusals tabulation ws station key)
+          → StolenImage (stolen_family tabulation ws station) (table_keys ws) ws
       go (and a (and b (and c (and d (and m (and f none)))))) =
-          canonical_true (stolen-family tabulation ws station) (slots_there b) ws refl (not-false _ c)
+          canonical_true (stolen_family tabulation ws station) (slots_there b) ws refl (not-false _ c)
 
   -- and "leaves the image of the old set with the card".
-  pub stolen_insert_image : stolen-insert-refusal tabulation ws station key ≡ done
-      → StolenImage (stolen-family tabulation ws station) (with_key key (table_keys ws))
-      (stolen-insert-words tabulation ws station key)
+  pub stolen_insert_image : stolen_insert_refusal tabulation ws station key ≡ done
+      → StolenImage (stolen_family tabulation ws station) (with_key key (table_keys ws))
+      (stolen_insert_words tabulation ws station key)
   stolen_insert_image e = go (insert_passes e)
     where
       F : Family
-      F = stolen-family tabulation ws station
+      F = stolen_family tabulation ws station
 
-      go : None (stolen-insert-refusals tabulation ws station key)
-          → StolenImage F (with_key key (table_keys ws)) (stolen-insert-words tabulation ws station key)
+      go : None (stolen_insert_refusals tabulation ws station key)
+          → StolenImage F (with_key key (table_keys ws)) (stolen_insert_words tabulation ws station key)
       go (and a (and b (and c (and d (and m (and f none)))))) =
           let S = table_keys ws in
           let v = accepted_image e in
@@ -117,17 +117,17 @@ module _ (tabulation ws : List ℕ) (station key : ℕ) where
             ascending = asc_with key v.ascending;
             keys = λ c i. elim (with_cases key S i) [ inl q ↦ rw q d | inr j ↦ v.keys c j ];
             fits = rw (length_with key S v.ascending out) room;
-            is = insert-accepted tabulation ws station key e;
+            is = insert_accepted tabulation ws station key e;
           }
 
   -- A key that is not listed is put in as long as a slot is empty, and refused with 16 exactly when none is left.
-  pub insert_room : {S : List ℕ} → StolenImage (stolen-family tabulation ws station) S ws
+  pub insert_room : {S : List ℕ} → StolenImage (stolen_family tabulation ws station) S ws
       → length tabulation ≡ tabulation_length → slots_in_range (length ws) ≡ true → station_in_range station ≡ true
       → blank key ≡ false → member key S ≡ false
-      → stolen-insert-refusal tabulation ws station key ≡ cond (ltb (length S) (length ws)) done table_full
-  unfolding stolen-insert-refusal
+      → stolen_insert_refusal tabulation ws station key ≡ cond (ltb (length S) (length ws)) done table_full
+  unfolding stolen_insert_refusal
   insert_room {S} v t s u b n =
-      let F = stolen-family tabulation ws station in
+      let F = stolen_family tabulation ws station in
       let some = in_range_pos (length ws) s in
       let keys : table_keys ws ≡ S = image_keys F some ws v in
       let absent : member key (table_keys ws) ≡ false = rw keys n in

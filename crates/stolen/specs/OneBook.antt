@@ -15,7 +15,7 @@ use Rattle.refusals.specs.Refusal.{done, wrong_tabulation, wrong_shape, blank_ke
 use Rattle.refusals.specs.Refusal.{first_refusal}
 use Rattle.hashing.specs.Hash.{tabulation_length, max_station, station_in_range, in_range_pos, blank, Family}
 use Rattle.probing.specs.Rule.{table_keys}
-use Rattle.stolen.specs.Answers.{stolen-image}
+use Rattle.stolen.specs.Answers.{stolen_image}
 use Rattle.stolen.specs.Canonical.{image_keys}
 use Rattle.stolen.specs.Calls.{StolenCall, stolen_run, stolen_left, Register, named, register_lookup_tests}
 use Rattle.stolen.specs.Calls.{register_insert_tests, hears, stolen_reply, register_left}
@@ -46,7 +46,7 @@ module _ (F : Family) (R : Register) (e : R.family ≡ F) (tabulation : List ℕ
 
   pub plain_insert : first_refusal (register_insert_tests R tabulation station key) ≡ first_refusal plain_insert_tests
   plain_insert = elim one [
-    | own t u ↦ rw (t, u, e, true_same (stolen-image F R.keys) (stolen-image F R.keys) refl)
+    | own t u ↦ rw (t, u, e, true_same (stolen_image F R.keys) (stolen_image F R.keys) refl)
     | wrong_book n ↦ rw (ne_eqb (length tabulation) tabulation_length n)
     | no_station l ↦ rw (beyond station l)
   ]

@@ -7,8 +7,8 @@ use Rattle.basics.specs.Lists.{same}
 use Rattle.ordered.specs.Keys.{with_key, above}
 use Rattle.hashing.specs.Hash.{tabulation_length, slots_in_range, station_in_range, blank, tables, hash}
 use Rattle.probing.specs.Rule.{after, place, placed, table_image, looks, look, table_keys}
-use Rattle.stolen.specs.Answers.{stolen-image, stolen-canonical, stolen-lookup-refusal, stolen-lookup-values}
-use Rattle.stolen.specs.Answers.{stolen-insert-refusal, stolen-insert-words}
+use Rattle.stolen.specs.Answers.{stolen_image, stolen_canonical, stolen_lookup_refusal, stolen_lookup_values}
+use Rattle.stolen.specs.Answers.{stolen_insert_refusal, stolen_insert_words}
 
 -- table 0's first stretch and its station's stretch count up, all other entries are 0
 abbrev board_entry : ℕ → ℕ
@@ -23,19 +23,19 @@ stolen_board = entries 0 tabulation_length
 
 -- the image of a set, at a station
 abbrev shows : ℕ → List ℕ → List ℕ → Bool
-shows station S ws = same (stolen-image (tables stolen_board 5 station) S) ws
+shows station S ws = same (stolen_image (tables stolen_board 5 station) S) ws
 
 -- an insert's number, and the words it leaves
 abbrev inserts : List ℕ → ℕ → ℕ → ℕ → List ℕ → Bool
 inserts ws station key n vs =
-    eqb (stolen-insert-refusal stolen_board ws station key) n
-    && same (stolen-insert-words stolen_board ws station key) vs
+    eqb (stolen_insert_refusal stolen_board ws station key) n
+    && same (stolen_insert_words stolen_board ws station key) vs
 
 -- a lookup's number and its values
 abbrev tells : List ℕ → ℕ → ℕ → ℕ → List ℕ → Bool
 tells ws station key n vs =
-    eqb (stolen-lookup-refusal stolen_board ws station key) n
-    && same (stolen-lookup-values stolen_board ws station key) vs
+    eqb (stolen_lookup_refusal stolen_board ws station key) n
+    && same (stolen_lookup_values stolen_board ws station key) vs
 
 abbrev empty : List ℕ
 empty = 0 ∷ 0 ∷ 0 ∷ 0 ∷ 0 ∷ []
@@ -58,9 +58,9 @@ stolen_rows =
     && inserts (57 ∷ 0 ∷ 0 ∷ 42 ∷ 21 ∷ []) 0 20 0 part
     && inserts part 0 10 0 full
     -- 1 and 2, before all others
-    && eqb (stolen-insert-refusal [] part 256 9) 1
-    && eqb (stolen-insert-refusal stolen_board [] 0 9) 2
-    && eqb (stolen-insert-refusal stolen_board (replicate 1025 0) 0 9) 2
+    && eqb (stolen_insert_refusal [] part 256 9) 1
+    && eqb (stolen_insert_refusal stolen_board [] 0 9) 2
+    && eqb (stolen_insert_refusal stolen_board (replicate 1025 0) 0 9) 2
     && inserts part 256 9 2 part
     -- 4, before 5: a key too far on, a number below 10, a key twice, another station's image
     && inserts (0 ∷ 57 ∷ 0 ∷ 0 ∷ 0 ∷ []) 0 9 4 (0 ∷ 57 ∷ 0 ∷ 0 ∷ 0 ∷ [])
@@ -79,10 +79,10 @@ stolen_rows =
     && tells full 0 99 0 (0 ∷ [])
     && tells (0 ∷ 0 ∷ 0 ∷ 3 ∷ 40 ∷ []) 0 40 0 (1 ∷ [])
     && tells (0 ∷ 57 ∷ 0 ∷ 0 ∷ 0 ∷ []) 0 57 0 (0 ∷ [])
-    && eqb (stolen-lookup-refusal [] full 256 9) 1
+    && eqb (stolen_lookup_refusal [] full 256 9) 1
     && tells full 256 9 2 []
     && tells full 0 9 5 []
 
 pub follow : T stolen_rows
-unfolding same below above with_key slots_in_range station_in_range blank hash after place placed table_image looks look table_keys stolen_board stolen-canonical stolen-lookup-refusal stolen-lookup-values stolen-insert-refusal stolen-insert-words
+unfolding same below above with_key slots_in_range station_in_range blank hash after place placed table_image looks look table_keys stolen_board stolen_canonical stolen_lookup_refusal stolen_lookup_values stolen_insert_refusal stolen_insert_words
 follow = tt

@@ -17,11 +17,11 @@ use Rattle.hashing.specs.Hash.{tabulation_length, max_station, slots_in_range, s
 use Rattle.hashing.specs.Hash.{Family, tables}
 use Rattle.hashing.specs.Slots.{slot_0}
 use Rattle.probing.specs.Rule.{table_keys, look}
-use Rattle.stolen.specs.Answers.{stolen-image, stolen-family, stolen-canonical, says}
-use Rattle.stolen.specs.Answers.{stolen-lookup-refusal, stolen-lookup-refusals, stolen-lookup-values}
-use Rattle.stolen.specs.Answers.{lookup_refused, lookup-accepted}
-use Rattle.stolen.specs.Answers.{stolen-insert-refusal, stolen-insert-refusals, stolen-insert-words}
-use Rattle.stolen.specs.Answers.{insert-refused}
+use Rattle.stolen.specs.Answers.{stolen_image, stolen_family, stolen_canonical, says}
+use Rattle.stolen.specs.Answers.{stolen_lookup_refusal, stolen_lookup_refusals, stolen_lookup_values}
+use Rattle.stolen.specs.Answers.{lookup_refused, lookup_accepted}
+use Rattle.stolen.specs.Answers.{stolen_insert_refusal, stolen_insert_refusals, stolen_insert_words}
+use Rattle.stolen.specs.Answers.{insert_refused}
 use Rattle.stolen.specs.Canonical.{StolenImage, image_length, image_keys, room_left, look_listed}
 use Rattle.stolen.specs.Demands.{zeros_image, lookup_passes, insert_passes, stolen_insert_image}
 use Rattle.stolen.specs.Calls.{StolenCall, StolenStep, stolen_step, stolen_run, stolen_left, Register}
@@ -32,7 +32,7 @@ use Rattle.stolen.specs.Calls.{stolen_model, register_left}
 
 -- a reply of the register, its set as words
 abbrev pub shown : Register → List ℕ
-shown R = stolen-image R.family R.keys
+shown R = stolen_image R.family R.keys
 
 abbrev pub stolen_pictured : StolenReply → StolenStep
 stolen_pictured m = record { number = m.number; values = m.values; words = shown m.register }
@@ -81,45 +81,45 @@ module _ (R : Register) (ws : List ℕ) (h : StolenKept R ws) where
 
   module _ (tabulation : List ℕ) (station key : ℕ) where
     -- the words are the image of a set under the call's book and station exactly if it is that of the register's own
-    canonical_named : stolen-canonical (named R tabulation station) ws
-        ≡ same (stolen-image R.family R.keys) (stolen-image (named R tabulation station) R.keys)
-    unfolding stolen-canonical
+    canonical_named : stolen_canonical (named R tabulation station) ws
+        ≡ same (stolen_image R.family R.keys) (stolen_image (named R tabulation station) R.keys)
+    unfolding stolen_canonical
     canonical_named =
         rw (listed, false_any blank R.keys h.image.keys)
-        (ap (λ (l : List ℕ). same l (stolen-image (named R tabulation station) R.keys)) h.image.is)
+        (ap (λ (l : List ℕ). same l (stolen_image (named R tabulation station) R.keys)) h.image.is)
 
     -- so the tests of the calls are the register's
-    insert_tests : stolen-insert-refusals tabulation ws station key ≡ register_insert_tests R tabulation station key
+    insert_tests : stolen_insert_refusals tabulation ws station key ≡ register_insert_tests R tabulation station key
     insert_tests = rw (long, h.slots, canonical_named, listed, filled)
 
-    lookup_tests : stolen-lookup-refusals tabulation ws station key ≡ register_lookup_tests R tabulation station key
+    lookup_tests : stolen_lookup_refusals tabulation ws station key ≡ register_lookup_tests R tabulation station key
     lookup_tests = rw (long, h.slots)
 
-    insert_number : stolen-insert-refusal tabulation ws station key
+    insert_number : stolen_insert_refusal tabulation ws station key
         ≡ first_refusal (register_insert_tests R tabulation station key)
-    unfolding stolen-insert-refusal
+    unfolding stolen_insert_refusal
     insert_number = ap first_refusal insert_tests
 
-    lookup_number : stolen-lookup-refusal tabulation ws station key
+    lookup_number : stolen_lookup_refusal tabulation ws station key
         ≡ first_refusal (register_lookup_tests R tabulation station key)
-    unfolding stolen-lookup-refusal
+    unfolding stolen_lookup_refusal
     lookup_number = ap first_refusal lookup_tests
 
-    accepted : stolen-insert-refusal tabulation ws station key ≡ done
+    accepted : stolen_insert_refusal tabulation ws station key ≡ done
         → StolenKept (record {
           family =
               named R tabulation station;
           keys = with_key key R.keys;
-        }) (stolen-insert-words tabulation ws station key)
+        }) (stolen_insert_words tabulation ws station key)
     accepted e = go (insert_passes tabulation ws station key e)
       where
-        go : None (stolen-insert-refusals tabulation ws station key)
+        go : None (stolen_insert_refusals tabulation ws station key)
             → StolenKept (record {
               family =
                   named R tabulation station;
               keys =
                   with_key key R.keys;
-            }) (stolen-insert-words tabulation ws station key)
+            }) (stolen_insert_words tabulation ws station key)
         go (and a (and b more)) =
             let v = stolen_insert_image tabulation ws station key e in
             record {
@@ -139,14 +139,14 @@ module _ (R : Register) (ws : List ℕ) (h : StolenKept R ws) where
           keeps = elim (eq? n done) [
             | inl e ↦ rw (eq-eqb n done e) (accepted (insert_number ∙ e))
             | inr d ↦
-                let stay = insert-refused tabulation ws station key (λ q. d (sym insert_number ∙ q)) in
+                let stay = insert_refused tabulation ws station key (λ q. d (sym insert_number ∙ q)) in
                 rw (ne_eqb n done d, stay) h
           ];
         }
 
     -- a lookup says what the register does
     heard : blank key ≡ false
-        → look (slot_0 (stolen-family tabulation ws station)) (length ws) ws key ≡ hears R tabulation station key
+        → look (slot_0 (stolen_family tabulation ws station)) (length ws) ws key ≡ hears R tabulation station key
     heard b =
         rw long (elim (test (names_own R tabulation station)) [
           | inl own ↦
@@ -172,10 +172,10 @@ module _ (R : Register) (ws : List ℕ) (h : StolenKept R ws) where
           keeps = h;
         }
       where
-        go : None (stolen-lookup-refusals tabulation ws station key)
-            → stolen-lookup-refusal tabulation ws station key ≡ done
-            → stolen-lookup-values tabulation ws station key ≡ says (hears R tabulation station key)
-        go (and a (and b (and c none))) e = lookup-accepted tabulation ws station key e ∙ ap says (heard c)
+        go : None (stolen_lookup_refusals tabulation ws station key)
+            → stolen_lookup_refusal tabulation ws station key ≡ done
+            → stolen_lookup_values tabulation ws station key ≡ says (hears R tabulation station key)
+        go (and a (and b (and c none))) e = lookup_accepted tabulation ws station key e ∙ ap says (heard c)
 
   replies : (c : StolenCall) → StolenReplies (stolen_step ws c) (stolen_reply R c)
   replies (StolenCall.insert tabulation station key) = insert_replies tabulation station key

@@ -14,7 +14,7 @@ use Rattle.hashing.specs.Slots.{slot_0}
 use Rattle.probing.specs.Rule.{looks, look, table_keys}
 use Rattle.probing.specs.Moves.{displace, add, all_settled}
 use Rattle.probing.specs.Walls.{Barrier, empty, largest}
-use Rattle.stolen.specs.Answers.{stolen-family, stolen-image, stolen-canonical}
+use Rattle.stolen.specs.Answers.{stolen_family, stolen_image, stolen_canonical}
 use Rattle.stolen.specs.Canonical.{not_blank, canonical_true, canonical_settled, look_listed, room_left, inserted}
 
 -- neither 1 nor 2 applies
@@ -39,28 +39,28 @@ no_room_at ws b (largest f) n =
 module _ (tabulation ws : List ℕ) (station : ℕ) (h : Hashing tabulation (length ws) station) where
   -- the round tells what 4 asks
   pub settled_canonical : (b : ℕ) → b < length ws → Barrier (length ws) ws b
-      → all_settled (length ws) ws b (slot_0 (stolen-family tabulation ws station)) 10 (length ws - 0) 0
-      ≡ stolen-canonical (stolen-family tabulation ws station) ws
+      → all_settled (length ws) ws b (slot_0 (stolen_family tabulation ws station)) 10 (length ws - 0) 0
+      ≡ stolen_canonical (stolen_family tabulation ws station) ws
   settled_canonical b l w =
       let e : length ws - 0 ≡ length ws = omega arith in
-      rw e (sym (canonical_settled (stolen-family tabulation ws station) h.has_slots ws refl b l w))
+      rw e (sym (canonical_settled (stolen_family tabulation ws station) h.has_slots ws refl b l w))
 
-  module _ (key : ℕ) (c : stolen-canonical (stolen-family tabulation ws station) ws ≡ true) (b : blank key ≡ false) where
+  module _ (key : ℕ) (c : stolen_canonical (stolen_family tabulation ws station) ws ≡ true) (b : blank key ≡ false) where
     -- a way comes to the key exactly if it is listed
-    pub found_member : looks (length ws) (length ws) ws key (slot_0 (stolen-family tabulation ws station) key)
+    pub found_member : looks (length ws) (length ws) ws key (slot_0 (stolen_family tabulation ws station) key)
         ≡ member key (table_keys ws)
     unfolding look
     found_member =
-        let F = stolen-family tabulation ws station in
+        let F = stolen_family tabulation ws station in
         look_listed F h.has_slots ws (canonical_true F h.has_slots ws refl c) key b
 
     -- a key that is carried in gives the image of the set with it
     pub carried : member key (table_keys ws) ≡ false → member 0 ws ≡ true
-        → displace (length ws) (length ws) ws key (slot_0 (stolen-family tabulation ws station) key)
-        ≡ stolen-image (stolen-family tabulation ws station) (with_key key (table_keys ws))
+        → displace (length ws) (length ws) ws key (slot_0 (stolen_family tabulation ws station) key)
+        ≡ stolen_image (stolen_family tabulation ws station) (with_key key (table_keys ws))
     unfolding add
     carried n e =
-        let F = stolen-family tabulation ws station in
+        let F = stolen_family tabulation ws station in
         let v = canonical_true F h.has_slots ws refl c in
         inserted F h.has_slots ws v key b n
         (ltb-true (length (table_keys ws)) (length ws) (sym (room_left F h.has_slots ws v) ∙ e))

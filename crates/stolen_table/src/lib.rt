@@ -7,9 +7,9 @@ ghost use Rattle.hashing.specs.Hash.{slots_in_range, station_in_range, tables, H
 ghost use Rattle.hashing.specs.Slots.{slot_0};
 ghost use Rattle.probing.specs.Moves.{right};
 ghost use Rattle.probing.specs.Walls.{Barrier};
-ghost use Rattle.stolen.specs.Answers.{number, values, stolen-family, stolen-canonical, stolen-init-refusal};
-ghost use Rattle.stolen.specs.Answers.{stolen-init-words, stolen-lookup-refusal, stolen-lookup-values};
-ghost use Rattle.stolen.specs.Answers.{stolen-insert-refusal, stolen-insert-words};
+ghost use Rattle.stolen.specs.Answers.{number, values, stolen_family, stolen_canonical, stolen_init_refusal};
+ghost use Rattle.stolen.specs.Answers.{stolen_init_words, stolen_lookup_refusal, stolen_lookup_values};
+ghost use Rattle.stolen.specs.Answers.{stolen_insert_refusal, stolen_insert_words};
 
 use probe::MAX_SLOTS;
 use ranges::TABULATION_LENGTH;
@@ -33,8 +33,8 @@ fn in_shape(slots: usize, station: u32) -> bool
 
 // Lays an empty list: zeros, whatever the words were; or 2, and they stay.
 pub fn init(words: &mut [u32]) -> u32
-    ensures numbered { result ≡ stolen-init-refusal words.old }
-    ensures laid { words.new ≡ stolen-init-words words.old }
+    ensures numbered { result ≡ stolen_init_refusal words.old }
+    ensures laid { words.new ≡ stolen_init_words words.old }
 {
     if !are_slots(words.len()) {
         return WRONG_SHAPE;
@@ -55,9 +55,9 @@ fn start_of(tabulation: &[u16], slots: usize, station: u32, key: u32) -> usize
 // Whether the key is reported, on any words; or 1, 2 or 5.
 pub fn lookup(tabulation: &[u16], words: &[u32], station: u32, key: u32) -> Reported
     ensures numbered { number result
-        ≡ stolen-lookup-refusal tabulation.now words.now station key }
+        ≡ stolen_lookup_refusal tabulation.now words.now station key }
     ensures valued { values result
-        ≡ stolen-lookup-values tabulation.now words.now station key }
+        ≡ stolen_lookup_values tabulation.now words.now station key }
 {
     if tabulation.len() != TABULATION_LENGTH {
         return Reported::Refused(WRONG_TABULATION);
@@ -101,7 +101,7 @@ fn is_right(
 fn is_canonical(tabulation: &[u16], words: &[u32], station: u32, base: usize) -> bool
     requires { Hashing tabulation.now (length words.now) station × (base < length words.now)
         × Barrier (length words.now) words.now base }
-    ensures { result ≡ stolen-canonical (stolen-family tabulation.now words.now station)
+    ensures { result ≡ stolen_canonical (stolen_family tabulation.now words.now station)
         words.now }
 {
     let slots = words.len();
@@ -124,9 +124,9 @@ fn is_canonical(tabulation: &[u16], words: &[u32], station: u32, base: usize) ->
 // Puts a key in: the words are then the image of their set with the key; or 1, 2, 4, 5, 6 or 16, and they stay.
 pub fn insert(tabulation: &[u16], words: &mut [u32], station: u32, key: u32) -> u32
     ensures numbered { result
-        ≡ stolen-insert-refusal tabulation.now words.old station key }
+        ≡ stolen_insert_refusal tabulation.now words.old station key }
     ensures laid { words.new
-        ≡ stolen-insert-words tabulation.now words.old station key }
+        ≡ stolen_insert_words tabulation.now words.old station key }
 {
     if tabulation.len() != TABULATION_LENGTH {
         return WRONG_TABULATION;

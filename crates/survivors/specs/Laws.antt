@@ -20,7 +20,7 @@ use Rattle.layout.specs.Entries.{Entry, tiered}
 use Rattle.layout.specs.Layout.{Params, family, params_of, family_of, slots_of, places_of, station_of, words_length}
 use Rattle.layout.specs.Layout.{scratch_length, shaped, image, Spot, spots, spot_key}
 use Rattle.layout.specs.Shape.{shape, ranged_true}
-use Rattle.layout.specs.Answers.{lookup-values}
+use Rattle.layout.specs.Answers.{lookup_values}
 use Rattle.outcome.specs.Demands.{Harmless}
 use Rattle.outcome.specs.Held.{Holds, held_some, held_params, held_shaped, held_entry}
 use Rattle.survivors.specs.Salvage.{counts, counting, standing, standing_keys, survivors, occupied, lost_in}
@@ -269,7 +269,7 @@ module _ (tabulation ws target scratch : List ℕ) (e : (salvage_outcome tabulat
 
   -- A lookup then finds exactly the survivors, each with its tier.
   pub salvage_lookup : (c t : ℕ)
-      → (lookup-values tabulation (salvage_outcome tabulation ws target scratch).target c ≡ 1 ∷ t ∷ [])
+      → (lookup_values tabulation (salvage_outcome tabulation ws target scratch).target c ≡ 1 ∷ t ∷ [])
       ↔ In (record { key = c; tier = t }) (survivors tabulation ws)
   salvage_lookup = held_entry salvage_accepted why.full_length
 

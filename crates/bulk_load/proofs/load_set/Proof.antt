@@ -6,7 +6,7 @@ use native.Mathlib.Omega.{arith}
 use lib.ListN.{length}
 use Rattle.layout.specs.declared.Header.{Header}
 use Rattle.layout.specs.Layout.{with_keys}
-use Rattle.layout.specs.Answers.{fresh-header}
+use Rattle.layout.specs.Answers.{fresh_header}
 use Rattle.layout.specs.Shape.{Sized}
 use Rattle.bulk_load.specs.Loading.{Fillable, load_sized, load_crowded, load_fillable, load_committable}
 use Rattle.bulk_load.specs.Loading.{load_committed}
@@ -96,10 +96,10 @@ abbrev edged : tie.After-with-keys → tie.After-put-edges
 edged w = w.before.before.before.before
 
 heading_is : (w : tie.After-with-keys) → let f = filling (edged w) in let a = (start f.before).args in
-    w.with_keys.result ≡ with_keys (fresh-header a.r a.s a.station) f.before.before.count.result
+    w.with_keys.result ≡ with_keys (fresh_header a.r a.s a.station) f.before.before.count.result
 heading_is w =
     let n = (filling (edged w)).before.before.count.result in
-    w.with_keys.ensures ∙ ap (λ (h : Header). with_keys h n) w.before.fresh-header.ensures
+    w.with_keys.ensures ∙ ap (λ (h : Header). with_keys h n) w.before.fresh_header.ensures
 
 commit-requires : tie.Need-commit-requires
 commit-requires c κs =

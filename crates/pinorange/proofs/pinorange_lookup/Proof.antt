@@ -3,7 +3,7 @@ use Prim.Native.Nat.{ℕ}
 use mathlib.Core.Path.{◌≡◌, sym, ◌∙◌, ap}
 use mathlib.Core.List.{List}
 use lib.ListN.{get_or}
-use Rattle.layout.specs.Answers.{number, values, lookup-refusal, lookup-values}
+use Rattle.layout.specs.Answers.{number, values, lookup_refusal, lookup_values}
 use Rattle.layout.specs.declared.Found.{Found}
 use Rattle.pinorange.specs.Out.{listed_out, tier_out, listed_value, tier_value}
 use borrow.Author.Rules.{rules}
@@ -24,8 +24,8 @@ enum-known-found-2 c = search rules
 
 -- what is handed on of an answer f, which was found to be g
 handed : (tabulation ws : List ℕ) (key listed tier : ℕ) {f g : Found} → f ≡ g
-    → (number f ≡ lookup-refusal tabulation ws key) × (values f ≡ lookup-values tabulation ws key)
-    → (number g ≡ lookup-refusal tabulation ws key)
+    → (number f ≡ lookup_refusal tabulation ws key) × (values f ≡ lookup_values tabulation ws key)
+    → (number g ≡ lookup_refusal tabulation ws key)
     × ((get_or (values g) 0 listed ≡ listed_out tabulation ws key listed) × (get_or (values g) 1 tier ≡ tier_out tabulation ws key tier))
 handed tabulation ws key listed tier q e =
     let v = sym (ap values q) ∙ e.1 in

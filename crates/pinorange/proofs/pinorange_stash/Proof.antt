@@ -4,7 +4,7 @@ use mathlib.Core.Path.{◌≡◌, sym, ◌∙◌, ap}
 use native.Mathlib.Omega.{arith}
 use borrow.Author.Tests.{eq-eqb, ne_eqb}
 use Rattle.layout.specs.Layout.{stash_at, stash_count, place_width}
-use Rattle.layout.specs.Answers.{view-refusal}
+use Rattle.layout.specs.Answers.{view_refusal}
 use Rattle.layout.specs.Shape.{viewed, same_header}
 use Rattle.pinorange.specs.Out.{offset_out, length_out}
 use borrow.Author.Rules.{rules}
@@ -22,7 +22,7 @@ returns c =
     (n, (simp t, simp t))
 
 -- the view is not refused
-accepted : (e : tie.Else1) → view-refusal e.before.before.before.args.words.now ≡ 0
+accepted : (e : tie.Else1) → view_refusal e.before.before.before.args.words.now ≡ 0
 accepted e = sym e.before.stash-refusal.ensures ∙ e.if1.false
 
 read-header-requires : tie.Need-read-header-requires

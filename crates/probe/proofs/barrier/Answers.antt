@@ -23,19 +23,19 @@ loop-slot-preserved c =
     let ws = c.args.words.now in
     let filled : 0 < get_or ws l.slot 0 = let n = c.if-word-eq0.false in omega arith in
     elim c.if-words-largest.branch [
-      | inl w ↦ rw w.1 (
+      | goal.then-words-largest w ↦ rw w.largest-is (
         omega arith,
         omega arith,
         λ p k. elim (eq? p l.slot) [
           | inl e ↦ rw e (filled, omega arith)
-          | inr n ↦ let r = l.invariant.2 p (omega arith) in (r.0, omega (arith, r.1, w.0.taken))
+          | inr n ↦ let r = l.invariant.2 p (omega arith) in (r.0, omega (arith, r.1, w.if-words-largest.true))
         ],
       )
-      | inr w ↦ rw w.1 (
+      | goal.else-words-largest w ↦ rw w.largest-is (
         l.invariant.0,
         omega arith,
         λ p k. elim (eq? p l.slot) [
-          | inl e ↦ rw e (filled, w.0.left)
+          | inl e ↦ rw e (filled, w.if-words-largest.false)
           | inr n ↦ l.invariant.2 p (omega arith)
         ],
       )

@@ -17,15 +17,15 @@ pub loop-left-preserved : goal.loop-left-preserved
 loop-left-preserved c =
     let l = c.loop-left in
     elim c.if-carried-word.branch [
-      | inl w ↦ (
+      | goal.then-carried-word w ↦ (
         c.next_slot-slot.ensures.inside,
-        rw (w.1, length-set) l.invariant.1,
-        l.invariant.2 ∙ rw (c.next_slot-slot.ensures.at, w.1, w.2) (carry_swap _ l.left l.words l.carried l.slot (omega arith) w.0.taken),
+        rw (w.words-is, length-set) l.invariant.1,
+        l.invariant.2 ∙ rw (c.next_slot-slot.ensures.at, w.words-is, w.carried-is) (carry_swap _ l.left l.words l.carried l.slot (omega arith) w.if-carried-word.true),
       )
-      | inr w ↦ (
+      | goal.else-carried-word w ↦ (
         c.next_slot-slot.ensures.inside,
-        rw w.1 l.invariant.1,
-        l.invariant.2 ∙ rw (c.next_slot-slot.ensures.at, w.1, w.2) (carry_on _ l.left l.words l.carried l.slot (omega arith) c.if-word-eq0.false w.0.left),
+        rw w.words-is l.invariant.1,
+        l.invariant.2 ∙ rw (c.next_slot-slot.ensures.at, w.words-is, w.carried-is) (carry_on _ l.left l.words l.carried l.slot (omega arith) c.if-word-eq0.false w.if-carried-word.false),
       )
     ]
 

@@ -9,8 +9,8 @@ use lib.ListN.{length}
 use Rattle.basics.specs.Sets.{member}
 use Rattle.hashing.specs.Hash.{slots_in_range, station_in_range, blank, Hashing}
 use Rattle.probing.specs.Rule.{table_keys}
-use Rattle.stolen.specs.Answers.{stolen-family, stolen-canonical, stolen-insert-refusal, stolen-insert-words}
-use Rattle.stolen.specs.Answers.{insert-refused, insert-accepted}
+use Rattle.stolen.specs.Answers.{stolen_family, stolen_canonical, stolen_insert_refusal, stolen_insert_words}
+use Rattle.stolen.specs.Answers.{insert_refused, insert_accepted}
 use Rattle.stolen_table.specs.Decided.{shaped_hashing, key_positive, found_member, carried, room_at, no_room_at}
 use borrow.Author.Rules.{rules}
 use Rattle.stolen_table.proofs.insert.Statement.{statement}
@@ -18,23 +18,23 @@ use Rattle.stolen_table.proofs.insert.Tie as tie
 
 -- the answer is a refusal, and the words stay
 refused : (a : tie.Start) (n : ℕ) → 0 < n
-    → stolen-insert-refusal a.args.tabulation.now a.args.words.now a.args.station a.args.key ≡ n
+    → stolen_insert_refusal a.args.tabulation.now a.args.words.now a.args.station a.args.key ≡ n
     → let b = a.args in
-    (n ≡ stolen-insert-refusal b.tabulation.now b.words.now b.station b.key)
-    × (b.words.now ≡ stolen-insert-words b.tabulation.now b.words.now b.station b.key)
+    (n ≡ stolen_insert_refusal b.tabulation.now b.words.now b.station b.key)
+    × (b.words.now ≡ stolen_insert_words b.tabulation.now b.words.now b.station b.key)
 refused a n l e =
     let b = a.args in
-    (sym e, sym (insert-refused b.tabulation.now b.words.now b.station b.key (λ z. omega arith)))
+    (sym e, sym (insert_refused b.tabulation.now b.words.now b.station b.key (λ z. omega arith)))
 
 returns : tie.Need-returns
-unfolding stolen-insert-refusal
+unfolding stolen_insert_refusal
 returns c = refused c.before.before.before 1 (omega arith) (rw (ne_eqb _ _ c.if1.true))
 
 in-shape-requires : tie.Need-in-shape-requires
 in-shape-requires c κs = search rules
 
 returns-2 : tie.Need-returns-2
-unfolding stolen-insert-refusal
+unfolding stolen_insert_refusal
 returns-2 c =
     let t = eq-eqb _ _ c.before.before.if1.false in
     let u = sym c.before.in-shape.ensures ∙ not-true _ c.if2.true in
@@ -64,7 +64,7 @@ same_length : tie.Need-same-length
 same_length c = search rules
 
 returns-3 : tie.Need-returns-3
-unfolding stolen-insert-refusal
+unfolding stolen_insert_refusal
 returns-3 c =
     let e = c.before.before.before.before.before in
     let t = eq-eqb _ _ e.before.before.if1.false in
@@ -85,11 +85,11 @@ abbrev ranged : tie.Else3 → tie.Else2
 ranged e = (bounded e).before.before
 
 image : (e : tie.Else3) → let a = (start (ranged e)).args in
-    stolen-canonical (stolen-family a.tabulation.now a.words.now a.station) a.words.now ≡ true
+    stolen_canonical (stolen_family a.tabulation.now a.words.now a.station) a.words.now ≡ true
 image e = sym e.before.is-canonical.ensures ∙ not-false _ e.if3.false
 
 returns-4 : tie.Need-returns-4
-unfolding stolen-insert-refusal
+unfolding stolen_insert_refusal
 returns-4 c =
     let k = c.before.before in
     let e = ranged k in
@@ -127,7 +127,7 @@ listed f =
     ∙ found_member a.tabulation.now a.words.now a.station (ready (ranged k)) a.key (image k) (named e))
 
 returns-5 : tie.Need-returns-5
-unfolding stolen-insert-refusal
+unfolding stolen_insert_refusal
 returns-5 c =
     let f = c.before in
     let e = sought f in
@@ -147,7 +147,7 @@ same-length-4 : tie.Need-same-length-4
 same-length-4 c = search rules
 
 returns-6 : tie.Need-returns-6
-unfolding stolen-insert-refusal
+unfolding stolen_insert_refusal
 returns-6 c =
     let g = c.before.before in
     let f = g.before in
@@ -167,7 +167,7 @@ same-length-5 : tie.Need-same-length-5
 same-length-5 c = search rules
 
 returns-7 : tie.Need-returns-7
-unfolding stolen-insert-refusal
+unfolding stolen_insert_refusal
 returns-7 c =
     let m = c.before.before in
     let h = m.before.before in
@@ -184,8 +184,8 @@ returns-7 c =
     let z = room_at ws b.barrier.result b.barrier.ensures.0 h.if6.false in
     let put = (rw f.before.before.start_of_lem.ensures.0 at m.carry.ensures)
     ∙ carried a.tabulation.now ws a.station (ready d) a.key (image k) (named e) y z in
-    let n : stolen-insert-refusal a.tabulation.now ws a.station a.key ≡ 0 = rw (t, shaped d, image k, named e, y, z) in
-    (sym n, put ∙ sym (insert-accepted a.tabulation.now ws a.station a.key n))
+    let n : stolen_insert_refusal a.tabulation.now ws a.station a.key ≡ 0 = rw (t, shaped d, image k, named e, y, z) in
+    (sym n, put ∙ sym (insert_accepted a.tabulation.now ws a.station a.key n))
 
 pub insert-spec : {M : Type 1} → statement M
 insert-spec =

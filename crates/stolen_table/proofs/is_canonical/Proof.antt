@@ -9,7 +9,7 @@ use lib.ListN.{length, length-set, length-replicate}
 use Rattle.hashing.specs.Slots.{slot_0}
 use Rattle.probing.specs.Moves.{turn_word, wall as wall-at, settled, all_settled}
 use Rattle.probing.specs.Walls.{Walled}
-use Rattle.stolen.specs.Answers.{stolen-family, stolen-canonical}
+use Rattle.stolen.specs.Answers.{stolen_family, stolen_canonical}
 use Rattle.stolen_table.specs.Round.{settled_empty, settled_key, settled_on, settled_not, settled_all}
 use Rattle.stolen_table.specs.Round.{walled_none, walled_empty, walled_key}
 use Rattle.stolen_table.specs.Decided.{settled_canonical}
@@ -20,8 +20,8 @@ use Rattle.stolen_table.proofs.is_canonical.Tie as tie
 abbrev invariant-loop : tie.invariant-loop
 invariant-loop tabulation words station base slots walls₀ turn₀ walls turn =
     (turn ≤ length words) × (length walls ≡ 1024) × Walled (length words) words base walls turn
-    × (stolen-canonical (stolen-family tabulation words station) words
-    ≡ all_settled (length words) words base (slot_0 (stolen-family tabulation words station)) 10 (length words - turn) turn)
+    × (stolen_canonical (stolen_family tabulation words station) words
+    ≡ all_settled (length words) words base (slot_0 (stolen_family tabulation words station)) 10 (length words - turn) turn)
 
 abbrev decreases-loop : tie.decreases-loop
 decreases-loop tabulation words station base slots walls₀ turn₀ walls turn = length words - turn
@@ -68,7 +68,7 @@ walled w = rw w.before.before.before.before.slot_of.ensures.0 at w.wall-of.ensur
 judged : (e : tie.After-is-right invariant-loop decreases-loop) → let t = e.before.before.before.before.before.before.before in
     let a = t.before.before.before.args in
     let ws = a.words.now in
-    e.is_right.result ≡ settled (length ws) ws a.base (slot_0 (stolen-family a.tabulation.now ws a.station)) 10 t.loop.turn
+    e.is_right.result ≡ settled (length ws) ws a.base (slot_0 (stolen_family a.tabulation.now ws a.station)) 10 t.loop.turn
 judged e =
     let t = e.before.before.before.before.before.before.before in
     let a = t.before.before.before.args in

@@ -7,21 +7,21 @@ use lib.ListN.{length}
 use Rattle.hashing.specs.Hash.{slots_in_range, station_in_range}
 use Rattle.probing.specs.Rule.{look}
 use Rattle.refusals.specs.Refusal.{done}
-use Rattle.stolen.specs.Answers.{says, stolen-lookup-refusal, stolen-lookup-values, lookup-accepted}
+use Rattle.stolen.specs.Answers.{says, stolen_lookup_refusal, stolen_lookup_values, lookup_accepted}
 use Rattle.stolen_table.specs.Decided.{shaped_hashing, key_positive}
 use borrow.Author.Rules.{rules}
 use Rattle.stolen_table.proofs.lookup.Statement.{statement}
 use Rattle.stolen_table.proofs.lookup.Tie as tie
 
 returns : tie.Need-returns
-unfolding stolen-lookup-refusal stolen-lookup-values
+unfolding stolen_lookup_refusal stolen_lookup_values
 returns c = let t = ne_eqb _ _ c.if1.true in (simp t, simp t)
 
 in-shape-requires : tie.Need-in-shape-requires
 in-shape-requires c κs = search rules
 
 returns-2 : tie.Need-returns-2
-unfolding stolen-lookup-refusal stolen-lookup-values
+unfolding stolen_lookup_refusal stolen_lookup_values
 returns-2 c =
     let t = eq-eqb _ _ c.before.before.if1.false in
     let u = sym c.before.in-shape.ensures ∙ not-true _ c.if2.true in
@@ -39,7 +39,7 @@ shaped : (e : tie.Else2)
 shaped e = sym e.before.in-shape.ensures ∙ not-false _ e.if2.false
 
 returns-3 : tie.Need-returns-3
-unfolding stolen-lookup-refusal stolen-lookup-values
+unfolding stolen_lookup_refusal stolen_lookup_values
 returns-3 c =
     let e = c.before.before in
     let t = eq-eqb _ _ e.before.before.if1.false in
@@ -61,8 +61,8 @@ abbrev asked : tie.After-is-found → tie.Start
 asked f = start f.before.before.before.before
 
 passed : (f : tie.After-is-found) → let a = (asked f).args in
-    stolen-lookup-refusal a.tabulation.now a.words.now a.station a.key ≡ done
-unfolding stolen-lookup-refusal
+    stolen_lookup_refusal a.tabulation.now a.words.now a.station a.key ≡ done
+unfolding stolen_lookup_refusal
 passed f =
     let b = f.before.before in
     let e = b.before.before in
@@ -70,11 +70,11 @@ passed f =
     rw (t, shaped e, sym b.before.is-blank.ensures ∙ b.if3.false)
 
 told : (f : tie.After-is-found) → let a = (asked f).args in
-    stolen-lookup-values a.tabulation.now a.words.now a.station a.key ≡ says f.is_found.result
+    stolen_lookup_values a.tabulation.now a.words.now a.station a.key ≡ says f.is_found.result
 unfolding look
 told f =
     let a = (asked f).args in
-    lookup-accepted a.tabulation.now a.words.now a.station a.key (passed f)
+    lookup_accepted a.tabulation.now a.words.now a.station a.key (passed f)
     ∙ ap says (sym (rw f.before.start_of_lem.ensures.0 at f.is_found.ensures))
 
 returns-4 : tie.Need-returns-4

@@ -20,7 +20,7 @@ pub returns-then-not-in_range : goal.returns-then-not-in_range
 unfolding hashes_refusal hashes_values
 returns-then-not-in_range c =
     let t = eq-eqb _ _ c.if-tabulation-ne-TABULATION_LENGTH.false in
-    let u = sym c.in_range.ensures ∙ not-true _ c.if-not-in_range.true in
+    let u = sym c.in_range.ensures ∙ c.if-not-in_range.true in
     record {
         numbered = simp (t, u);
         valued = simp (t, u);
@@ -30,8 +30,8 @@ pub returns-then-not-is_station : goal.returns-then-not-is_station
 unfolding hashes_refusal hashes_values
 returns-then-not-is_station c =
     let t = eq-eqb _ _ c.if-tabulation-ne-TABULATION_LENGTH.false in
-    let u = sym c.in_range.ensures ∙ not-false _ c.if-not-in_range.false in
-    let v = sym c.is_station.ensures ∙ not-true _ c.if-not-is_station.true in
+    let u = sym c.in_range.ensures ∙ c.if-not-in_range.false in
+    let v = sym c.is_station.ensures ∙ c.if-not-is_station.true in
     record {
         numbered = simp (t, u, v);
         valued = simp (t, u, v);
@@ -41,8 +41,8 @@ pub returns-then-is_blank : goal.returns-then-is_blank
 unfolding hashes_refusal hashes_values
 returns-then-is_blank c =
     let full : length c.args.tabulation.now ≡ tabulation_length = c.if-tabulation-ne-TABULATION_LENGTH.false in
-    let ranged : slots_in_range c.args.r ≡ true = sym c.in_range.ensures ∙ not-false _ c.if-not-in_range.false in
-    let placed : station_in_range c.args.station ≡ true = sym c.is_station.ensures ∙ not-false _ c.if-not-is_station.false in
+    let ranged : slots_in_range c.args.r ≡ true = sym c.in_range.ensures ∙ c.if-not-in_range.false in
+    let placed : station_in_range c.args.station ≡ true = sym c.is_station.ensures ∙ c.if-not-is_station.false in
     let t = eq-eqb _ _ (full) in
     let v = sym c.is_blank.ensures ∙ c.if-is_blank.true in
     record {
@@ -53,25 +53,25 @@ returns-then-is_blank c =
 pub hash_in-requires : goal.hash_in-requires
 hash_in-requires c =
     let can-hash : Hashing c.args.tabulation.now c.args.r c.args.station = let full : length c.args.tabulation.now ≡ tabulation_length = c.if-tabulation-ne-TABULATION_LENGTH.false in
-    let ranged : slots_in_range c.args.r ≡ true = sym c.in_range.ensures ∙ not-false _ c.if-not-in_range.false in
-    let placed : station_in_range c.args.station ≡ true = sym c.is_station.ensures ∙ not-false _ c.if-not-is_station.false in
+    let ranged : slots_in_range c.args.r ≡ true = sym c.in_range.ensures ∙ c.if-not-in_range.false in
+    let placed : station_in_range c.args.station ≡ true = sym c.is_station.ensures ∙ c.if-not-is_station.false in
     hashing (full) (ranged) (placed) in
-    (can-hash.before, search rules)
+    (can-hash, search rules)
 
 pub hash_in-requires-2 : goal.hash_in-requires-2
 hash_in-requires-2 c =
     let can-hash : Hashing c.args.tabulation.now c.args.r c.args.station = let full : length c.args.tabulation.now ≡ tabulation_length = c.if-tabulation-ne-TABULATION_LENGTH.false in
-    let ranged : slots_in_range c.args.r ≡ true = sym c.in_range.ensures ∙ not-false _ c.if-not-in_range.false in
-    let placed : station_in_range c.args.station ≡ true = sym c.is_station.ensures ∙ not-false _ c.if-not-is_station.false in
+    let ranged : slots_in_range c.args.r ≡ true = sym c.in_range.ensures ∙ c.if-not-in_range.false in
+    let placed : station_in_range c.args.station ≡ true = sym c.is_station.ensures ∙ c.if-not-is_station.false in
     hashing (full) (ranged) (placed) in
-    (can-hash.before.before, search rules)
+    (can-hash, search rules)
 
 pub returns : goal.returns
 unfolding hashes_refusal hashes_values
 returns c =
     let full : length c.args.tabulation.now ≡ tabulation_length = c.if-tabulation-ne-TABULATION_LENGTH.false in
-    let ranged : slots_in_range c.args.r ≡ true = sym c.in_range.ensures ∙ not-false _ c.if-not-in_range.false in
-    let placed : station_in_range c.args.station ≡ true = sym c.is_station.ensures ∙ not-false _ c.if-not-is_station.false in
+    let ranged : slots_in_range c.args.r ≡ true = sym c.in_range.ensures ∙ c.if-not-in_range.false in
+    let placed : station_in_range c.args.station ≡ true = sym c.is_station.ensures ∙ c.if-not-is_station.false in
     let t = eq-eqb _ _ (full) in
     let v = sym c.is_blank.ensures ∙ c.if-is_blank.false in
     record {

@@ -1,0 +1,12 @@
+-- `linking::set_size` meets its contract: the sets are lent whole.
+use Rattle.build.specs.Access.{sets_part, part_lent}
+use borrow.Author.Rules.{rules}
+use Rattle.linking.proofs.set_size.Goals as goal
+
+pub size-requires : goal.size-requires
+size-requires c =
+    (search rules, rw (part_lent (sets_part c.requires.0) c.sets_start-start.ensures c.next_start-end.ensures) c.requires.1)
+
+pub returns : goal.returns
+returns c =
+    cc (c.size.ensures, part_lent (sets_part c.requires.0) c.sets_start-start.ensures c.next_start-end.ensures)
