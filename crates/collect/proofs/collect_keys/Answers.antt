@@ -1,0 +1,22 @@
+-- `collect_keys` meets its contract: what is gathered has room in scratch, and the set of it is `keys_in`. Assumes nothing.
+use Prim.Native.Nat.{◌<◌}
+use native.Mathlib.Omega.{arith}
+use lib.ListN.{length, length-take, length-drop}
+use Rattle.layout.specs.Layout.{key_words, keys_in}
+use Rattle.collect.specs.Collect.{non_blank, gathered_few, collected}
+use borrow.Author.Rules.{rules}
+use Rattle.collect.proofs.collect_keys.Goals as goal
+
+pub make_set-requires : goal.make_set-requires
+make_set-requires c =
+    let few : c.gather_keys-n.result < length c.gather_keys-n.new.1.0 = omega (arith, gathered_few c.args.words.now c.requires.0) in
+    let h = few in simp (length-take, length-drop) (omega arith)
+
+pub returns : goal.returns
+unfolding keys_in
+returns c =
+    let few : c.gather_keys-n.result < length c.gather_keys-n.new.1.0 = omega (arith, gathered_few c.args.words.now c.requires.0) in
+    let m = c.make_set in
+ let all = collected (non_blank (key_words c.args.words.now)) c.gather_keys-n.new.1.0 c.gather_keys-n.result
+    (few) c.gather_keys-n.ensures.front
+    m.new.0 m.result m.auto.0 m.ensures.1 m.ensures.0 in record { front = all.0; counted = all.1 }
