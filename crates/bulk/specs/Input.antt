@@ -82,6 +82,8 @@ pub entry_tier : (input : List ℕ) {x : Entry} → In x (input_set input) → I
 unfolding input_tiers input_set
 entry_tier (c ∷ t ∷ ws) (here q) = here (ap (λ (y : Entry). y.tier) q)
 entry_tier (c ∷ t ∷ ws) (there i) = there (entry_tier ws i)
+entry_tier [] x5 = elim x5 [ ]
+entry_tier (c ∷ []) x9 = elim x9 [ ]
 
 -- the tier of key i, where the keys ascend
 pub tier_given : (input : List ℕ) → Asc (input_keys input) → (i : ℕ) → i < length (input_tiers input)

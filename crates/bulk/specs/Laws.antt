@@ -102,6 +102,12 @@ pub bulk_any_scratch : (P : Params) (input ws scratch sheet : List ℕ) → leng
 unfolding bulk_outcome
 bulk_any_scratch P input ws scratch sheet e = rw e
 
+-- of eight refusals of which none applies, the first three, the next four, and the last
+none_parts : {p q r s t u v w : ℕ × Bool} → None (p ∷ q ∷ r ∷ s ∷ t ∷ u ∷ v ∷ w ∷ [])
+    → None (p ∷ q ∷ r ∷ []) × (None (s ∷ t ∷ u ∷ v ∷ []) × (w.1 ≡ false))
+none_parts (and a (and b (and c (and d (and f (and g (and h (and i none)))))))) =
+    (and a (and b (and c none)), (and d (and f (and g (and h none))), i))
+
 -- The rows, "each over the whole input": where the target passes, a blank key anywhere is 5, and so on.
 module _ (P : Params) (input : List ℕ) (n m : ℕ) where
   -- 1, 2 and 3: the tests of the target, before any of the input
@@ -164,12 +170,8 @@ module _ (P : Params) (input : List ℕ) (n m : ℕ) where
       → Layable P n m × (SoundInput input × (fits P (input_keys input) ≡ true))
   unfolding bulk_refusal
   bulk_passed e =
-      elim (front_none (target_refusals P n m ++ (input_refusals input ++ room_refusals P input)) [] e refl) [
-        | and a (and b (and c (and d (and f (and g (and h (and i none))))))) ↦ (
-          none_layable P n m (and a (and b (and c none))),
-          (none_sound input (and d (and f (and g (and h none)))), not-false _ i),
-        )
-      ]
+      let parts = none_parts (front_none (target_refusals P n m ++ (input_refusals input ++ room_refusals P input)) [] e refl) in
+      (none_layable P n m parts.0, (none_sound input parts.1.0, not-false _ parts.1.1))
 
 -- Accepted, the target holds the set that the input is: demand 2 of this call.
 module _ (P : Params) (input ws scratch : List ℕ) (e : (bulk_outcome P input ws scratch).answer ≡ done) where

@@ -12,8 +12,10 @@ ghost use Rattle.layout.specs.Shape.{Sized};
 use counters::Counters;
 use grammar::{LONGEST, Line, NEWLINE, Sizes};
 use layout::{MAX_SCRATCH, MAX_WORDS};
-use libc::STDIN_FILENO;
 use ranges::TABULATION_LENGTH;
+use std::fs::File;
+use std::io::Read;
+use std::rt::Files;
 
 // The bytes of a book.
 const BOOK_BYTES: usize = 5120;
@@ -27,16 +29,14 @@ enum Byte {
 
 // Reads book.bin, and says whether it could be read and has as many bytes as a book: one byte more would be a longer
 // file.
-fn read_book(bytes: &mut [u8; BOOK_BYTES]) -> bool {
-    let file = os::open_read(b"book.bin");
-    if file < 0 {
+fn read_book(rt: &impl Files, bytes: &mut [u8; BOOK_BYTES]) -> bool {
+    let Ok(mut file) = File::open(rt, "book.bin") else {
         return false;
-    }
+    };
     let mut more = [0u8; 1];
-    let n = io::read_full(file, bytes);
-    let rest = io::read_full(file, &mut more);
-    libc::close(file);
-    n == BOOK_BYTES && rest == 0
+    let full = file.read_exact(bytes).is_ok();
+    let rest = file.read(&mut more).unwrap_or(0);
+    full && rest == 0
 }
 
 fn decode(bytes: &[u8; BOOK_BYTES], tabulation: &mut [u16; TABULATION_LENGTH])
@@ -45,10 +45,10 @@ fn decode(bytes: &[u8; BOOK_BYTES], tabulation: &mut [u16; TABULATION_LENGTH])
     book::decode(bytes, tabulation);
 }
 
-fn read_byte() -> Byte {
+// A read that fails ends the input.
+fn read_byte(input: &mut impl Read) -> Byte {
     let mut byte = [0u8; 1];
-    let n = io::read_full(STDIN_FILENO, &mut byte);
-    if n == 0 {
+    if input.read_exact(&mut byte).is_err() {
         return Byte::End;
     }
     Byte::Read(byte[0])
@@ -56,11 +56,11 @@ fn read_byte() -> Byte {
 
 // Line 1. It is read byte by byte, so that nothing behind it is taken, and no further than to see that it is too long
 // for a known form.
-fn first_line() -> Line {
+fn first_line(input: &mut impl Read) -> Line {
     let mut line = lines::empty_line();
     let mut i = 0;
     while i <= LONGEST {
-        let read = read_byte();
+        let read = read_byte(&mut *input);
         let Byte::Read(byte) = read else {
             return line;
         };
@@ -74,25 +74,44 @@ fn first_line() -> Line {
 }
 
 // The run on words of the right length: they are laid fresh, the lines are answered, and the listing follows.
-fn run(tabulation: &[u16], words: &mut [u32], scratch: &mut [u32], r: u32, s: u32, station: u32) {
+fn run(
+    rt: &(impl Print + Eprint + Alloc),
+    input: &mut impl Read,
+    tabulation: &[u16],
+    words: &mut [u32],
+    scratch: &mut [u32],
+    r: u32,
+    s: u32,
+    station: u32,
+) {
     let none = Counters {
         done: 0,
         refused: 0,
     };
     let laid = counting::init(&mut *words, r, s, station, none);
     if laid.answer != 0 {
-        printing::print_no_sizes();
+        printing::print_no_sizes(rt);
         return;
     }
     let counters = laid.counters;
     let mut out = [0u8; printing::ROOM];
-    let rows = session::serve(tabulation, &mut *words, &mut *scratch, &mut out, counters);
-    let end = printing::listing::list(&*words, &mut out, rows);
-    printing::flush(&out, end);
+    let rows = session::serve(
+        rt,
+        input,
+        tabulation,
+        &mut *words,
+        &mut *scratch,
+        &mut out,
+        counters,
+    );
+    let end = printing::listing::list(rt, &*words, &mut out, rows);
+    printing::flush(rt, &out, end);
 }
 
 // The run on as many of the words as these sizes need.
 fn run_part(
+    rt: &(impl Print + Eprint + Alloc),
+    input: &mut impl Read,
     tabulation: &[u16],
     words: &mut [u32],
     scratch: &mut [u32],
@@ -103,32 +122,58 @@ fn run_part(
     requires { Sized r s × (words_length r s ≤ length words.old) }
 {
     let end = access::length_for(r, s);
-    run(tabulation, &mut words[..end], scratch, r, s, station);
+    run(
+        rt,
+        input,
+        tabulation,
+        &mut words[..end],
+        scratch,
+        r,
+        s,
+        station,
+    );
 }
 
 // Words and scratch for the largest sizes. Whether there is such a station is left to init.
-fn run_sized(tabulation: &[u16; TABULATION_LENGTH], r: u32, s: u32, station: u32) {
+fn run_sized(
+    rt: &(impl Print + Eprint + Alloc),
+    input: &mut impl Read,
+    tabulation: &[u16; TABULATION_LENGTH],
+    r: u32,
+    s: u32,
+    station: u32,
+) {
     if !access::are_sizes(r, s) {
-        printing::print_no_sizes();
+        printing::print_no_sizes(rt);
         return;
     }
     let mut words = [0u32; MAX_WORDS];
     let mut scratch = [0u32; MAX_SCRATCH];
-    run_part(tabulation, &mut words, &mut scratch, r, s, station);
+    run_part(
+        rt,
+        input,
+        tabulation,
+        &mut words,
+        &mut scratch,
+        r,
+        s,
+        station,
+    );
 }
 
-fn main() {
+fn main(rt: HostRuntime) {
     let mut bytes = [0u8; BOOK_BYTES];
-    if !read_book(&mut bytes) {
-        printing::print_no_book();
+    if !read_book(&rt, &mut bytes) {
+        printing::print_no_book(&rt);
         return;
     }
     let mut tabulation = [0u16; TABULATION_LENGTH];
     decode(&bytes, &mut tabulation);
-    let sizes = lines::sizes_in(first_line());
+    let mut input = rt.stdin();
+    let sizes = lines::sizes_in(first_line(&mut input));
     let Sizes::Given(r, s, station) = sizes else {
-        printing::print_no_sizes();
+        printing::print_no_sizes(&rt);
         return;
     };
-    run_sized(&tabulation, r, s, station);
+    run_sized(&rt, &mut input, &tabulation, r, s, station);
 }

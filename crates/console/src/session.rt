@@ -6,9 +6,12 @@ ghost use Rattle.printing.specs.Room.{room};
 
 use counters::Counters;
 use grammar::{Command, Line, NEWLINE};
-use libc::STDIN_FILENO;
 use outcome::Change;
 use printing::{ROOM, Rows};
+use std::io::Read;
+
+// The bytes that a read of the input takes at most.
+const PIECE: usize = 65536;
 
 // What the lines so far left behind: the counters, and their rows.
 #[derive(Drop)]
@@ -34,6 +37,7 @@ struct Took {
 
 // Insert or remove.
 fn change(
+    rt: &(impl Print + Eprint + Alloc),
     kind: Change,
     tabulation: &[u16],
     words: &mut [u32],
@@ -48,19 +52,26 @@ fn change(
     let before = done.counters;
     let counted = counting::update(kind, tabulation, words, scratch, key, before);
     let counters = counted.counters;
-    let rows = printing::add_change(out, done.rows, kind, key, counted.answer);
+    let rows = printing::add_change(rt, out, done.rows, kind, key, counted.answer);
     Done {
         counters: counters,
         rows: rows,
     }
 }
 
-fn lookup(tabulation: &[u16], words: &[u32], out: &mut [u8; ROOM], key: u32, done: Done) -> Done
+fn lookup(
+    rt: &(impl Print + Eprint + Alloc),
+    tabulation: &[u16],
+    words: &[u32],
+    out: &mut [u8; ROOM],
+    key: u32,
+    done: Done,
+) -> Done
     requires { done.rows.at ≤ room }
     ensures { result.rows.at ≤ room }
 {
     let found = lookup::lookup(tabulation, words, key);
-    let rows = printing::add_lookup(out, done.rows, key, found);
+    let rows = printing::add_lookup(rt, out, done.rows, key, found);
     let counters = done.counters;
     Done {
         counters: counters,
@@ -68,11 +79,11 @@ fn lookup(tabulation: &[u16], words: &[u32], out: &mut [u8; ROOM], key: u32, don
     }
 }
 
-fn error(out: &mut [u8; ROOM], number: u64, done: Done) -> Done
+fn error(rt: &(impl Print + Eprint + Alloc), out: &mut [u8; ROOM], number: u64, done: Done) -> Done
     requires { done.rows.at ≤ room }
     ensures { result.rows.at ≤ room }
 {
-    let rows = printing::add_error(out, done.rows, number);
+    let rows = printing::add_error(rt, out, done.rows, number);
     let counters = done.counters;
     Done {
         counters: counters,
@@ -82,6 +93,7 @@ fn error(out: &mut [u8; ROOM], number: u64, done: Done) -> Done
 
 // A whole line.
 fn answer(
+    rt: &(impl Print + Eprint + Alloc),
     tabulation: &[u16],
     words: &mut [u32],
     scratch: &mut [u32],
@@ -96,6 +108,7 @@ fn answer(
     let command = lines::command_in(line);
     match command {
         Command::Insert(key, tier) => change(
+            rt,
             Change::Insert(tier),
             tabulation,
             words,
@@ -104,14 +117,24 @@ fn answer(
             key,
             done,
         ),
-        Command::Remove(key) => change(Change::Remove, tabulation, words, scratch, out, key, done),
-        Command::Lookup(key) => lookup(tabulation, &*words, out, key, done),
-        Command::Other => error(out, session.number, done),
+        Command::Remove(key) => change(
+            rt,
+            Change::Remove,
+            tabulation,
+            words,
+            scratch,
+            out,
+            key,
+            done,
+        ),
+        Command::Lookup(key) => lookup(rt, tabulation, &*words, out, key, done),
+        Command::Other => error(rt, out, session.number, done),
     }
 }
 
 // One byte of the input.
 fn take_byte(
+    rt: &(impl Print + Eprint + Alloc),
     tabulation: &[u16],
     words: &mut [u32],
     scratch: &mut [u32],
@@ -131,17 +154,19 @@ fn take_byte(
             done: done,
         };
     }
-    let done = answer(tabulation, words, scratch, out, session);
+    let number = session.number;
+    let done = answer(rt, tabulation, words, scratch, out, session);
     let line = lines::empty_line();
     Session {
         line: line,
-        number: lines::next_number(session.number),
+        number: lines::next_number(number),
         done: done,
     }
 }
 
 // A stretch of the input.
 fn take_bytes(
+    rt: &(impl Print + Eprint + Alloc),
     tabulation: &[u16],
     words: &mut [u32],
     scratch: &mut [u32],
@@ -156,6 +181,7 @@ fn take_bytes(
     let mut i = 0;
     while i < bytes.len() {
         session = take_byte(
+            rt,
             tabulation,
             &mut *words,
             &mut *scratch,
@@ -169,12 +195,12 @@ fn take_bytes(
 }
 
 // Writes the rows out, so that a person at the bench sees the answer to a line before typing the next.
-fn show(out: &[u8; ROOM], session: Session) -> Session
+fn show(rt: &(impl Print + Eprint + Alloc), out: &[u8; ROOM], session: Session) -> Session
     requires { session.done.rows.at ≤ room }
     ensures { result.done.rows.at ≤ room }
 {
     let done = session.done;
-    let rows = printing::flush(out, done.rows);
+    let rows = printing::flush(rt, out, done.rows);
     let counters = done.counters;
     let line = session.line;
     Session {
@@ -189,6 +215,8 @@ fn show(out: &[u8; ROOM], session: Session) -> Session
 
 // One read of the input. A read that fails ends it, and so do rows that are lost: nobody would see an answer.
 fn turn(
+    rt: &(impl Print + Eprint + Alloc),
+    input: &mut impl Read,
     tabulation: &[u16],
     words: &mut [u32],
     scratch: &mut [u32],
@@ -198,17 +226,24 @@ fn turn(
     requires { session.done.rows.at ≤ room }
     ensures { result.session.done.rows.at ≤ room }
 {
-    let mut bytes = io::large_buffer();
-    let got = libc::read(STDIN_FILENO, &mut bytes);
-    if got <= 0 {
+    let mut bytes = [0u8; PIECE];
+    let n = input.read(&mut bytes).unwrap_or(0);
+    if n == 0 {
         return Took {
             more: false,
             session: session,
         };
     }
-    let n = io::count(got, &bytes);
-    let next = take_bytes(tabulation, words, scratch, &mut *out, session, &bytes[..n]);
-    let shown = show(&*out, next);
+    let next = take_bytes(
+        rt,
+        tabulation,
+        words,
+        scratch,
+        &mut *out,
+        session,
+        &bytes[..n],
+    );
+    let shown = show(rt, &*out, next);
     Took {
         more: !shown.done.rows.lost,
         session: shown,
@@ -218,6 +253,8 @@ fn turn(
 // The input to its end, or until rows are lost. Nothing says that an input ends, so the turns are counted down from a
 // number that no run uses up.
 fn take_input(
+    rt: &(impl Print + Eprint + Alloc),
+    input: &mut impl Read,
     tabulation: &[u16],
     words: &mut [u32],
     scratch: &mut [u32],
@@ -230,7 +267,15 @@ fn take_input(
     let mut session = start;
     let mut turns = u64::MAX;
     while turns > 0 {
-        let took = turn(tabulation, &mut *words, &mut *scratch, &mut *out, session);
+        let took = turn(
+            rt,
+            &mut *input,
+            tabulation,
+            &mut *words,
+            &mut *scratch,
+            &mut *out,
+            session,
+        );
         session = took.session;
         if !took.more {
             return session;
@@ -243,6 +288,8 @@ fn take_input(
 // The lines from line 2 on, the last one with or without its newline. Where rows are lost, what is taken for the last
 // one may be a part of a line: its row is not written.
 pub fn serve(
+    rt: &(impl Print + Eprint + Alloc),
+    input: &mut impl Read,
     tabulation: &[u16],
     words: &mut [u32],
     scratch: &mut [u32],
@@ -262,12 +309,25 @@ pub fn serve(
         number: 2,
         done: done,
     };
-    let session = take_input(tabulation, &mut *words, &mut *scratch, &mut *out, start);
-    let rest = session.line;
-    let before = session.done;
-    if lines::is_empty(rest) {
-        return before.rows;
+    let session = take_input(
+        rt,
+        input,
+        tabulation,
+        &mut *words,
+        &mut *scratch,
+        &mut *out,
+        start,
+    );
+    if lines::is_empty(session.line) {
+        return session.done.rows;
     }
-    let last = answer(tabulation, &mut *words, &mut *scratch, &mut *out, session);
+    let last = answer(
+        rt,
+        tabulation,
+        &mut *words,
+        &mut *scratch,
+        &mut *out,
+        session,
+    );
     last.rows
 }

@@ -42,7 +42,7 @@ pub enum Command {
 
 // The bytes of the current line so far, up to the longest line of a known form, and how many there are, up to one more
 // than that.
-#[derive(Drop)]
+#[derive(Clone, Copy)]
 pub struct Line {
     pub bytes: [u8; LONGEST],
     pub count: usize,

@@ -5,6 +5,11 @@
 ghost use Rattle.std.specs.Prelude.{◌≡◌, true, length};
 ghost use Rattle.book.specs.Bytes.{bytes_of};
 
+use std::fs::{File, OpenFile};
+use std::io::{ErrorKind, Read, Write};
+use std::rt::Files;
+use std::{fs, io};
+
 // The bytes of a book.
 const BOOK_BYTES: usize = 5120;
 
@@ -38,55 +43,80 @@ fn same_book(one: &[u8; BOOK_BYTES], other: &[u8; BOOK_BYTES]) -> bool
 }
 
 // Whether an open file has these bytes and no more. One byte more would be a longer file.
-fn holds(file: i32, bytes: &[u8; BOOK_BYTES]) -> bool {
+fn holds(file: &mut impl Read, bytes: &[u8; BOOK_BYTES]) -> bool {
     let mut found = [0u8; BOOK_BYTES];
     let mut more = [0u8; 1];
-    let n = io::read_full(file, &mut found);
-    let rest = io::read_full(file, &mut more);
-    n == BOOK_BYTES && rest == 0 && same_book(&found, bytes)
+    let full = file.read_exact(&mut found).is_ok();
+    let rest = file.read(&mut more).unwrap_or(0);
+    full && rest == 0 && same_book(&found, bytes)
+}
+
+// The system's text of an error, without its number.
+fn system_text(told: &str) -> &str {
+    match told.split_once(" (os error ") {
+        Some((text, _)) => text,
+        None => told,
+    }
+}
+
+// Says on standard error what failed, and the system's text of it; with its number where no memory is left. If that
+// cannot be said either, nothing is left to say it on.
+fn fail(rt: &(impl Eprint + Alloc), path: &str, error: io::Error) {
+    let _ = match format!(in rt.alloc(); "{error}") {
+        Ok(told) => eprintln!(rt; "{path}: {}", system_text(&told)),
+        Err(_) => eprintln!(rt; "{path}: {error}"),
+    };
 }
 
 // What to say of a book.bin that is there: nothing, if it has these bytes.
-fn compare(path: &[u8], bytes: &[u8; BOOK_BYTES]) {
-    let file = os::open_read(path);
-    if file < 0 {
-        os::fail(path);
-        return;
-    }
-    if !holds(file, bytes) {
-        io::write_all(libc::STDERR_FILENO, path);
-        io::write_all(
-            libc::STDERR_FILENO,
-            b": is there and is not the house book, left as it is\n",
-        );
-    }
-    libc::close(file);
-}
-
-// Fills the new file. One that could not be filled is taken away again, since the next run would leave it as it is. A
-// file system may say only at the close that bytes are lost.
-fn fill(file: i32, path: &[u8], bytes: &[u8; BOOK_BYTES]) {
-    if !io::write_all(file, bytes) || libc::close(file) < 0 {
-        os::fail(path);
-        os::unlink(path);
+fn compare(rt: &(impl Files + Eprint + Alloc), path: &str, bytes: &[u8; BOOK_BYTES]) {
+    match File::open(rt, path) {
+        Ok(mut file) => {
+            if !holds(&mut file, bytes) {
+                let _ = eprintln!(rt; "{path}: is there and is not the house book, left as it is");
+            }
+        }
+        Err(error) => fail(rt, path, error),
     }
 }
 
-fn save(bytes: &[u8; BOOK_BYTES]) {
-    let path = b"book.bin";
-    let file = os::create(path);
-    if file >= 0 {
-        fill(file, path, bytes);
-    } else if os::errno() == libc::EEXIST {
-        compare(path, bytes);
-    } else {
-        os::fail(path);
+// Writes the bytes into the new file. A file system may say only at the end that bytes are lost, and the close says
+// nothing, so the file is synced.
+fn write_out(file: &mut (impl Write + OpenFile), bytes: &[u8; BOOK_BYTES]) -> io::Result<()> {
+    file.write_all(bytes)?;
+    file.sync_all()
+}
+
+// Fills the new file. One that could not be filled is taken away again, since the next run would leave it as it is.
+fn fill<R: Files + Eprint + Alloc>(
+    rt: &R,
+    mut file: R::File,
+    path: &str,
+    bytes: &[u8; BOOK_BYTES],
+) {
+    if let Err(error) = write_out(&mut file, bytes) {
+        fail(rt, path, error);
+        let _ = fs::remove_file(rt, path);
     }
 }
 
-fn main() {
+fn save(rt: &(impl Files + Eprint + Alloc), bytes: &[u8; BOOK_BYTES]) {
+    let path = "book.bin";
+    match File::create_new(rt, path) {
+        Ok(file) => fill(rt, file, path, bytes),
+        Err(error) => {
+            if error.kind() == ErrorKind::AlreadyExists {
+                compare(rt, path, bytes);
+            } else {
+                fail(rt, path, error);
+            }
+        }
+    }
+}
+
+fn main(rt: HostRuntime) {
     let tabulation = house::house_tabulation();
     let mut bytes = [0u8; BOOK_BYTES];
     encode(&tabulation, &mut bytes);
-    save(&bytes);
+    save(&rt, &bytes);
 }

@@ -28,8 +28,8 @@ pub fn empty_line() -> Line
 pub fn feed(line: Line, byte: u8) -> Line
     ensures { (l : List ℕ) → Buffers line l → Buffers result (l ++ (byte ∷ [])) }
 {
-    let count = line.count;
     let mut next = line;
+    let count = line.count;
     if count < LONGEST {
         next.bytes[count] = byte;
         next.count = count + 1;

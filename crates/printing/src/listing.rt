@@ -8,18 +8,31 @@ use layout::{PLACE_WIDTH, SLOT_WIDTH, Slot};
 use words::wide;
 
 // One slot, if it is filled.
-fn list_slot(out: &mut [u8; ROOM], rows: Rows, table: u32, slot: u32, held: Slot) -> Rows
+fn list_slot(
+    rt: &(impl Print + Eprint + Alloc),
+    out: &mut [u8; ROOM],
+    rows: Rows,
+    table: u32,
+    slot: u32,
+    held: Slot,
+) -> Rows
     requires { rows.at ≤ room }
     ensures { result.at ≤ room }
 {
     if held.key == 0 {
         return rows;
     }
-    crate::add_slot(out, rows, table, slot, held.key, held.next, held.tier)
+    crate::add_slot(rt, out, rows, table, slot, held.key, held.next, held.tier)
 }
 
 // The filled slots of one table.
-fn list_table(slots: &[u32], table: u32, out: &mut [u8; ROOM], start: Rows) -> Rows
+fn list_table(
+    rt: &(impl Print + Eprint + Alloc),
+    slots: &[u32],
+    table: u32,
+    out: &mut [u8; ROOM],
+    start: Rows,
+) -> Rows
     requires { (length slots.now ≤ 3072) × (start.at ≤ room) }
     ensures { result.at ≤ room }
 {
@@ -28,14 +41,19 @@ fn list_table(slots: &[u32], table: u32, out: &mut [u8; ROOM], start: Rows) -> R
     let mut slot: u32 = 0;
     while wide(slot) < count {
         let held = access::slot_in(slots, wide(slot));
-        rows = list_slot(&mut *out, rows, table, slot, held);
+        rows = list_slot(rt, &mut *out, rows, table, slot, held);
         slot += 1;
     }
     rows
 }
 
 // The filled places of the stash.
-fn list_stash(places: &[u32], out: &mut [u8; ROOM], start: Rows) -> Rows
+fn list_stash(
+    rt: &(impl Print + Eprint + Alloc),
+    places: &[u32],
+    out: &mut [u8; ROOM],
+    start: Rows,
+) -> Rows
     requires { start.at ≤ room }
     ensures { result.at ≤ room }
 {
@@ -44,6 +62,7 @@ fn list_stash(places: &[u32], out: &mut [u8; ROOM], start: Rows) -> Rows
     let mut i = 0;
     while i < count {
         rows = crate::add_stashed(
+            rt,
             &mut *out,
             rows,
             places[PLACE_WIDTH * i],
@@ -55,22 +74,32 @@ fn list_stash(places: &[u32], out: &mut [u8; ROOM], start: Rows) -> Rows
 }
 
 // The slots of both tables, then the stash.
-fn list_words(words: &[u32], out: &mut [u8; ROOM], start: Rows) -> Rows
+fn list_words(
+    rt: &(impl Print + Eprint + Alloc),
+    words: &[u32],
+    out: &mut [u8; ROOM],
+    start: Rows,
+) -> Rows
     requires { Shaped words.now × (start.at ≤ room) }
     ensures { result.at ≤ room }
 {
-    let second = list_table(access::table_0(words), 0, &mut *out, start);
-    let third = list_table(access::table_1(words), 1, &mut *out, second);
-    list_stash(lookup::stash(words), &mut *out, third)
+    let second = list_table(rt, access::table_0(words), 0, &mut *out, start);
+    let third = list_table(rt, access::table_1(words), 1, &mut *out, second);
+    list_stash(rt, lookup::stash(words), &mut *out, third)
 }
 
 // Words that do not have the shape of a dictionary have no listing.
-pub fn list(words: &[u32], out: &mut [u8; ROOM], start: Rows) -> Rows
+pub fn list(
+    rt: &(impl Print + Eprint + Alloc),
+    words: &[u32],
+    out: &mut [u8; ROOM],
+    start: Rows,
+) -> Rows
     requires { start.at ≤ room }
     ensures { result.at ≤ room }
 {
     if access::is_shaped(words) {
-        return list_words(words, out, start);
+        return list_words(rt, words, out, start);
     }
     start
 }

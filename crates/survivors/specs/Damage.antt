@@ -391,6 +391,7 @@ module _ {P : Params} {L : List Entry} {ws : List ℕ} (h : Holds P L ws) (vs : 
       → (x : Spot) × In x Z × (word_of x.at ≡ w)
   from_words (x ∷ Z) (here q) = (x, here refl, sym q)
   from_words (x ∷ Z) (there i) = let r = from_words Z i in (r.0, there r.1, r.2)
+  from_words [] {w = w} x' = elim x' [ ]
 
   slots_ascend : (v n : ℕ) (M : List ℕ) → Asc M → ((w : ℕ) → In w M → key_at (v + n) ≤ w)
       → Asc (map (λ (x : Spot). word_of x.at) (slot_spots vs v n) ++ M)

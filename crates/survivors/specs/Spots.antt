@@ -52,6 +52,7 @@ in_place_spots i (e ∷ L) (there k) =
     let r = in_place_spots (suc i) L k in
     let z : i + suc r.0 ≡ suc i + r.0 = omega arith in
     (suc r.0, omega (arith, r.1), rw z r.2)
+in_place_spots i [] x3 = elim x3 [ ]
 
 place_spots_in : (i : ℕ) (L : List Entry) (j : ℕ) → j < length L
     → In (record { at = place (i + j); entry = get_or L j no_entry }) (place_spots i L)

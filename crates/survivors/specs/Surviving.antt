@@ -64,10 +64,12 @@ standing_in (y ∷ X) c i e = elim (eq? (first_part (spot_key y)) (first_part c)
     | there j ↦ let r = standing_in X c j e in rw (ne_eqb _ _ n) (there r.0, r.1)
   ]
 ]
+standing_in [] c i e = elim i [ ]
 
 from_spots : (X : List Spot) {c : ℕ} → In c (map spot_key X) → (x : Spot) × In x X × (spot_key x ≡ c)
 from_spots (x ∷ X) (here q) = (x, here refl, sym q)
 from_spots (x ∷ X) (there i) = let r = from_spots X i in (r.0, there r.1, r.2)
+from_spots [] {c = c} x' = elim x' [ ]
 
 -- a key that stands
 module _ (X : List Spot) where

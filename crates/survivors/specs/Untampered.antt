@@ -88,6 +88,7 @@ module _ (tabulation ws : List ℕ) {L : List Entry} (valid : ValidSet L) where
 entry_at : (L : List Entry) {e : Entry} → In e L → (i : ℕ) × (i < length L) × (get_or L i no_entry ≡ e)
 entry_at (f ∷ L) (here q) = (0, omega arith, sym q)
 entry_at (f ∷ L) (there i) = let r = entry_at L i in (suc r.0, omega (arith, r.1), r.2)
+entry_at [] {e = e} x' = elim x' [ ]
 
 at_entry : (L : List Entry) (i : ℕ) → i < length L → In (get_or L i no_entry) L
 at_entry [] i l = absurd (omega arith)

@@ -9,14 +9,14 @@ use Rattle.collect.proofs.collect_keys.Goals as goal
 
 pub make_set-requires : goal.make_set-requires
 make_set-requires c =
-    let few : c.gather_keys-n.result < length c.gather_keys-n.new.1.0 = omega (arith, gathered_few c.args.words.now c.requires.0) in
+    let few : c.gather_keys-n.result < length c.gather_keys-n.new.scratch = omega (arith, gathered_few c.args.words.now c.requires.0) in
     let h = few in simp (length-take, length-drop) (omega arith)
 
 pub returns : goal.returns
 unfolding keys_in
 returns c =
-    let few : c.gather_keys-n.result < length c.gather_keys-n.new.1.0 = omega (arith, gathered_few c.args.words.now c.requires.0) in
+    let few : c.gather_keys-n.result < length c.gather_keys-n.new.scratch = omega (arith, gathered_few c.args.words.now c.requires.0) in
     let m = c.make_set in
- let all = collected (non_blank (key_words c.args.words.now)) c.gather_keys-n.new.1.0 c.gather_keys-n.result
+    let all = collected (non_blank (key_words c.args.words.now)) c.gather_keys-n.new.scratch c.gather_keys-n.result
     (few) c.gather_keys-n.ensures.front
-    m.new.0 m.result m.auto.0 m.ensures.1 m.ensures.0 in record { front = all.0; counted = all.1 }
+    m.new.keys m.result m.auto.keys m.ensures.counted m.ensures.front in record { front = all.0; counted = all.1 }

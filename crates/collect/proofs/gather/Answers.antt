@@ -38,4 +38,4 @@ returns c =
     let l = c.loop-left in
     let e = l.invariant.3 ∙ gathering_end a.words.now a.step l.scratch l.end l.at l.left (omega arith) in
     let xs = non_blank (picked a.words.now a.from a.step a.count) in
- let all = gathered_ends a.scratch.now l.scratch xs e (omega arith) (omega arith) in record { front = all.0; counted = all.1 }
+    let all = gathered_ends a.scratch.now l.scratch xs e (omega arith) (omega arith) in record { front = all.0; counted = all.1 }

@@ -21,12 +21,12 @@ pub gather-end-requires : goal.gather-end-requires
 gather-end-requires c =
     let h = same_header c.read_header-header.ensures in
     let l = non_blank_few c.args.words.now header_length slot_width (2 * c.wide.result) in
-    let e = simp length-set at c.gather-n.auto.1.1.1.1.0 in
+    let e = simp length-set at c.gather-n.auto.scratch in
     (search rules, omega arith, omega arith)
 
 pub shape_of-scratch : goal.shape_of-scratch
 shape_of-scratch c =
-    let e = simp length-set at c.gather-n.auto.1.1.1.1.0 in
+    let e = simp length-set at c.gather-n.auto.scratch in
     search (rules, e)
 
 pub returns : goal.returns
@@ -34,5 +34,5 @@ returns c =
     let h = same_header c.read_header-header.ensures in
     let f = rw (c.wide.ensures ∙ h.slots) at c.gather-n.ensures in
     let e = c.wide-2.ensures ∙ h.places in
-    let g = rw (c.stash_start.ensures ∙ ap stash_at h.slots, e, f.0) at c.gather-end.ensures in
- let all = gathered_front c.args.words.now c.requires.0 c.args.scratch.now _ c.gather-end.result (omega arith) g.0 (omega (arith, f.1, g.1)) in record { front = all.0; counted = all.1 }
+    let g = rw (c.stash_start.ensures ∙ ap stash_at h.slots, e, f.front) at c.gather-end.ensures in
+    let all = gathered_front c.args.words.now c.requires.0 c.args.scratch.now _ c.gather-end.result (omega arith) g.front (omega (arith, f.counted, g.counted)) in record { front = all.0; counted = all.1 }

@@ -8,7 +8,6 @@ use lib.ListN.{length, drop}
 use Rattle.layout.specs.Layout.{header_length, slot_width}
 use Rattle.image.specs.Rows.{slots_alike_next, slots_alike_none}
 use Rattle.image.specs.Ranks.{ranked_slots_alike}
-use Rattle.image.proofs.same_slots.Invariants.{start, next, turn}
 use Rattle.image.proofs.same_slots.Goals as goal
 
 pub loop-v-init : goal.loop-v-init

@@ -9,9 +9,6 @@ use Rattle.lookup.proofs.in_stash.Goals as goal
 pub stash_start-start-requires : goal.stash_start-start-requires
 stash_start-start-requires c = let h = same_header c.read_header-header.ensures in search rules
 
-pub slice-bounds-find-place-end : goal.slice-bounds-find-place-end
-slice-bounds-find-place-end c = let h = same_header c.before.before.read-header.ensures in search rules
-
 pub find_place-requires : goal.find_place-requires
 find_place-requires c = let h = same_header c.read_header-header.ensures in search rules
 

@@ -54,7 +54,7 @@ returns-in_default c =
     let t = eq-eqb _ _ c.if-tabulation-ne-TABULATION_LENGTH.false in
     let v = sym c.is_blank.ensures ∙ c.if-is_blank.false in
     let f = slots_first a.tabulation.now a.words.now a.key c.in_slots-found.result c.in_slots-found.ensures.valued
-    (λ q. elim c.in_default.keys2 [ inl c ↦ omega (arith, ap (tag_of the_type) q) | inr c ↦ omega (arith, ap (tag_of the_type) q) ]) in
+    c.in_default.not-Absent in
     record {
         numbered = c.in_slots-found.ensures.numbered ∙ sym (simp (t, formed, v));
         valued = f ∙ sym (simp (t, formed, v));
@@ -72,7 +72,7 @@ returns c =
     let a = c.args in
     let t = eq-eqb _ _ c.if-tabulation-ne-TABULATION_LENGTH.false in
     let v = sym c.is_blank.ensures ∙ c.if-is_blank.false in
-    let f = slots_absent a.tabulation.now a.words.now a.key c.in_slots-found.result c.in_slots-found.ensures.valued c.enum_told-1.given.1 in
+    let f = slots_absent a.tabulation.now a.words.now a.key c.in_slots-found.result c.in_slots-found.ensures.valued c.in-Absent.is in
     record {
         numbered = c.in_stash.ensures.numbered ∙ sym (simp (t, formed, v));
         valued = c.in_stash.ensures.valued ∙ f ∙ sym (simp (t, formed, v));

@@ -22,9 +22,6 @@ stash_start-start-requires c =
     let accepted : view_refusal c.args.words.now ≡ 0 = sym c.stash_refusal.ensures ∙ c.if-stash_refusal-ne0.false in
     omega (arith, same_header c.read_header-header.ensures, viewed _ (accepted))
 
-pub slice-bounds-result-end-2 : goal.slice-bounds-result-end-2
-slice-bounds-result-end-2 c = omega (arith, same_header (read c).read-header.ensures, viewed _ (accepted (read c).before))
-
 pub returns : goal.returns
 unfolding view_of
 returns c =
