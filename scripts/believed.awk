@@ -1,32 +1,35 @@
-# Finds what a reader must believe, for scripts/sizes. Input: the files of specs/ and src/ of all crates. It begins with
-# the laws and definitions named in `roots`, by a name or by 'file:name', where a field stands for its record, and with
-# the contracts of the exported functions (`#[no_mangle]`), and follows every definition, record, data type, struct and
-# enum that a text cites, as far as the kit's library. Proofs are not followed: of a law only its statement counts, of a
-# definition its declaration and its body.
+# Finds what a reader must believe, for scripts/sizes. Input: the files of specs/ and src/ of all crates, and the files of
+# laws in their proofs/. It begins with the laws and definitions named in `roots`, by a name or by 'file:name', where a
+# field stands for its record, and with the contracts of the functions that the static libraries export (of the crates
+# named in `libraries`; `#[unsafe(no_mangle)]`), and follows every definition, record, data type, struct and enum that a
+# text cites, as far as the kit's library. Proofs are not followed: of a law only its statement counts, of a definition
+# its declaration and its body.
 #
 # Prints, parted by tabs, a file, its definitions in their order, and how many lines these have that are not blank and
 # no comment; with why=1, 'file name cites file name' instead. Fails if a root is declared nowhere or twice, and if a
 # text has a name that is neither bound in it, nor declared in its file, nor imported there.
 BEGIN {
-    n = split("pub abbrev unfoldable record data where let in elim module as Type Unit now ensures fn extern mut " \
+    n = split("pub abbrev unfoldable record data where let in elim module as Type Unit result ensures fn extern mut " \
         "struct enum u16 u32 i32", words, " ")
     for (i = 1; i <= n; i++) of_language[words[i]] = 1
+    n = split(libraries, words, " ")
+    for (i = 1; i <= n; i++) exports[words[i]] = 1
+    for (i = 1; i < ARGC; i++) if (split(ARGV[i], words, "/") > 2 && words[1] == "crates") ours[words[2]] = 1
 }
 
 function fail(what) { print "FAILED: " what > "/dev/stderr"; failed = 1 }
 
-# What a module path means: a file, 'code of CRATE' for the structs and enums that a crate declares, '' in the library.
-function place(path,   crate) {
-    if (path !~ /^Rattle·/) return ""
-    crate = path
-    sub(/^Rattle·/, "", crate)
-    sub(/(·specs)?\.specs\..*/, "", crate)
-    sub(/^.*\.specs\./, "", path)
-    return path ~ /^declared\./ ? "code of " crate : "crates/" crate "/specs/" path ".antt"
+# What a module path means, `Rattle.CRATE.specs.FILE` or with `proofs`: a file, 'code of CRATE' for the structs and enums
+# that a crate declares, '' in the library.
+function place(path,   part) {
+    split(path, part, ".")
+    if (part[1] != "Rattle" || !(part[2] in ours)) return ""
+    if (part[4] == "declared") return "code of " part[2]
+    return "crates/" part[2] "/" part[3] "/" part[4] ".antt"
 }
 
 # `PATH.{name, name as other}` and `PATH as other`, of a line that begins with `use`. An operator is used without its
-# `_`.
+# `◌`.
 function import(line,   path, n, i, item, part) {
     sub(/;$/, "", line)
     if (line !~ /\{/) {
@@ -40,9 +43,19 @@ function import(line,   path, n, i, item, part) {
     n = split(line, item, /, */)
     for (i = 1; i <= n; i++) {
         if (split(item[i], part, " as ") == 1) part[2] = part[1]
-        gsub(/_/, "", part[2])
+        gsub(/◌/, "", part[2])
         imported[FILENAME, part[2]] = imported[FILENAME, part[2]] place(path) "\t" part[1] "\n"
     }
+}
+
+# `CRATE::{Name, Name}` or `CRATE::Name`, of code.
+function import_code(text,   name, n, i, from) {
+    match(text, /::/)
+    from = "code of " substr(text, 1, RSTART - 1)
+    text = substr(text, RSTART + 2)
+    gsub(/[{};\n]/, " ", text)
+    n = split(text, name, /[ ,]+/)
+    for (i = 1; i <= n; i++) imported[FILENAME, name[i]] = from "\t" name[i] "\n"
 }
 
 # A declaration: a definition, type, law, contract or section (`module _`). Its text is kept in pieces, the statement
@@ -66,7 +79,7 @@ function piece(line) { text[here, ++pieces[here]] = line; lines[here]++ }
 function goes_on(line) { text[here, pieces[here]] = text[here, pieces[here]] "\n" line; lines[here]++ }
 
 FNR == 1 {
-    here = depth = heading = exporting = coded = 0
+    here = depth = heading = exporting = coded = using = 0
     crate = FILENAME
     gsub(/^crates\/|\/.*/, "", crate)
 }
@@ -75,10 +88,11 @@ FNR == 1 {
 FILENAME ~ /\.rt$/ {
     if (/^ *(\/\/.*)?$/) next
     if (/^ghost use /) import(substr($0, 11))
-    else if (/^use [a-z_]+::[A-Za-z]+;/) {
-        split($2, part, /::|;/)
-        imported[FILENAME, part[2]] = "code of " part[1] "\t" part[2] "\n"
-    } else if (/^#\[no_mangle\]/) exporting = 1
+    else if (using || /^use [a-z_]+::([A-Za-z]|\{)/) {
+        code = using ? code "\n" $0 : substr($0, 5)
+        using = !/;$/
+        if (!using) import_code(code)
+    } else if (crate in exports && /^#\[unsafe\(no_mangle\)\]/) exporting = 1
     else if (exporting == 1) {
         match($0, /fn [a-z_0-9]+/)
         declare(substr($0, RSTART + 3, RLENGTH - 3), "contract")

@@ -62,7 +62,7 @@ function item(text,   path, names, n, i, name) {
     if (path ~ /(^|\/)[A-Z]+\//) return
     if (path ~ /^[A-Za-z_.]+\/[A-Za-z0-9_.\/+-]*$/) {
         if (path ~ /^(src|specs|proofs|must-fail)\//) { say("crate", "-", path); return }
-        if (path !~ /^(\.ci|target|rust|crates|docs|include|sample|scripts|tests)\//) path = "crates/" path
+        if (path !~ /^(\.ci|target|rust|crates|docs|include|sample|scripts|tests|tools)\//) path = "crates/" path
         sub(/\/$/, "", path)
         say("file", path)
         cited++

@@ -7,7 +7,7 @@ ghost use Rattle.counters.specs.Counters.{one_more, counted};
 
 // Accepted calls and refused ones.
 #[repr(C)]
-#[derive(Drop)]
+#[derive(Clone, Copy)]
 pub struct Counters {
     pub done: u32,
     pub refused: u32,
@@ -17,7 +17,7 @@ pub struct Counters {
 pub const MAX_COUNT: u32 = 4294967295;
 
 // What a counted call gives back: its answer, and the counters moved on.
-#[derive(Drop)]
+#[derive(Clone, Copy)]
 pub struct Counted {
     pub answer: u32,
     pub counters: Counters,

@@ -51,9 +51,9 @@ follows : {P : Params} {L : List Entry} {ws : List ℕ} → Holds P L ws → len
 unfolding run model requests set_after words_after
 follows h full_length {cs = []} none =
     record { start = h.is.is; trace = refl; sets = λ m i. elim i [ ]; final = h }
-follows h full_length {cs = c ∷ cs} (more stand rest) =
+follows {P = P} {L = L} {ws = ws} h full_length {cs = c ∷ cs} (more stand rest) =
     let a = step_agrees h full_length c stand in
-    let f = follows a.holds full_length rest in
+    let f = follows {L = (reply P L (request c (step P.tabulation ws c).answer)).set} a.holds full_length rest in
     record {
       start = h.is.is;
       trace = λ i. record { answer = a.answer i; words = a.holds.is.is i } ∷ f.trace i;

@@ -8,7 +8,7 @@ use Rattle.basics.specs.Tests.{test}
 use Rattle.basics.specs.Sets.{member}
 use Rattle.cuckoo.specs.Placement.{Placement}
 use Rattle.ordered.specs.Keys.{with_key}
-use Rattle.refusals.specs.Refusal.{done, wrong_tabulation, short_scratch, blank_key, key_present, stash_full, wrong_tier, other_tier, other_issue}
+use Rattle.refusals.specs.Refusal.{None, done, wrong_tabulation, short_scratch, blank_key, key_present, stash_full, wrong_tier, other_tier, other_issue}
 use Rattle.refusals.specs.Refusal.{first_refusal, none, and, front_passes, front_none}
 use Rattle.hashing.specs.Hash.{blank}
 use Rattle.hashing.specs.Slots.{slot_0, slot_1}
@@ -73,7 +73,7 @@ pub record NoTrace (P : Params) (L₀ : List Entry) (ws : List ℕ) (cs : List C
 -- a part of a sequence from its beginning is a sequence,
 allowed_part : (t : List ℕ) {ws : List ℕ} (cs ds : List Call) → Allowed t ws (cs ++ ds) → Allowed t ws cs
 allowed_part t [] ds a = none
-allowed_part t (c ∷ cs) ds (more stand a) = more stand (allowed_part t cs ds a)
+allowed_part t {ws = ws} (c ∷ cs) ds (more stand a) = more stand (allowed_part t {ws = (step t ws c).words} cs ds a)
 
 pub part : {P : Params} {L₀ : List Entry} {ws : List ℕ} (cs ds : List Call) → Sequence P L₀ ws (cs ++ ds)
     → Sequence P L₀ ws cs
@@ -149,6 +149,11 @@ pub alike_self : (t : List ℕ) (cs : List Call) → Alike t cs cs
 alike_self t [] = end
 alike_self t (c ∷ cs) = then (like_self t c) (alike_self t cs)
 
+-- each of seven refusals of which none applies
+none_seven : {p q r s t u v : ℕ × Bool} → None (p ∷ q ∷ r ∷ s ∷ t ∷ u ∷ v ∷ [])
+    → (p.1 ≡ false) × (q.1 ≡ false) × (r.1 ≡ false) × (s.1 ≡ false) × (t.1 ≡ false) × (u.1 ≡ false) × (v.1 ≡ false)
+none_seven (and a (and b (and c (and d (and e (and f (and g none))))))) = (a, b, c, d, e, f, g)
+
 -- the test of 8
 
 module _ {P : Params} {L₀ : List Entry} {ws : List ℕ} {cs : List Call} (q : Sequence P L₀ ws cs)
@@ -176,16 +181,15 @@ module _ {P : Params} {L₀ : List Entry} {ws : List ℕ} {cs : List Call} (q : 
 
   came : (answer ≡ done) ⊎ (answer ≡ stash_full) → ComesToFull P L l (length scratch) key tier
   came d =
-      elim (front_none before (full_test P key L) (sym insert_number) (elim d [ inl e ↦ rw e | inr e ↦ rw e ])) [
-        | and a (and b (and c (and s (and i (and o (and m none)))))) ↦ record {
-          right_length = a;
-          long_enough = b;
-          not_blank = c;
-          small_tier = ltb-false max_tier tier s;
-          no_other = i;
-          absent = m;
-        }
-      ]
+      let tried = none_seven (front_none before (full_test P key L) (sym insert_number) (elim d [ inl e ↦ rw e | inr e ↦ rw e ])) in
+      record {
+        right_length = tried.0;
+        long_enough = tried.1;
+        not_blank = tried.2;
+        small_tier = ltb-false max_tier tier tried.3;
+        no_other = tried.4;
+        absent = tried.6;
+      }
 
   -- An insert comes to the test of 8 exactly if it answers 0 or 8: if none of the refusals before 8 is given.
   pub comes_answers : ComesToFull P L l (length scratch) key tier ↔ ((answer ≡ done) ⊎ (answer ≡ stash_full))

@@ -25,7 +25,7 @@ pub const MAX_WORDS: usize = HEADER_LENGTH + SLOT_WIDTH * 2048 + PLACE_WIDTH * M
 pub const MAX_SCRATCH: usize = 12 * 1024 + 8 * MAX_PLACES as usize;
 
 // The heading of a dictionary: r, s, the number of keys, the number of stashed keys and the station number.
-#[derive(Drop)]
+#[derive(Clone, Copy)]
 pub struct Header {
     pub slots: u32,
     pub places: u32,
@@ -35,7 +35,7 @@ pub struct Header {
 }
 
 // A slot: its key, its next number and its tier, zeros where it is empty.
-#[derive(Drop)]
+#[derive(Clone, Copy)]
 pub struct Slot {
     pub key: u32,
     pub next: u32,
@@ -43,7 +43,7 @@ pub struct Slot {
 }
 
 // What a lookup answers: the key's tier, that it is not there, or a refusal.
-#[derive(Drop)]
+#[derive(Clone, Copy)]
 pub enum Found {
     Listed(u32),
     Absent,

@@ -187,6 +187,7 @@ parts_nonzero (e ∷ M) i = elim (test (lawful e)) [
       ]
   | inr l ↦ parts_nonzero M (rw l at i)
 ]
+parts_nonzero [] i = elim i [ ]
 
 -- each is that of an entry that comes, and lists with the same entries have the same first parts.
 from_part : (M : List Entry) {c : ℕ} → In c (parts_come M)
@@ -199,6 +200,7 @@ from_part (e ∷ M) i = elim (test (lawful e)) [
   ]
   | inr l ↦ let r = from_part M (rw l at i) in (r.0, there r.1, r.2)
 ]
+from_part [] {c = c} i = elim i [ ]
 
 in_part : (N : List Entry) {e : Entry} → In e N → lawful e ≡ true → In (part_key e.key) (parts_come N)
 unfolding parts_come
@@ -206,6 +208,7 @@ in_part (g ∷ N) {e} i l = elim i [
   | here q ↦ let m : lawful g ≡ true = rw q at l in rw m (here (ap (λ (x : Entry). part_key x.key) q))
   | there j ↦ elim (test (lawful g)) [ inl m ↦ rw m (there (in_part N j l)) | inr m ↦ rw m (in_part N j l) ]
 ]
+in_part [] {e = e} i l = elim i [ ]
 
 parts_sub : {M N : List Entry} → ((e : Entry) → In e M → In e N) → Sub (parts_come M) (parts_come N)
 parts_sub {M} {N} f c i =

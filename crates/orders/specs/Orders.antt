@@ -46,6 +46,7 @@ put_cases e (f ∷ K) i = elim (test (ltb e.key f.key)) [
     | there j ↦ elim (put_cases e K j) [ inl q ↦ inl q | inr k ↦ inr (there k) ]
   ]
 ]
+put_cases e [] (there x7) = elim x7 [ ]
 
 put_here : (e : Entry) (K : List Entry) → In e (put_in e K)
 put_here e [] = here refl
@@ -59,6 +60,7 @@ put_there e (f ∷ K) i = elim (test (ltb e.key f.key)) [
   | inl l ↦ rw l (there i)
   | inr l ↦ rw l (elim i [ here q ↦ here q | there j ↦ there (put_there e K j) ])
 ]
+put_there e [] i = elim i [ ]
 
 -- two sets with the same entries are one
 entry_tier : (L : List Entry) → Asc (keys_of L) → {e : Entry} → In e L → e.tier ≡ tier_of L e.key

@@ -4,14 +4,14 @@
 #![tactic(auto)]
 
 // Which change of the set a call asks for: a key comes in with a tier, or a key goes.
-#[derive(Drop)]
+#[derive(Clone, Copy)]
 pub enum Change {
     Insert(u32),
     Remove,
 }
 
 // What the trail of a key answers: how many keys it has, or a refusal.
-#[derive(Drop)]
+#[derive(Clone, Copy)]
 pub enum Traced {
     Length(u32),
     Refused(u32),
@@ -20,7 +20,7 @@ pub enum Traced {
 // The record of a sale, from nozzle lift to hang-up: the key, the tier at which it was listed, and the price of a litre
 // in tenths of a cent.
 #[repr(C)]
-#[derive(Drop)]
+#[derive(Clone, Copy)]
 pub struct Sale {
     pub key: u32,
     pub tier: u32,
@@ -28,7 +28,7 @@ pub struct Sale {
 }
 
 // What the opening of a sale answers: its record, or a refusal.
-#[derive(Drop)]
+#[derive(Clone, Copy)]
 pub enum Opened {
     Open(Sale),
     Refused(u32),

@@ -4,7 +4,7 @@
 #![tactic(auto)]
 
 // What salvage answers: how many slots and places held a number that does not count, or a refusal.
-#[derive(Drop)]
+#[derive(Clone, Copy)]
 pub enum Salvaged {
     Lost(u32),
     Refused(u32),

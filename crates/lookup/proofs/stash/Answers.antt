@@ -22,6 +22,12 @@ stash_start-start-requires c =
     let accepted : view_refusal c.args.words.now ≡ 0 = sym c.stash_refusal.ensures ∙ c.if-stash_refusal-ne0.false in
     omega (arith, same_header c.read_header-header.ensures, viewed _ (accepted))
 
+pub slice_bounds-result-end-2 : goal.slice_bounds-result-end-2
+slice_bounds-result-end-2 c =
+    let accepted : view_refusal c.args.words.now ≡ 0 = sym c.stash_refusal.ensures ∙ c.if-stash_refusal-ne0.false in
+    let h = same_header c.read_header-header.ensures in
+    omega (arith, h.slots, h.stashed, c.stash_start-start.ensures, c.wide.ensures, viewed _ accepted)
+
 pub returns : goal.returns
 unfolding view_of
 returns c =
