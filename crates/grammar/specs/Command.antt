@@ -1,7 +1,7 @@
 -- What a line of the console's input says: "A (add), W (withdraw) or L (look up) with a card", and "The program's A line gains the tier". A line of
 -- any other form is `Other`. The forms accept exactly the texts `pair_text`, `key_text` and `add_text` (`pair_exact`, `pair_given`, `command_exact`,
 -- `key_given`, `add_given`). Line 1 is in Sizes. Assumes nothing.
-use Rattle.std.specs.Prelude.{ℕ, suc, ◌+◌, ◌≤◌, ◌<◌, ◌≡◌, refl, true, false, cond, List, [], ◌∷◌, ◌++◌, eqb, length, take, drop, get_or}
+use Rattle.std.specs.Prelude.{ℕ, suc, ◌≤◌, ◌<◌, ◌≡◌, refl, true, false, cond, List, [], ◌∷◌, ◌++◌, eqb, length, take, drop, get_or}
 use Rattle.std.proofs.Common.{sym, ◌∙◌, ap, inl, inr, arith, eq-eqb, ne_eqb, length-append}
 use Rattle.std.proofs.lemmas.Bool.{false≢true}
 use Rattle.std.proofs.Math.Seq.{split_at}

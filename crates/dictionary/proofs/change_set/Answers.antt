@@ -42,8 +42,8 @@ returns-in-Insert c =
       not_blank = sym c.is_blank.ensures ∙ c.if-is_blank.false;
     } in
     let a = c.args in
-    rw c.kind-1.given.1
-    (after_set a.tabulation.now a.words.now (Insert c.kind-1.given.0.0) a.key (set).not_blank
+    rw c.in-Insert.is
+    (after_set a.tabulation.now a.words.now (Insert c.in-Insert.tier) a.key (set).not_blank
     c.insert_key.ensures)
 
 pub returns-in-Remove : goal.returns-in-Remove
@@ -56,5 +56,5 @@ returns-in-Remove c =
       not_blank = sym c.is_blank.ensures ∙ c.if-is_blank.false;
     } in
     let a = c.args in
-    rw c.enum_told-1.given.1
+    rw c.in-Remove.is
     (after_set a.tabulation.now a.words.now Remove a.key (set).not_blank c.remove_key.ensures)

@@ -8,4 +8,4 @@ pub returns : goal.returns
 returns c =
     let l = c.load-loaded in
     outcome_of (c.refusal.ensures ∙ l.ensures.numbered ∙ sym (check_answer _ _ _)) (sym (check_words _ _ _))
-    ((rw l.kept.1.1.0 at c.clear.ensures) ∙ sym (check_scratch _ _ _))
+    ((rw l.auto.scratch at c.clear.ensures) ∙ sym (check_scratch _ _ _))

@@ -20,24 +20,20 @@ look-found-requires c =
     let b = in_range c.requires in
     ((searchable c.requires, c.place_of-at.ensures), ((b.0.slots_bound, b.1.0), omega (arith, b.1.1)))
 
-pub enum_told-1 : goal.enum_told-1
-enum_told-1 c = c.in-Listed.keys1
-
 pub returns-in_default : goal.returns-in_default
 returns-in_default c =
     let a = c.args in
     remove_absent c.requires c.place_of-at.ensures refl
     (looked_absent a.heading.slots a.heading.places a.n c.place_of-at.result a.key a.scratch.now
     c.look-found.result c.look-found.ensures.valued
-    (λ t q. elim
-    c.in_default.keys2 [ inl e ↦ omega (arith, ap (tag_of the_type) q) | inr e ↦ omega (arith, ap (tag_of the_type) q) ]))
+    c.in_default.not-Listed)
 
 pub take_key-requires : goal.take_key-requires
 take_key-requires c =
     let here : let a = c.args in member a.key (keys_at a.n a.scratch.now) ≡ true = let a = c.args in
     looked_listed a.heading.slots a.heading.places a.n c.place_of-at.result a.key a.scratch.now
     c.look-found.result c.look-found.ensures.valued
-    c.enum_told-1.given.1 in
+    c.in-Listed.is in
     let b = in_range c.requires in
     ((b.0.slots_bound, b.1.0), (at_lt c.requires c.place_of-at.ensures refl (here), b.1.1))
 
@@ -46,7 +42,7 @@ overflow_sub-heading c =
     let here : let a = c.args in member a.key (keys_at a.n a.scratch.now) ≡ true = let a = c.args in
     looked_listed a.heading.slots a.heading.places a.n c.place_of-at.result a.key a.scratch.now
     c.look-found.result c.look-found.ensures.valued
-    c.enum_told-1.given.1 in
+    c.in-Listed.is in
     omega (arith, at_lt c.requires c.place_of-at.ensures refl (here), c.requires.count)
 
 pub commit-requires : goal.commit-requires
@@ -54,7 +50,7 @@ commit-requires c =
     let here : let a = c.args in member a.key (keys_at a.n a.scratch.now) ≡ true = let a = c.args in
     looked_listed a.heading.slots a.heading.places a.n c.place_of-at.result a.key a.scratch.now
     c.look-found.result c.look-found.ensures.valued
-    c.enum_told-1.given.1 in
+    c.in-Listed.is in
     rw c.with_keys-next.ensures
     (remove_committable c.requires c.place_of-at.ensures refl (here) c.take_key.ensures
     c.take_key.auto.scratch)
@@ -64,6 +60,6 @@ returns c =
     let here : let a = c.args in member a.key (keys_at a.n a.scratch.now) ≡ true = let a = c.args in
     looked_listed a.heading.slots a.heading.places a.n c.place_of-at.result a.key a.scratch.now
     c.look-found.result c.look-found.ensures.valued
-    c.enum_told-1.given.1 in
+    c.in-Listed.is in
     remove_committed c.requires c.place_of-at.ensures refl (here) c.take_key.ensures c.take_key.auto.scratch
     (rw c.with_keys-next.ensures at c.commit.ensures)

@@ -8,5 +8,5 @@ pub returns : goal.returns
 returns c =
     let e = c.change_words-answer.ensures in
     outcome_of e.0 e.1
-    ((rw c.change_words-answer.auto.1.1.1.0 at c.clear.ensures)
+    ((rw c.change_words-answer.auto.scratch at c.clear.ensures)
     ∙ sym (change_scratch _ _ _ c.args.kind c.args.key))

@@ -1,9 +1,6 @@
-use Prim.Native.Nat.{◌≤◌, ◌+◌, ◌-◌}
-use mathlib.Core.Path.{◌≡◌}
 use native.Mathlib.Omega.{arith}
-use lib.ListN.{length, drop}
 use borrow.Author.Rules.{rules}
-use Rattle.grammar.specs.Parted.{place_of, place_here, place_next, place_end}
+use Rattle.grammar.specs.Parted.{place_here, place_next, place_end}
 use Rattle.fields.proofs.find.Goals as goal
 
 pub returns-then-bytes-i : goal.returns-then-bytes-i

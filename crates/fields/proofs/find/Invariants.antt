@@ -1,10 +1,8 @@
 -- `fields::find` meets its contract: the byte's place is i more than its place in what is left.
 use Prim.Native.Nat.{◌≤◌, ◌+◌, ◌-◌}
 use mathlib.Core.Path.{◌≡◌}
-use native.Mathlib.Omega.{arith}
 use lib.ListN.{length, drop}
-use borrow.Author.Rules.{rules}
-use Rattle.grammar.specs.Parted.{place_of, place_here, place_next, place_end}
+use Rattle.grammar.specs.Parted.{place_of}
 use Rattle.fields.proofs.find.Given as goal
 
 abbrev pub invariant-loop-i : goal.invariant-loop-i

@@ -9,7 +9,6 @@ use Prim.Native.Nat.{◌+◌, ◌-◌, ◌<◌}
 use native.Mathlib.Numerals.{add-one}
 use lib.ListN.{length, take, drop}
 use Rattle.grammar.specs.Command.{pair_none, pair_split}
-use borrow.Author.Rules.{rules}
 use Rattle.fields.proofs.pair_of.Goals as goal
 
 pub returns-then-text-end : goal.returns-then-text-end

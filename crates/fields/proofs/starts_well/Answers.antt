@@ -2,7 +2,6 @@
 use mathlib.Core.Path.{sym}
 use native.Mathlib.Omega.{arith}
 use Rattle.grammar.specs.Number.{leading_none, leading_one, leading_more}
-use borrow.Author.Rules.{rules}
 use Rattle.fields.proofs.starts_well.Goals as goal
 
 pub returns-then-text-eq0 : goal.returns-then-text-eq0

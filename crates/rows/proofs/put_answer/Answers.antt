@@ -6,6 +6,6 @@ use Rattle.rows.proofs.put_answer.Goals as goal
 pub returns : goal.returns
 returns c =
     record {
-        written = c.put_byte-second.ensures then c.put_field-third.ensures.written then c.put_field-end.ensures.written then c.put_byte.ensures;
-        short = search rules;
+      written = c.put_byte-second.ensures then c.put_field-third.ensures.written then c.put_field-end.ensures.written then c.put_byte.ensures;
+      short = search rules;
     }

@@ -8,6 +8,6 @@ pub returns : goal.returns
 unfolding error_row
 returns c =
     record {
-        written = c.put_byte-second.ensures then c.put_byte-number.ensures then c.put_long-end.ensures.written then c.put_byte.ensures;
-        short = search rules;
+      written = c.put_byte-second.ensures then c.put_byte-number.ensures then c.put_long-end.ensures.written then c.put_byte.ensures;
+      short = search rules;
     }

@@ -8,6 +8,6 @@ pub returns : goal.returns
 unfolding insert_row
 returns c =
     record {
-        written = c.put_byte-second.ensures then c.put_field-third.ensures.written then c.put_field-fourth.ensures.written then c.put_field-end.ensures.written then c.put_byte.ensures;
-        short = search rules;
+      written = c.put_byte-second.ensures then c.put_field-third.ensures.written then c.put_field-fourth.ensures.written then c.put_field-end.ensures.written then c.put_byte.ensures;
+      short = search rules;
     }

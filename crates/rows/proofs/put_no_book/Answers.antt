@@ -8,6 +8,6 @@ pub returns : goal.returns
 unfolding book_row
 returns c =
     record {
-        written = c.put_byte-end.ensures then c.put_byte.ensures;
-        short = search rules;
+      written = c.put_byte-end.ensures then c.put_byte.ensures;
+      short = search rules;
     }

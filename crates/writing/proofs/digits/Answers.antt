@@ -1,8 +1,7 @@
-use Prim.Native.Nat.{◌/◌, ◌%◌, ◌≤◌, ◌+◌}
-use mathlib.Core.Path.{◌≡◌, ap}
+use Prim.Native.Nat.{◌/◌, ◌%◌}
+use mathlib.Core.Path.{ap}
 use native.Mathlib.Omega.{arith}
 use lib.ListN.{length, length-append}
-use borrow.Author.Rules.{rules}
 use mathlib.Core.List.{[], ◌∷◌}
 use Rattle.grammar.specs.Decimal.{decimal, digit, decimal_small, decimal_large}
 use Rattle.writing.proofs.digits.Goals as goal

@@ -1,11 +1,8 @@
 -- `writing::digits` meets its contract: one digit is counted for each division by 10.
-use Prim.Native.Nat.{◌/◌, ◌%◌, ◌≤◌, ◌+◌}
-use mathlib.Core.Path.{◌≡◌, ap}
-use native.Mathlib.Omega.{arith}
-use lib.ListN.{length, length-append}
-use borrow.Author.Rules.{rules}
-use mathlib.Core.List.{[], ◌∷◌}
-use Rattle.grammar.specs.Decimal.{decimal, digit, decimal_small, decimal_large}
+use Prim.Native.Nat.{◌≤◌, ◌+◌}
+use mathlib.Core.Path.{◌≡◌}
+use lib.ListN.{length}
+use Rattle.grammar.specs.Decimal.{decimal}
 use Rattle.writing.proofs.digits.Given as goal
 
 abbrev pub invariant-loop-rest : goal.invariant-loop-rest

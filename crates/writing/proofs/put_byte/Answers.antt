@@ -1,6 +1,5 @@
 -- `writing::put_byte` meets its contract.
 use Rattle.writing.specs.Written.{written_byte}
-use borrow.Author.Rules.{rules}
 use Rattle.writing.proofs.put_byte.Goals as goal
 
 pub returns : goal.returns

@@ -6,6 +6,6 @@ use Rattle.writing.proofs.put_field.Goals as goal
 pub returns : goal.returns
 returns c =
     record {
-        written = c.put_byte-start.ensures then c.put_word.ensures.written;
-        short = search rules;
+      written = c.put_byte-start.ensures then c.put_word.ensures.written;
+      short = search rules;
     }

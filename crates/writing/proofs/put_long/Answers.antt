@@ -1,7 +1,6 @@
 -- `writing::put_long` meets its contract: a number of 64 bits has at most 20 digits.
 use native.Mathlib.Omega.{arith}
 use Rattle.grammar.specs.Decimal.{digits_64}
-use borrow.Author.Rules.{rules}
 use Rattle.writing.proofs.put_long.Goals as goal
 
 pub put_number-requires : goal.put_number-requires
@@ -11,6 +10,6 @@ pub returns : goal.returns
 returns c =
     let w = c.put_number.ensures in
     record {
-        written = w;
-        short = omega (arith, w.moved, digits_64 c.args.n (omega arith));
+      written = w;
+      short = omega (arith, w.moved, digits_64 c.args.n (omega arith));
     }

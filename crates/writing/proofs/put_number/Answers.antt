@@ -1,10 +1,9 @@
-use Rattle.grammar.specs.Decimal.{digit, decimal_some, decimal}
-use Prim.Native.Nat.{◌≤◌, ◌+◌, ◌-◌, ◌%◌}
-use mathlib.Core.Path.{◌≡◌, ◌∙◌}
+use Rattle.grammar.specs.Decimal.{digit, decimal_some}
+use Prim.Native.Nat.{◌-◌, ◌%◌}
+use mathlib.Core.Path.{◌∙◌}
 use native.Mathlib.Omega.{arith}
-use lib.ListN.{length, length-set}
-use borrow.Author.Rules.{rules}
-use Rattle.writing.specs.Written.{to_come, to_come_step, to_come_last, written_come}
+use lib.ListN.{length-set}
+use Rattle.writing.specs.Written.{to_come_step, to_come_last, written_come}
 use Rattle.writing.proofs.put_number.Goals as goal
 
 pub overflow_sub-i : goal.overflow_sub-i

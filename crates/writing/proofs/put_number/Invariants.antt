@@ -1,11 +1,9 @@
 -- `writing::put_number` meets its contract: the digits that are still to come stand before index i.
-use Rattle.grammar.specs.Decimal.{digit, decimal_some, decimal}
-use Prim.Native.Nat.{◌≤◌, ◌+◌, ◌-◌, ◌%◌}
-use mathlib.Core.Path.{◌≡◌, ◌∙◌}
-use native.Mathlib.Omega.{arith}
-use lib.ListN.{length, length-set}
-use borrow.Author.Rules.{rules}
-use Rattle.writing.specs.Written.{to_come, to_come_step, to_come_last, written_come}
+use Rattle.grammar.specs.Decimal.{decimal}
+use Prim.Native.Nat.{◌≤◌, ◌+◌}
+use mathlib.Core.Path.{◌≡◌}
+use lib.ListN.{length}
+use Rattle.writing.specs.Written.{to_come}
 use Rattle.writing.proofs.put_number.Given as goal
 
 abbrev pub invariant-loop-rest : goal.invariant-loop-rest
