@@ -4,26 +4,30 @@ use Rattle.std.specs.Prelude.{ℕ, ◌+◌, ◌*◌, ◌≤◌, ◌<◌, ◌≡�
 use Rattle.std.proofs.Common.{sym, ◌∙◌, ap, inl, inr, arith, take-add}
 use Rattle.std.proofs.Math.Seq.{paste}
 use Rattle.basics.specs.Tests.{test}
-use Rattle.basics.specs.Lists.{get_or_in}
-use Rattle.basics.specs.Parts.{pasted_front, pasted_all}
-use Rattle.refusals.specs.Refusal.{done, stash_full, first_refusal, front_none}
+use Rattle.basics.proofs.Lists.{get_or_in}
+use Rattle.basics.proofs.Parts.{pasted_front, pasted_all}
+use Rattle.refusals.specs.Refusal.{done, stash_full, first_refusal}
+use Rattle.refusals.proofs.Refusal.{front_none}
 use Rattle.hashing.specs.Hash.{Hashing, tables}
 use Rattle.layout.specs.declared.Header.{Header}
-use Rattle.layout.specs.Entries.{max_tier, tier_of, tiered, tiered_self}
+use Rattle.layout.specs.Entries.{max_tier, tier_of, tiered}
+use Rattle.layout.proofs.Entries.{tiered_self}
 use Rattle.layout.specs.Layout.{Params, with_keys, fits}
 use Rattle.layout.specs.Answers.{fresh_header}
 use Rattle.layout.specs.Shape.{Sized, ranged}
-use Rattle.layout.specs.Fitting.{crowded_unfit}
+use Rattle.layout.proofs.Fitting.{crowded_unfit}
 use Rattle.build.specs.Scratch.{edges_at, used}
 use Rattle.scratch_set.specs.Edges.{edge_with, edge_of, Lined, EdgesTo, edges_start, edges_turn, edges_lined}
 use Rattle.scratch_set.specs.Edges.{lined_buildable}
 use Rattle.gateway.specs.Committing.{new_answer, new_words, Committable, Committed}
 use Rattle.bulk.specs.Bulk.{params_for, input_keys, input_tiers, input_set, target_refusals}
 use Rattle.bulk.specs.Bulk.{input_refusals, bulk_refusal, bulk_outcome}
-use Rattle.bulk.specs.Input.{SoundInput, none_sound, even_size, even_keys, tier_count, input_key, input_tier}
-use Rattle.bulk.specs.Input.{tier_given}
-use Rattle.bulk.specs.Laws.{Layable, none_layable, bulk_answer, bulk_done, bulk_refused, bulk_target, bulk_input}
-use Rattle.bulk.specs.Laws.{bulk_fits}
+use Rattle.bulk.specs.Input.{SoundInput}
+use Rattle.bulk.proofs.Input.{none_sound, even_size, even_keys, tier_count, input_key, input_tier}
+use Rattle.bulk.proofs.Input.{tier_given}
+use Rattle.bulk.specs.Laws.{Layable, bulk_refused}
+use Rattle.bulk.proofs.Laws.{none_layable, bulk_answer, bulk_done, bulk_target, bulk_input}
+use Rattle.bulk.proofs.Laws.{bulk_fits}
 
 -- the input can be brought to scratch
 pub record Fillable (tabulation input scratch : List ℕ) (r s station n : ℕ) : Type 0 where

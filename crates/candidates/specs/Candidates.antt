@@ -12,18 +12,20 @@ use Rattle.std.proofs.Math.ListN.{take}
 use Rattle.std.proofs.lemmas.List.{length-map}
 use Rattle.basics.specs.Tests.{test}
 use Rattle.basics.specs.Sets.{keep, length_keep}
-use Rattle.basics.specs.Lists.{keep_append}
+use Rattle.basics.proofs.Lists.{keep_append}
 use Rattle.cuckoo.specs.Placement.{slot}
 use Rattle.hashing.specs.Hash.{Family, tables}
-use Rattle.hashing.specs.Slots.{slot_0, slot_1, slot_0_lt, slot_1_le}
+use Rattle.hashing.specs.Slots.{slot_0, slot_1}
+use Rattle.hashing.proofs.Slots.{slot_0_lt, slot_1_le}
 use Rattle.layout.specs.Entries.{Entry, keys_of}
 use Rattle.layout.specs.Layout.{slots_of, places_of, station_of, header_length, slot_width, place_width, stash_at}
 use Rattle.layout.specs.Layout.{place_entries, stash_entries, Spot, slot_spots, place_spots, spots, spot_key}
-use Rattle.layout.specs.Standing.{key_words_parts, stash_lent}
+use Rattle.layout.proofs.Standing.{key_words_parts, stash_lent}
 use Rattle.records.specs.Columns.{picked}
 use Rattle.collect.specs.Collect.{gathered_word, picked_next, picked_slots, picked_places}
 use Rattle.survivors.specs.Salvage.{own_place, counts, counting, occupied}
-use Rattle.survivors.specs.Spots.{slot_spot, slot_spots_length}
+use Rattle.survivors.specs.Spots.{slot_spot}
+use Rattle.survivors.proofs.Spots.{slot_spots_length}
 use Rattle.survivors.specs.Looked.{sound}
 
 abbrev pub entry_of : ℕ → ℕ → Entry

@@ -9,17 +9,18 @@ use Rattle.std.proofs.Math.Logic.{inl, inr}
 use native.Mathlib.Omega.{arith}
 use Rattle.std.proofs.lemmas.List.{take-set-le, take-append-le}
 use borrow.Rule.Slice.PartMut.{mid_of, put_mid}
-use Rattle.basics.specs.Tests.{test, zero_one}
+use Rattle.basics.specs.Tests.{test}
+use Rattle.basics.proofs.Tests.{zero_one}
 use Rattle.basics.specs.Sets.{keep, length_keep}
-use Rattle.basics.specs.Lists.{keep_append}
+use Rattle.basics.proofs.Lists.{keep_append}
 use Rattle.ordered.specs.Keys.{sorted, distinct}
-use Rattle.ordered.specs.Sorting.{sorted_length}
-use Rattle.ordered.specs.Distinct.{distinct_length}
+use Rattle.ordered.proofs.Sorting.{sorted_length}
+use Rattle.ordered.proofs.Distinct.{distinct_length}
 use Rattle.hashing.specs.Hash.{blank}
 use Rattle.layout.specs.Entries.{keys_of}
 use Rattle.layout.specs.Layout.{header_length, slot_width, place_width, key_at, stash_at, slots_of, places_of, place_entries, stash_entries, slot_spots, spot_key, key_words, keys_in}
 use Rattle.layout.specs.Shape.{Shaped}
-use Rattle.layout.specs.Standing.{key_words_parts}
+use Rattle.layout.proofs.Standing.{key_words_parts}
 use Rattle.records.specs.Columns.{picked, picked_length}
 
 -- those that are not blank

@@ -13,14 +13,11 @@ pub mod Walks
 pub mod Forest
 pub mod Settling
 pub mod Cycles
-pub mod Kruskal
 pub mod Seating
 pub mod Tree
-pub mod Components
 pub mod Rising
 pub mod Places
 pub mod Bullets
-pub mod Unique
 pub mod Filled
 pub mod Next
 pub mod Locality

@@ -13,7 +13,7 @@ use Rattle.std.proofs.Math.Dec.{eqb}
 use Rattle.basics.specs.Tests.{test, eq?, and_true}
 use Rattle.basics.specs.Sets.{keep, without, first, keep_in, keep_test, in_keep, Sub, out_in, in_out, outs, first_in, first_two}
 use Rattle.cuckoo.specs.Graph.{joined, is_on_cycle, component, root, sits, occupant}
-use Rattle.cuckoo.specs.Settling.{OnCycle, Settled, is_on_cycle_true, true_is_on_cycle, is_on_cycle?}
+use Rattle.cuckoo.specs.Settling.{OnCycle, Settled, is_on_cycle_true, true_is_on_cycle}
 use Rattle.cuckoo.specs.Joined.{Joined, past, along, back, jrefl, jsym, jtrans, edge, mono, split_out, cut, joined_true, true_joined, no_joined}
 
 module _ (a b : ℕ → ℕ) where
@@ -97,14 +97,6 @@ module _ {a b : ℕ → ℕ} {X : List ℕ} {p : ℕ} where
         let up : Sub (without c X) X = λ d h. out_in c X h in
         bare c i (jtrans (jsym (mono up j)) (ends_near e i)) (ends_cycle e (jtrans j (jsym k)))
 
-    -- so one end of each key of the component is cut off from p without it
-    pub away : {c : ℕ} → In c X → Joined a b X p (a c) → (Joined a b (without c X) (a c) p → ⊥) ⊎ (Joined a b (without c X) (b c) p → ⊥)
-    away i j =
-        elim (one_near (from_a refl refl) i j) [
-          | inl k ↦ inr (λ l. not_both (from_a refl refl) i k l)
-          | inr k ↦ inl (λ l. not_both (from_a refl refl) i l k)
-        ]
-
 module _ (a b : ℕ → ℕ) where
   -- c sits in v, where z is the root of its component
   pub data Sat (K : List ℕ) (z v c : ℕ) : Type 0 where
@@ -132,21 +124,6 @@ module _ {a b : ℕ → ℕ} {K : List ℕ} {z : ℕ} where
   sat_one e f ic id iz j (cycle_root l q r) (cycle_away m s t) = absurd (t (rw r jrefl))
   sat_one e f ic id iz j (cycle_away l q r) (cycle_root m s t) = absurd (r (rw t jrefl))
   sat_one e f ic id iz j (cycle_away l q r) (cycle_away m s t) = no_two e f (in_out z K (λ k. q (sym k)) ic) (in_out z K (λ k. s (sym k)) id) (cut z K l.closed j) r t
-
-  -- each key sits in one of its slots
-  sat_some : {c : ℕ} → In c K → Joined a b K (a z) (a c)
-      → ((OnCycle a b K z → ⊥) → (d : ℕ) → Joined a b K (a z) (a d) → OnCycle a b K d → ⊥)
-      → Settled a b K → Sat a b K z (a c) c ⊎ Sat a b K z (b c) c
-  sat_some {c} i j flat stop = go (is_on_cycle? a b K z) (eq? c z)
-    where
-      go : OnCycle a b K z ⊎ (OnCycle a b K z → ⊥) → (c ≡ z) ⊎ (c ≡ z → ⊥) → Sat a b K z (a c) c ⊎ Sat a b K z (b c) c
-      go (inl l) (inl q) = inl (cycle_root l q (ap a q))
-      go (inr n) (inl q) = inl (tree_root n q)
-      go (inr n) (inr m) =
-          elim (away (λ d k x r. flat n d x (record { on = k; closed = r })) i j) [ inl o ↦ inl (tree_away n m o) | inr o ↦ inr (tree_away n m o) ]
-      go (inl l) (inr m) =
-          elim (away {X = without z K} (λ d k x r. stop z (record { cycle = l; rest = record { d = d; cycle = record { on = k; closed = r }; near = x } }))
-          (in_out z K (λ q. m (sym q)) i) (cut z K l.closed j)) [ inl o ↦ inl (cycle_away l m o) | inr o ↦ inr (cycle_away l m o) ]
 
 -- the Boolean rule, read as the laws above
 module _ (a b : ℕ → ℕ) where
@@ -220,7 +197,7 @@ module _ (a b : ℕ → ℕ) where
 
   -- a slot shows the key that sits there
   module _ (K : List ℕ) (v : ℕ) where
-    here_sits : ℕ → Bool
+    unfoldable pub here_sits : ℕ → Bool
     here_sits c = (eqb v (a c) || eqb v (b c)) && sits a b K v c
 
     -- a key that sits in a slot is its occupant
@@ -240,25 +217,3 @@ module _ (a b : ℕ → ℕ) where
         let rd : root a b K (a d) ≡ z = root_same K (jsym jd) in
         let R = rooted K i jc in
         sat_one x.1 e id i R.z_in (jsym R.near) (rw rd at (sits_true K v d g.1)) (rw rc at (sits_true K v c t))
-
-    -- a slot is empty, or its key is of K, has it as an end, and sits there
-    pub occupant_from : (occupant a b K v ≡ 0)
-        ⊎ (In (occupant a b K v) K × ((w : ℕ) × Ends a b (occupant a b K v) v w) × (sits a b K v (occupant a b K v) ≡ true))
-    unfolding occupant here_sits
-    occupant_from = go (keep here_sits K) refl
-      where
-        go : (L : List ℕ) → keep here_sits K ≡ L → (first L ≡ 0) ⊎ (In (first L) K × ((w : ℕ) × Ends a b (first L) v w) × (sits a b K v (first L) ≡ true))
-        go [] e = inl refl
-        go (d ∷ L) e =
-            let f : In d (keep here_sits K) = rw e (here refl) in
-            let g = and_true (eqb v (a d) || eqb v (b d)) (sits a b K v d) (keep_test here_sits K f) in
-            inr (keep_in here_sits K f, ends_of v d g.0, g.1)
-
-  -- where nothing is spare each key shows in one of its slots
-  pub look : (K : List ℕ) → Settled a b K → (c : ℕ) → In c K → (occupant a b K (a c) ≡ c) ⊎ (occupant a b K (b c) ≡ c)
-  look K stop c i =
-      let R = rooted K i jrefl in
-      elim (sat_some i (jsym R.near) (λ n d x l. R.flat n d (jtrans R.near x) l) stop) [
-        | inl s ↦ inl (occupant_is K (a c) i (from_a refl refl) (true_sits K (a c) c s))
-        | inr s ↦ inr (occupant_is K (b c) i (from_b refl refl) (true_sits K (b c) c s))
-      ]

@@ -6,26 +6,28 @@ use Rattle.std.proofs.Math.Path.{sym}
 use Rattle.std.proofs.Common.{◌∙◌, ap, true≢false, arith, eq-eqb, ne_eqb, lt-ltb, le-ltb, get_or-take}
 use mathlib.Core.List.{List, ◌∷◌, Memᴰ as In}
 use Rattle.basics.specs.Sets.{member, member_in, in_member, without, out_in, Asc}
-use Rattle.ordered.specs.Place.{bound_le, bound_found, length_with, length_without}
+use Rattle.ordered.proofs.Place.{bound_le, bound_found, length_with, length_without}
 use Rattle.ordered.specs.Keys.{lower_bound, with_key}
-use Rattle.refusals.specs.Refusal.{done, blank_key, key_present, key_absent, stash_full, wrong_tier, other_tier, last_turned}
+use Rattle.refusals.specs.Refusal.{done, blank_key, key_present, key_absent, stash_full, wrong_tier, other_tier}
+use Rattle.refusals.proofs.Refusal.{last_turned}
 use Rattle.refusals.specs.Refusal.{other_issue, first_refusal}
 use Rattle.hashing.specs.Hash.{Hashing, blank, tables}
 use Rattle.layout.specs.declared.Header.{Header}
 use Rattle.layout.specs.Entries.{max_tier, keys_of, tier_of, tiered}
 use Rattle.layout.specs.Layout.{Params, ValidKeys, another_issue, header_of, with_keys, params_of, params_with, fits}
 use Rattle.layout.specs.Layout.{image, keys_in, set_in}
-use Rattle.layout.specs.Canonical.{canonical_true}
-use Rattle.layout.specs.Shape.{same_header}
-use Rattle.layout.specs.Standing.{keys_in_valid}
-use Rattle.layout.specs.Issues.{listed_alone}
-use Rattle.layout.specs.Fitting.{without_fits}
+use Rattle.layout.proofs.Canonical.{canonical_true}
+use Rattle.layout.proofs.Shape.{same_header}
+use Rattle.layout.proofs.Standing.{keys_in_valid}
+use Rattle.layout.proofs.Issues.{listed_alone}
+use Rattle.layout.proofs.Fitting.{without_fits}
 use Rattle.build.specs.Scratch.{used}
 use Rattle.outcome.specs.declared.Change.{Change}
 use Rattle.outcome.specs.declared.Change.TheVariants.{Insert, Remove}
 use Rattle.outcome.specs.Outcome.{keys_changed, tier_changed, changed, set_refusals, change_refusal, change_outcome}
-use Rattle.outcome.specs.Laws.{later_refusals, change_refused}
-use Rattle.outcome.specs.Held.{one_too_many, changed_keys, keys_changed_valid}
+use Rattle.outcome.specs.Laws.{later_refusals}
+use Rattle.outcome.proofs.Laws.{change_refused}
+use Rattle.outcome.proofs.Held.{one_too_many, changed_keys, keys_changed_valid}
 use Rattle.scratch_set.specs.Edges.{edge_with, Lined, lined_buildable}
 use Rattle.scratch_set.specs.Members.{keys_at, KeyPlaced, tier_placed, put_at, taken_out, lined_agree, lined_tier}
 use Rattle.scratch_set.specs.Members.{lined_put, lined_taken}

@@ -3,4 +3,3 @@
 -- components with a cycle, and so in every larger set (Rank).
 pub mod Rank
 pub mod Feed
-pub mod Feeding

@@ -76,7 +76,7 @@ module _ (a b : ℕ → ℕ) where
     pub only : (x : ℕ) → Joined a b F v x → get_or h x 0 ≡ c → x ≡ v
 
   -- slot x of h' is that of h, but that the key c is gone
-  data Left (h h' : List ℕ) (c x : ℕ) : Type 0 where
+  pub data Left (h h' : List ℕ) (c x : ℕ) : Type 0 where
     gone : get_or h x 0 ≡ c → get_or h' x 0 ≡ 0 → Left h h' c x
     same : (get_or h x 0 ≡ c → ⊥) → get_or h' x 0 ≡ get_or h x 0 → Left h h' c x
 
@@ -94,27 +94,6 @@ module _ {a b : ℕ → ℕ} where
   -- fewer keys of a forest are a forest
   pub forest_sub : {F G : List ℕ} → Sub G F → Forest a b F → Forest a b G
   forest_sub s f = record { acyclic = λ c i j. f.acyclic c (s c i) (mono (out_sub c s) j); nonzero = λ c i. f.nonzero c (s c i) }
-
-  -- and so are a forest and a key whose slots it does not join
-  pub forest_more : {F : List ℕ} {c : ℕ} → Forest a b F → (c ≡ 0 → ⊥) → (Joined a b F (a c) (b c) → ⊥) → Forest a b (c ∷ F)
-  forest_more {F} {c} f nz n = record { acyclic = acyclic; nonzero = λ d i e. elim i [ here q ↦ nz (sym q ∙ e) | there k ↦ f.nonzero d k e ] }
-    where
-      down : (d : ℕ) → Sub (without d (c ∷ F)) (c ∷ without d F)
-      down d x i = elim (out_in d (c ∷ F) i) [ here q ↦ here q | there k ↦ there (in_out d F (out_ne d (c ∷ F) i) k) ]
-
-      self : (d : ℕ) → d ≡ c → Sub (without d (c ∷ F)) F
-      self d q x i = elim (out_in d (c ∷ F) i) [ here e ↦ absurd (out_ne d (c ∷ F) i (q ∙ sym e)) | there k ↦ k ]
-
-      acyclic : (d : ℕ) → In d (c ∷ F) → Joined a b (without d (c ∷ F)) (a d) (b d) → ⊥
-      acyclic d (here q) j = n (rw q at (mono (self d q) j))
-      acyclic d (there i) j =
-          let e : Joined a b F (a d) (b d) = edge i in
-          let up : Sub (without d F) F = λ x k. out_in d F k in
-          elim (split c (without d F) (mono (down d) j)) [
-            | past k ↦ f.acyclic d i k
-            | along k l ↦ let k' = mono up k in let l' = mono up l in n (record { same = cc })
-            | back k l ↦ let k' = mono up k in let l' = mono up l in n (record { same = cc })
-          ]
 
   -- Only the component counts: its keys, and what its slots hold.
   pub recast : {F G h h' : List ℕ} {p q : ℕ}
@@ -142,7 +121,7 @@ module _ {a b : ℕ → ℕ} where
   move j o = recast (λ c i k. i) (λ c i k. i) j (λ x k. refl) o
 
   -- the key c is taken out of F and of its slot
-  restrict : {F h h' : List ℕ} {p q c : ℕ} → Forest a b F → Oriented a b F h p → Joined a b F p q
+  pub restrict : {F h h' : List ℕ} {p q c : ℕ} → Forest a b F → Oriented a b F h p → Joined a b F p q
       → ((x : ℕ) → Joined a b (without c F) q x → Left a b h h' c x) → Oriented a b (without c F) h' q
   restrict {F} {h} {h'} {p} {q} {c} f o j left = record {
     own = λ x d k e nz.
@@ -178,10 +157,7 @@ module _ {a b : ℕ → ℕ} where
       (apart : Joined a b G v w → ⊥) (ov : Oriented a b G h v) (ow : Oriented a b G k w) (bare : get_or k w 0 ≡ 0) (put : get_or out w 0 ≡ c)
       (eh : (x : ℕ) → Joined a b G v x → get_or out x 0 ≡ get_or h x 0)
       (ek : (x : ℕ) → Joined a b G w x → (x ≡ w → ⊥) → get_or out x 0 ≡ get_or k x 0) where
-    new : In c G → ⊥
-    new i = apart (ends_edge e i)
-
-    own : (x d : ℕ) → Joined a b F v x → get_or out x 0 ≡ d → (d ≡ 0 → ⊥) → Owned a b F d x
+    pub own : (x d : ℕ) → Joined a b F v x → get_or out x 0 ≡ d → (d ≡ 0 → ⊥) → Owned a b F d x
     own x d j q nz =
         elim (sides G e down j) [
           | inl g ↦ let o = ov.own x d g (sym (eh x g) ∙ q) nz in record { w = o.w; mem = up d o.mem; ends = o.ends }
@@ -190,48 +166,6 @@ module _ {a b : ℕ → ℕ} where
             | inr n ↦ let o = ow.own x d g (sym (ek x g n) ∙ q) nz in record { w = o.w; mem = up d o.mem; ends = o.ends }
           ]
         ]
-
-    self : StandsIn a b out c
-    self = record {
-      v = w;
-      w = v;
-      ends = ends_flip e;
-      at = put;
-      off = λ q. new (ov.own v c jrefl (sym (eh v jrefl) ∙ q) (f.nonzero c ic)).mem;
-    }
-
-    old : (d : ℕ) → In d G → Joined a b F v (a d) → StandsIn a b out d
-    old d i j =
-        elim (sides G e down j) [
-          | inl g ↦
-              let o = ov.stands d i g in
-              record {
-                v = o.v;
-                w = o.w;
-                ends = o.ends;
-                at = eh o.v (end_near o.ends i g) ∙ o.at;
-                off = λ q. o.off (sym (eh o.w (end_near (ends_flip o.ends) i g)) ∙ q);
-              }
-          | inr g ↦
-              let o = ow.stands d i g in
-              let at_w : get_or k w 0 ≡ d → ⊥ = λ q. f.nonzero d (up d i) (sym q ∙ bare) in
-              record {
-                v = o.v;
-                w = o.w;
-                ends = o.ends;
-                at = ek o.v (end_near o.ends i g) (λ t. at_w (ap (λ (y : ℕ). get_or k y 0) (sym t) ∙ o.at)) ∙ o.at;
-                off = λ q. elim (eq? o.w w) [
-                  | inl t ↦ let u : d ≡ c = sym q ∙ ap (λ (y : ℕ). get_or out y 0) t ∙ put in new (rw u at i)
-                  | inr n ↦ o.off (sym (ek o.w (end_near (ends_flip o.ends) i g) n) ∙ q)
-                ];
-              }
-        ]
-
-    pub join : Oriented a b F out v
-    join = record {
-      own = own;
-      stands = λ d i j. elim (down d i) [ here q ↦ rw q self | there l ↦ old d l j ];
-    }
 
   -- the key in a slot leads on
   pub leads : {F h : List ℕ} {c v : ℕ} → Forest a b F → Oriented a b F h v → get_or h v 0 ≡ c → (c ≡ 0 → ⊥) → LeadsTo a b F h c v
@@ -257,11 +191,6 @@ module _ {a b : ℕ → ℕ} where
   -- One tree becomes two: the key c is taken out of its slot v. Beyond c is the tree with the root of old, and v is the root of the other.
   module _ {F h : List ℕ} (h' : List ℕ) {c v : ℕ} (f : Forest a b F) (o : Oriented a b F h v) (s : LeadsTo a b F h c v)
       (e : (x : ℕ) → (x ≡ v → ⊥) → get_or h' x 0 ≡ get_or h x 0) where
-    pub tree_beyond : Oriented a b (without c F) h' s.w
-    tree_beyond = restrict f o s.over (λ x k.
-        let n : x ≡ v → ⊥ = λ q. s.apart (jsym (rw q at k)) in
-        same (λ u. n (s.only x (jtrans s.over (mono (λ d i. out_in c F i) k)) u)) (e x n))
-
     pub tree_below : get_or h' v 0 ≡ 0 → Oriented a b (without c F) h' v
     tree_below z = restrict f o jrefl (λ x k. elim (eq? x v) [
       | inl q ↦ rw q (gone s.at z)
@@ -314,14 +243,3 @@ module _ {a b : ℕ → ℕ} where
   not_below {F} {h} {c} {v} {p} f o s z k =
       let e = one_root (forest_sub (λ d. out_in c F) f) (below_emptied f o s) k (emptied h v) (still_bare h v p z) in
       f.nonzero c s.mem (sym s.at ∙ ap (λ (y : ℕ). get_or h y 0) e ∙ z)
-
-  pub root_beyond : {F h : List ℕ} {c v p : ℕ} → Forest a b F → Oriented a b F h v → (s : LeadsTo a b F h c v) → Joined a b F v p → get_or h p 0 ≡ 0
-      → Joined a b (without c F) s.w p
-  root_beyond {F} {c = c} f o s j z = elim (sides (without c F) s.ends (around c F) j) [ inl k ↦ absurd (not_below f o s z k) | inr k ↦ k ]
-
-  -- a slot of a forest without keys is bare
-  pub no_keys : {F h : List ℕ} {v : ℕ} → Oriented a b F h v → length F ≤ 0 → get_or h v 0 ≡ 0
-  no_keys {F} {h} {v} o l = elim (eq? (get_or h v 0) 0) [
-    | inl e ↦ e
-    | inr n ↦ absurd (omega (arith, in_length (o.own v (get_or h v 0) jrefl refl n).mem))
-  ]

@@ -13,11 +13,6 @@ use Rattle.cuckoo.specs.Places.{hung, hung_sub, hung_joins, at_root, at_far, sea
 use Rattle.forest.specs.Oriented.{off_set, emptied, Forest, end_near, move, leads, one_root, not_below}
 use Rattle.forest.specs.Reroot.{Rerooted}
 
--- where there is no cycle all keys hang
-pub hung_tree : {a b : ℕ → ℕ} (K : List ℕ) (z : ℕ) → (OnCycle a b K z → ⊥) → Sub K (hung a b K z)
-unfolding hung
-hung_tree {a} {b} K z n c i = elim (test (is_on_cycle a b K z)) [ inl e ↦ absurd (n (is_on_cycle_true e)) | inr e ↦ rw e i ]
-
 -- T has the keys of K that hang from z, in z's component; `out` shows T re-rooted at z's slot in table 0, with z there
 module _ {a b : ℕ → ℕ} {K T h out : List ℕ} {z : ℕ} (f : Forest a b T) (iz : In z K) (top : root a b K (a z) ≡ z)
     (s : (c : ℕ) → In c (hung a b K z) → Joined a b (hung a b K z) (a z) (a c) → In c T)

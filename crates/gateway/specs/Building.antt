@@ -5,12 +5,13 @@ use Rattle.std.specs.Prelude.{ℕ, ◌+◌, ◌*◌, ◌≤◌, ◌<◌, ◌≡�
 use Rattle.std.proofs.Common.{arith}
 use Rattle.std.proofs.lemmas.Bool.{lt-leb}
 use Rattle.basics.specs.Lists.{same}
-use Rattle.layout.specs.Entries.{tier_of, tiered, keys_tiered, tier_absent}
+use Rattle.layout.specs.Entries.{tier_of, tiered}
+use Rattle.layout.proofs.Entries.{keys_tiered, tier_absent}
 use Rattle.layout.specs.Layout.{Params, ValidKeys, params_of, slots_of, places_of, words_length, stash_of, fits}
 use Rattle.layout.specs.Layout.{fits_by, image}
 use Rattle.layout.specs.Shape.{Shaped, Sized}
-use Rattle.layout.specs.Image.{le_fits}
-use Rattle.layout.specs.Standing.{zero_outside}
+use Rattle.layout.proofs.Image.{le_fits}
+use Rattle.layout.proofs.Standing.{zero_outside}
 use Rattle.build.specs.Scratch.{parts, used}
 use Rattle.build.specs.Build.{full, made, Built, Buildable}
 use Rattle.build.specs.declared.StashCount.{StashCount}

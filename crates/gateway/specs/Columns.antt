@@ -8,26 +8,29 @@ use mathlib.Core.List.Memᴰ
 use mathlib.Core.List.{List, map, map-append, Memᴰ as In}
 use Rattle.std.proofs.lemmas.List.{length-map}
 use Rattle.basics.specs.Tests.{eq?}
-use Rattle.basics.specs.Lists.{get_or_in, at_map, map_zeros}
+use Rattle.basics.proofs.Lists.{get_or_in, at_map, map_zeros}
 use Rattle.cuckoo.specs.Graph.{seated, slot_key, slot_next}
-use Rattle.cuckoo.specs.Settling.{seated_sub, seated_asc}
-use Rattle.cuckoo.specs.Seating.{occupant_from}
-use Rattle.cuckoo.specs.Next.{next_in}
-use Rattle.cuckoo.specs.Filled.{stash_sub}
-use Rattle.cuckoo.specs.Renaming.{ranks, from_in, from_asc, ranked, Renames, ranked_renames, ranked_stash}
-use Rattle.cuckoo.specs.Renaming.{ranked_slot_key, ranked_slot_next}
+use Rattle.cuckoo.proofs.Settling.{seated_sub, seated_asc}
+use Rattle.cuckoo.proofs.Seating.{occupant_from}
+use Rattle.cuckoo.proofs.Next.{next_in}
+use Rattle.cuckoo.proofs.Filled.{stash_sub}
+use Rattle.cuckoo.specs.Renaming.{ranks, ranked, Renames}
+use Rattle.cuckoo.proofs.Renaming.{from_in, from_asc, ranked_renames, ranked_stash}
+use Rattle.cuckoo.proofs.Renaming.{ranked_slot_key, ranked_slot_next}
 use Rattle.hashing.specs.Slots.{slot_0, slot_1}
 use Rattle.edges.specs.Edge.{tier_of_edge, low_tier}
 use Rattle.forest.specs.Edges.{end_0, end_1}
 use Rattle.forest.specs.Graph.{held_in, edges_in}
-use Rattle.layout.specs.Entries.{Entry, tier_of, tiered, keys_tiered, tier_tiered, tier_absent}
+use Rattle.layout.specs.Entries.{Entry, tier_of, tiered}
+use Rattle.layout.proofs.Entries.{keys_tiered, tier_tiered, tier_absent}
 use Rattle.layout.specs.Layout.{Params, ValidKeys, family, stash_of}
 use Rattle.layout.specs.Shape.{Sized}
 use Rattle.layout.specs.Image.{place_keys}
-use Rattle.layout.specs.Standing.{slot_key_in, in_zeros, zero_outside}
+use Rattle.layout.proofs.Standing.{slot_key_in, in_zeros, zero_outside}
 use Rattle.layout.specs.declared.Header.{Header}
-use Rattle.build.specs.EachSlot.{listed_at}
-use Rattle.build.specs.Scratch.{Parts, parts, used, PartsSized, parts_sized}
+use Rattle.build.proofs.EachSlot.{listed_at}
+use Rattle.build.specs.Scratch.{Parts, parts, used, PartsSized}
+use Rattle.build.proofs.Scratch.{parts_sized}
 use Rattle.build.specs.Build.{edges_of, stash_ranks, slot_rank, next_rank, Standing}
 use Rattle.records.specs.Record.{tier_by}
 use Rattle.image.specs.Ranks.{key_column, next_column, tier_column, ranks_alike, ranks_written, Ranked}

@@ -4,7 +4,8 @@ use Rattle.std.specs.Prelude.{ℕ, ◌+◌, ◌*◌, ◌≤◌, ◌≡◌, cond,
 use Rattle.std.proofs.Common.{◌∙◌, arith}
 use Rattle.refusals.specs.Refusal.{done, stash_full}
 use Rattle.layout.specs.declared.Header.{Header}
-use Rattle.layout.specs.Entries.{Entry, keys_of, tiered, keys_tiered}
+use Rattle.layout.specs.Entries.{Entry, keys_of, tiered}
+use Rattle.layout.proofs.Entries.{keys_tiered}
 use Rattle.layout.specs.Layout.{Params, ValidKeys, params_with, with_stashed, words_length, fits, image}
 use Rattle.layout.specs.Shape.{Sized}
 use Rattle.build.specs.Build.{Built, Buildable}

@@ -7,12 +7,13 @@ use mathlib.Core.List.{List, Memᴰ as In}
 use Rattle.basics.specs.Sets.{member, Asc}
 use Rattle.hashing.specs.Hash.{Hashing}
 use Rattle.layout.specs.declared.Header.{Header}
-use Rattle.layout.specs.Entries.{keys_of, tier_of, keys_tiered, tier_tiered}
+use Rattle.layout.specs.Entries.{keys_of, tier_of}
+use Rattle.layout.proofs.Entries.{keys_tiered, tier_tiered}
 use Rattle.layout.specs.Layout.{Params, OneIssue, header_of, params_of, key_count}
 use Rattle.layout.specs.Layout.{image, image_by, keys_in, tier_in, set_in}
-use Rattle.layout.specs.Canonical.{canonical_true}
+use Rattle.layout.proofs.Canonical.{canonical_true}
 use Rattle.layout.specs.Shape.{Shaped, shape}
-use Rattle.layout.specs.Standing.{keys_in_valid}
+use Rattle.layout.proofs.Standing.{keys_in_valid}
 use Rattle.collect.specs.Collect.{keys_in_few}
 use Rattle.build.specs.Scratch.{used}
 use Rattle.scratch_set.specs.Members.{keys_at, lined_keys}

@@ -6,17 +6,22 @@ use Rattle.std.proofs.Math.Path.{sym, ap}
 use Rattle.std.proofs.Common.{◌∙◌, arith, eq-eqb, ne_eqb}
 use Rattle.std.proofs.Math.Bool.{false, not}
 use mathlib.Core.List.{List, [], ◌∷◌, ◌++◌, Memᴰ as In}
-use Rattle.basics.specs.Tests.{bool_ext}
-use Rattle.basics.specs.Lists.{same, same_true, true_same}
-use Rattle.refusals.specs.Refusal.{done, not_canonical, first_refusal, front_applies, front_passes, front_none}
+use Rattle.basics.proofs.Tests.{bool_ext}
+use Rattle.basics.specs.Lists.{same}
+use Rattle.basics.proofs.Lists.{same_true, true_same}
+use Rattle.refusals.specs.Refusal.{done, not_canonical, first_refusal}
+use Rattle.refusals.proofs.Refusal.{front_applies, front_passes, front_none}
 use Rattle.layout.specs.declared.Header.{Header}
 use Rattle.layout.specs.Layout.{Params, ValidKeys, one_issue, header_of, params_of, slots_of, places_of}
 use Rattle.layout.specs.Layout.{shaped, fits, image, keys_in, tier_in}
-use Rattle.layout.specs.Entries.{tiered, keys_tiered, tiered_agree, tiered_in, in_tiered}
-use Rattle.layout.specs.Canonical.{canonical, canonical_tier, canonical_true, image_of_canonical}
-use Rattle.layout.specs.Ready.{early_refusals, first_refusals, Ready, none_ready, head_ready}
-use Rattle.layout.specs.Issues.{one_issue_iff}
-use Rattle.layout.specs.Standing.{keys_in_valid}
+use Rattle.layout.specs.Entries.{tiered}
+use Rattle.layout.proofs.Entries.{keys_tiered, tiered_agree, tiered_in, in_tiered}
+use Rattle.layout.specs.Canonical.{canonical}
+use Rattle.layout.proofs.Canonical.{canonical_tier, canonical_true, image_of_canonical}
+use Rattle.layout.specs.Ready.{early_refusals, first_refusals, Ready}
+use Rattle.layout.proofs.Ready.{none_ready, head_ready}
+use Rattle.layout.proofs.Issues.{one_issue_iff}
+use Rattle.layout.proofs.Standing.{keys_in_valid}
 use Rattle.build.specs.Scratch.{used}
 use Rattle.build.specs.Build.{Built, Buildable}
 use Rattle.build.specs.declared.StashCount.{StashCount}

@@ -9,4 +9,3 @@ pub mod Sizes
 pub mod Buffer
 pub mod Stream
 pub mod Row
-pub mod Listing

@@ -84,19 +84,3 @@ book_row = row ((letter_B ∷ []) ∷ [])
 -- no row of numbers of 32 bits is longer than "P" with five of them and its newline, nor an error row of 64 bits
 abbrev pub row_room : ℕ
 row_room = 57
-
--- The laws. What a lookup's row shows of the number and the values: the tier of a key that is listed, N of one that is not, the number of a refusal.
-pub lookup_listed : (looked : Looked) (tier : ℕ) → values looked ≡ 1 ∷ tier ∷ [] → lookup_answer looked ≡ decimal tier
-lookup_listed (Listed t) tier e = ap (λ (l : List ℕ). decimal (get_or l 1 0)) e
-lookup_listed Absent tier e = absurd (omega (arith, ap length e))
-lookup_listed (Refused n) tier e = absurd (omega (arith, ap length e))
-
-pub lookup_absent : (looked : Looked) → values looked ≡ 0 ∷ [] → lookup_answer looked ≡ letter_N ∷ []
-lookup_absent (Listed t) e = absurd (omega (arith, ap length e))
-lookup_absent Absent e = refl
-lookup_absent (Refused n) e = absurd (omega (arith, ap length e))
-
-pub lookup_refused : (looked : Looked) → (number looked ≡ done → ⊥) → lookup_answer looked ≡ letter_R ∷ decimal (number looked)
-lookup_refused (Listed tier) h = absurd (h refl)
-lookup_refused Absent h = absurd (h refl)
-lookup_refused (Refused n) h = refl

@@ -3,5 +3,4 @@ pub mod Hash
 pub mod Answer
 pub mod Sum
 pub mod Slots
-pub mod Issues
 pub mod Stations

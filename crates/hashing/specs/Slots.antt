@@ -2,7 +2,7 @@
 -- of the cuckoo graph, and the one place where slots are numbered.
 use Rattle.std.specs.Prelude.{ℕ, ◌+◌, ◌<◌, ◌≤◌, ◌≡◌}
 use Rattle.std.proofs.Common.{arith}
-use Rattle.hashing.specs.Hash.{Family, hash, hash_lt}
+use Rattle.hashing.specs.Hash.{Family, hash}
 
 -- a key's slot in table 0, and in table 1
 abbrev pub slot_0 : Family → ℕ → ℕ
@@ -10,19 +10,3 @@ slot_0 F key = hash F 0 key
 
 abbrev pub slot_1 : Family → ℕ → ℕ
 slot_1 F key = F.slots + hash F 1 key
-
--- The laws that callers use.
-
-module _ (F : Family) (some : 0 < F.slots) (key : ℕ) where
-  pub slot_0_lt : slot_0 F key < F.slots
-  slot_0_lt = hash_lt F 0 key some
-
-  pub slot_1_le : F.slots ≤ slot_1 F key
-  slot_1_le = omega arith
-
-  pub slot_1_lt : slot_1 F key < F.slots + F.slots
-  slot_1_lt = omega (arith, hash_lt F 1 key some)
-
--- the tables have no slot in common
-pub slots_apart : (F : Family) → 0 < F.slots → (c d : ℕ) → slot_0 F c ≡ slot_1 F d → ⊥
-slots_apart F some c d e = omega (arith, slot_0_lt F some c, slot_1_le F some d)

@@ -16,10 +16,3 @@ pub record Agrees (P : Params) (o : Step) (m : Reply) : Type 0 where
   pub answer : o.answer ≡ m.answer
   -- and leaves a dictionary that holds the model's set
   pub holds : Holds P m.set o.words
-
--- Of the lent tabulations only those in place of the sequence's have a wrong length.
-pub own_lent : (P : Params) → length P.tabulation ≡ tabulation_length → wrong_length P own ≡ false
-own_lent P full_length = ap not (eq-eqb (length P.tabulation) tabulation_length full_length)
-
-pub wrong_lent : (P : Params) (t : List ℕ) (n : length t ≡ tabulation_length → ⊥) → wrong_length P (wrong t n) ≡ true
-wrong_lent P t n = ap not (ne_eqb (length t) tabulation_length n)

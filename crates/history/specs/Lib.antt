@@ -4,13 +4,9 @@
 -- (Sales), what else follows (Corollaries), the theorem at work (Example).
 pub mod Calls
 pub mod Model
-pub mod Starts
 pub mod Agrees
-pub mod Changes
-pub mod Reads
 pub mod Others
 pub mod History
 pub mod NoTrace
 pub mod Sales
-pub mod Corollaries
 pub mod Example

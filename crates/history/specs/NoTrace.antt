@@ -9,24 +9,19 @@ use Rattle.basics.specs.Sets.{member}
 use Rattle.cuckoo.specs.Placement.{Placement}
 use Rattle.ordered.specs.Keys.{with_key}
 use Rattle.refusals.specs.Refusal.{None, done, wrong_tabulation, short_scratch, blank_key, key_present, stash_full, wrong_tier, other_tier, other_issue}
-use Rattle.refusals.specs.Refusal.{first_refusal, none, and, front_passes, front_none}
+use Rattle.refusals.specs.Refusal.{first_refusal, none, and}
 use Rattle.hashing.specs.Hash.{blank}
 use Rattle.hashing.specs.Slots.{slot_0, slot_1}
 use Rattle.layout.specs.Entries.{Entry, max_tier, keys_of, tier_of}
 use Rattle.layout.specs.Layout.{Params, another_issue, family, scratch_length, fits, image}
-use Rattle.layout.specs.Canonical.{image_one}
 use Rattle.outcome.specs.declared.Change.TheVariants.{Insert}
 use Rattle.counters.specs.declared.Counters.{Counters}
-use Rattle.outcome.specs.Held.{Holds, held_some, held_full}
+use Rattle.outcome.specs.Held.{Holds}
 use Rattle.history.specs.Calls.{Lent, own, wrong, Call, Step, step, run, words_after, words_left}
 use Rattle.history.specs.Calls.{Allowed, none, more, Sequence, Like, Alike, end, then}
 use Rattle.history.specs.Model.{request, requests, wrong_length, too_short, before_full, full_test, change_tests, reply, model}
 use Rattle.history.specs.Model.{set_after, set_left}
-use Rattle.history.specs.Agrees.{wrong_lent}
-use Rattle.history.specs.Changes.{change_number, change_like}
-use Rattle.history.specs.Reads.{lookup_like, check_like}
-use Rattle.history.specs.Others.{other_like}
-use Rattle.history.specs.History.{Follows, history}
+use Rattle.history.specs.History.{Follows}
 
 -- "Where a call comes to the rule of the full drawer": an insert to which none of the register's refusals before 8
 -- applies, L being the register's set. They are 1, 3, 5, 9, 13, 10 and 6, the last two for a key of the set; "2 and 4
@@ -68,154 +63,12 @@ pub record NoTrace (P : Params) (L₀ : List Entry) (ws : List ℕ) (cs : List C
       ↔ (Placement (slot_0 (family P)) (slot_1 (family P)) P.places
       (with_key key (keys_of (set_left P L₀ ws cs₁))) → ⊥)
 
--- The laws. First, parts of a sequence:
-
--- a part of a sequence from its beginning is a sequence,
-allowed_part : (t : List ℕ) {ws : List ℕ} (cs ds : List Call) → Allowed t ws (cs ++ ds) → Allowed t ws cs
-allowed_part t [] ds a = none
-allowed_part t {ws = ws} (c ∷ cs) ds (more stand a) = more stand (allowed_part t {ws = (step t ws c).words} cs ds a)
-
-pub part : {P : Params} {L₀ : List Entry} {ws : List ℕ} (cs ds : List Call) → Sequence P L₀ ws (cs ++ ds)
-    → Sequence P L₀ ws cs
-part {P} cs ds q = record {
-  full_length = q.full_length;
-  start = q.start;
-  allowed = allowed_part P.tabulation cs ds q.allowed;
-}
-
--- and the next call of the run goes on with the words that it left.
-pub run_at : (P : Params) (ws : List ℕ) (cs : List Call) (c : Call) (ds : List Call)
-    → run P.tabulation ws (cs ++ (c ∷ ds))
-    ≡ run P.tabulation ws cs ++ (step_after P ws cs c ∷ run P.tabulation (step_after P ws cs c).words ds)
-unfolding run words_after
-run_at P ws [] c ds = refl
-run_at P ws (b ∷ cs) c ds = rw (run_at P (step P.tabulation ws b).words cs c ds)
-
--- As the register goes on with the set that it had then.
-pub model_at : (P : Params) (L : List Entry) (ws : List ℕ) (cs ds : List Call)
-    → model P L (requests P.tabulation ws (cs ++ ds))
-    ≡ model P L (requests P.tabulation ws cs)
-    ++ model P (set_after P L (requests P.tabulation ws cs)) (requests P.tabulation (words_left P ws cs) ds)
-unfolding model requests set_after words_after
-model_at P L ws [] ds = refl
-model_at P L ws (c ∷ cs) ds =
-    let o = step P.tabulation ws c in
-    rw (model_at P (reply P L (request c o.answer)).set o.words cs ds)
-
--- two sequences
-
--- Words that hold one set are equal: they are its image.
-one_image : {P : Params} {L L' : List Entry} {ws ws' : List ℕ} → Holds P L ws → Holds P L' ws' → L ≡ L' → ws ≡ ws'
-one_image {P} h h' e = h.is.is ∙ (ap (image P) e ∙ sym h'.is.is)
-
--- Equal words hold one set: differing sets have differing images.
-one_set : {P : Params} {L L' : List Entry} {ws ws' : List ℕ} → Holds P L ws → Holds P L' ws' → ws ≡ ws' → L ≡ L'
-one_set h h' e = (image_one (rw e at h.is) h'.is refl (held_some h)).1
-
-module _ {P : Params} {L₀ L₀' : List Entry} {ws ws' : List ℕ} {cs cs' : List Call}
-    (q : Sequence P L₀ ws cs) (q' : Sequence P L₀' ws' cs') where
-  words_say_set : words_left P ws cs ≡ words_left P ws' cs' → set_left P L₀ ws cs ≡ set_left P L₀' ws' cs'
-  words_say_set e = one_set (history q).final (history q').final e
-
-  set_says_words : set_left P L₀ ws cs ≡ set_left P L₀' ws' cs' → words_left P ws cs ≡ words_left P ws' cs'
-  set_says_words e = one_image (history q).final (history q').final e
-
--- later calls
-
--- Like calls answer and leave the same on the same words, one line for each kind of call, with its lemma;
-like_step : (t ws : List ℕ) {c c' : Call} → Like t c c' → step t ws c ≡ step t ws c'
-like_step t ws (Like.change kind {l} {l'} {scratch} {scratch'} counters counters' key e f) =
-    change_like t ws kind l l' scratch scratch' counters counters' key e f
-like_step t ws (Like.lookup {l} {l'} key e) = lookup_like t ws l l' e key
-like_step t ws (Like.check {l} {l'} {scratch} {scratch'} e f) = check_like t ws l l' e scratch scratch' f
-like_step t ws Like.view = refl
-like_step t ws (Like.other x x' f g) = other_like t ws x x' (f ws) (g ws)
-
--- and so do sequences of them.
-alike_run : (t ws : List ℕ) {cs cs' : List Call} → Alike t cs cs' → run t ws cs ≡ run t ws cs'
-unfolding run
-alike_run t ws end = refl
-alike_run t ws (then {c} {c'} {cs} {cs'} l a) = rw (like_step t ws l, alike_run t (step t ws c').words a)
-
--- Every call is like itself, one line for each kind again, and so is every sequence of calls.
-like_self : (t : List ℕ) (c : Call) → Like t c c
-like_self t (Call.change kind l scratch counters key) = Like.change kind counters counters key refl refl
-like_self t (Call.lookup l key) = Like.lookup key refl
-like_self t (Call.check l scratch) = Like.check refl refl
-like_self t Call.view = Like.view
-like_self t (Call.other x) = Like.other x x (λ ws. refl) (λ ws. refl)
-
-pub alike_self : (t : List ℕ) (cs : List Call) → Alike t cs cs
-alike_self t [] = end
-alike_self t (c ∷ cs) = then (like_self t c) (alike_self t cs)
-
--- each of seven refusals of which none applies
-none_seven : {p q r s t u v : ℕ × Bool} → None (p ∷ q ∷ r ∷ s ∷ t ∷ u ∷ v ∷ [])
-    → (p.1 ≡ false) × (q.1 ≡ false) × (r.1 ≡ false) × (s.1 ≡ false) × (t.1 ≡ false) × (u.1 ≡ false) × (v.1 ≡ false)
-none_seven (and a (and b (and c (and d (and e (and f (and g none))))))) = (a, b, c, d, e, f, g)
-
 -- the test of 8
 
 module _ {P : Params} {L₀ : List Entry} {ws : List ℕ} {cs : List Call} (q : Sequence P L₀ ws cs)
     (l : Lent) (scratch : List ℕ) (counters : Counters) (key tier : ℕ) where
-  abbrev L : List Entry
+  abbrev pub L : List Entry
   L = set_left P L₀ ws cs
 
-  abbrev answer : ℕ
+  abbrev pub answer : ℕ
   answer = (step_after P ws cs (Call.change (Insert tier) l scratch counters key)).answer.number
-
-  -- the register's answer
-  insert_number : answer ≡ first_refusal (change_tests P (Insert tier) l (length scratch) key L)
-  unfolding step
-  insert_number = change_number (history q).final q.full_length (Insert tier) l scratch key
-
-  -- its refusals before 8, and 8
-  abbrev before : List (ℕ × Bool)
-  before = before_full P l (length scratch) key tier L
-
-  come : ComesToFull P L l (length scratch) key tier → answer ≡ first_refusal (full_test P key L)
-  come h =
-      insert_number
-      ∙ front_passes before (full_test P key L) (and h.right_length (and h.long_enough (and h.not_blank
-      (and (le-ltb max_tier tier h.small_tier) (and h.no_other (and (rw h.absent) (and h.absent none)))))))
-
-  came : (answer ≡ done) ⊎ (answer ≡ stash_full) → ComesToFull P L l (length scratch) key tier
-  came d =
-      let tried = none_seven (front_none before (full_test P key L) (sym insert_number) (elim d [ inl e ↦ rw e | inr e ↦ rw e ])) in
-      record {
-        right_length = tried.0;
-        long_enough = tried.1;
-        not_blank = tried.2;
-        small_tier = ltb-false max_tier tier tried.3;
-        no_other = tried.4;
-        absent = tried.6;
-      }
-
-  -- An insert comes to the test of 8 exactly if it answers 0 or 8: if none of the refusals before 8 is given.
-  pub comes_answers : ComesToFull P L l (length scratch) key tier ↔ ((answer ≡ done) ⊎ (answer ≡ stash_full))
-  comes_answers = (
-    λ h. elim (test (fits P (with_key key (keys_of L)))) [ inl f ↦ inl (come h ∙ (rw f)) | inr f ↦ inr (come h ∙ (rw f)) ],
-    came,
-  )
-
--- It then answers 8 exactly if no placement of the new set exists.
-pub full_insert : {P : Params} {L₀ : List Entry} {ws : List ℕ} {cs : List Call} → Sequence P L₀ ws cs
-    → (l : Lent) (scratch : List ℕ) (counters : Counters) (key tier : ℕ)
-    → ComesToFull P (set_left P L₀ ws cs) l (length scratch) key tier
-    → ((step_after P ws cs (Call.change (Insert tier) l scratch counters key)).answer.number ≡ stash_full)
-    ↔ (Placement (slot_0 (family P)) (slot_1 (family P)) P.places (with_key key (keys_of (set_left P L₀ ws cs))) → ⊥)
-unfolding step
-full_insert {P} q own scratch counters key tier h =
-    let room : scratch_length P.slots P.places ≤ length scratch = ltb-false (length scratch) _ h.long_enough in
-    held_full (history q).final q.full_length scratch room key h.not_blank tier h.small_tier h.no_other h.absent
-full_insert {P} q (wrong t n) scratch counters key tier h = absurd (true≢false (sym (wrong_lent P t n) ∙ h.right_length))
-
--- THE theorem of demand 3: no past leaves a trace.
-pub no_trace : {P : Params} {L₀ : List Entry} {ws : List ℕ} {cs : List Call} → Sequence P L₀ ws cs → NoTrace P L₀ ws cs
-no_trace {P} q = record {
-  follows = history q;
-  same_words = λ q'. (words_say_set q q', set_says_words q q');
-  same_later = λ {L₀'} {ws'} {cs'} q' e {t} a. rw (set_says_words q q' e) (alike_run t (words_left P ws' cs') a);
-  full = λ cs₁ cs₂ l scratch counters key tier e h.
-      full_insert (part cs₁ (Call.change (Insert tier) l scratch counters key ∷ cs₂) (rw e at q)) l scratch counters key tier h;
-}

@@ -12,31 +12,14 @@ use Rattle.layout.specs.Layout.{Params}
 use Rattle.layout.specs.Answers.{fresh_refusal, fresh_words}
 use Rattle.outcome.specs.Held.{Holds}
 use Rattle.outcome.specs.Trail.{trail_outcome}
-use Rattle.outcome.specs.TrailLaws.{trail_words, trail_any_scratch}
+use Rattle.outcome.specs.TrailLaws.{trail_words}
 use Rattle.bulk.specs.Bulk.{params_for, bulk_outcome}
-use Rattle.bulk.specs.Laws.{bulk_refused, bulk_any_scratch}
+use Rattle.bulk.specs.Laws.{bulk_refused}
 use Rattle.survivors.specs.Salvage.{salvage_outcome}
-use Rattle.survivors.specs.Laws.{salvage_words, salvage_refused, salvage_any_scratch}
+use Rattle.survivors.specs.Laws.{salvage_words, salvage_refused}
 use Rattle.history.specs.Calls.{Answer, Other, Call, step, OtherStands, refused, unchanged, Like}
 use Rattle.history.specs.Model.{Request, reply}
 use Rattle.history.specs.Agrees.{Agrees}
-
--- Where it may stand, it leaves the words: refused, by its own law, and otherwise because just that is asked.
-pub stands_leaves : {ws : List ℕ} {x : Other} → OtherStands ws x → x.words ws ≡ ws
-stands_leaves {ws} {x} (refused n) = x.leaves ws n
-stands_leaves (unchanged e) = e
-
-pub other_agrees : {P : Params} {L : List Entry} {ws : List ℕ} → Holds P L ws → (x : Other) → OtherStands ws x
-    → Agrees P
-    (step P.tabulation ws (Call.other x))
-    (reply P L (Request.other (step P.tabulation ws (Call.other x)).answer))
-unfolding step reply
-other_agrees h x stand = record { answer = refl; holds = rw (stands_leaves stand) h }
-
-pub other_like : (t ws : List ℕ) (x x' : Other) → x.answer ws ≡ x'.answer ws → x.words ws ≡ x'.words ws
-    → step t ws (Call.other x) ≡ step t ws (Call.other x')
-unfolding step
-other_like t ws x x' f g = rw (f, g)
 
 -- init, with any r, s and station
 
@@ -51,12 +34,6 @@ init r s station = record {
   leaves = λ ws n. init_leaves ws r s station n;
 }
 
--- Two inits with equal arguments are like: what the meter holds has no say, since an init's answer and words are made without it.
-pub init_like : (t : List ℕ) {r r' s s' station station' : ℕ} → r ≡ r' → s ≡ s' → station ≡ station'
-    → Like t (Call.other (init r s station)) (Call.other (init r' s' station'))
-init_like t {r} {r'} {s} {s'} {station} {station'} e f g =
-    Like.other (init r s station) (init r' s' station') (λ ws. rw (e, f, g)) (λ ws. rw (e, f, g))
-
 -- bulk load, with any tabulation, r, s, station, input and scratch, over the words of the sequence: refused, it leaves
 -- them ("a refusal leaves the target unchanged"), and may stand there; accepted, it starts another sequence (`Start`)
 
@@ -67,18 +44,6 @@ loading tabulation r s station input scratch = record {
   words = λ ws. (bulk_outcome (params_for tabulation r s station) input ws scratch).words;
   leaves = λ ws n. bulk_refused (params_for tabulation r s station) input ws scratch n;
 }
-
--- "Like arguments are equal ones, what the work sheet and the meter hold aside": two bulk loads that differ only in
--- what the scratch holds are like.
-pub loading_like : (t tabulation : List ℕ) (r s station : ℕ) (input scratch scratch' : List ℕ)
-    → length scratch ≡ length scratch'
-    → Like t (Call.other (loading tabulation r s station input scratch))
-    (Call.other (loading tabulation r s station input scratch'))
-loading_like t tabulation r s station input scratch scratch' e =
-    let P = params_for tabulation r s station in
-    Like.other (loading tabulation r s station input scratch) (loading tabulation r s station input scratch')
-    (λ ws. rw (bulk_any_scratch P input ws scratch scratch' e))
-    (λ ws. rw (bulk_any_scratch P input ws scratch scratch' e))
 
 -- a salvage of other words, over those of the sequence: "every refusal leaves the second area unchanged", and then it
 -- may stand there; accepted, it starts another sequence (`Start`)
@@ -92,22 +57,10 @@ salvaging_over tabulation damaged scratch = record {
   leaves = λ ws n. salvage_refused tabulation damaged ws scratch n;
 }
 
-pub salvaging_over_like : (t tabulation damaged scratch scratch' : List ℕ) → length scratch ≡ length scratch'
-    → Like t (Call.other (salvaging_over tabulation damaged scratch))
-    (Call.other (salvaging_over tabulation damaged scratch'))
-salvaging_over_like t tabulation damaged scratch scratch' e =
-    Like.other (salvaging_over tabulation damaged scratch) (salvaging_over tabulation damaged scratch')
-    (λ ws. rw (salvage_any_scratch tabulation damaged ws scratch scratch' e))
-    (λ ws. rw (salvage_any_scratch tabulation damaged ws scratch scratch' e))
-
 -- calls that only read the words
 
 abbrev pub reads : (List ℕ → Answer) → Other
 reads answer = record { answer = answer; words = λ ws. ws; leaves = λ ws n. refl }
-
--- Such a call may stand on any words, accepted or refused, whatever it answers.
-pub reads_stands : (answer : List ℕ → Answer) (ws : List ℕ) → OtherStands ws (reads answer)
-reads_stands answer ws = unchanged refl
 
 -- The hashes of a key, for any tabulation, r and station: the call is not even lent the words.
 abbrev pub hashes : Family → ℕ → Other
@@ -124,18 +77,6 @@ tracing tabulation scratch key sheet = record {
   leaves = λ ws n. trail_words tabulation ws scratch key sheet;
 }
 
--- It may stand on any words, too.
-pub trail_stands : (tabulation ws scratch : List ℕ) (key : ℕ) (sheet : List ℕ) → OtherStands ws (tracing tabulation scratch key sheet)
-trail_stands tabulation ws scratch key sheet = unchanged (trail_words tabulation ws scratch key sheet)
-
--- "Like arguments are equal ones, what the work sheet and the meter hold aside": two trails that differ only in what the scratch holds are like.
-pub trail_like : (t tabulation scratch scratch' : List ℕ) (key : ℕ) (sheet : List ℕ) → length scratch ≡ length scratch'
-    → Like t (Call.other (tracing tabulation scratch key sheet)) (Call.other (tracing tabulation scratch' key sheet))
-trail_like t tabulation scratch scratch' key sheet e =
-    Like.other (tracing tabulation scratch key sheet) (tracing tabulation scratch' key sheet)
-    (λ ws. rw (trail_any_scratch tabulation ws scratch scratch' key sheet e))
-    (λ ws. rw (trail_any_scratch tabulation ws scratch scratch' key sheet e))
-
 -- A salvage of the words of the sequence, with any tabulation, target and scratch. Its values are how many are lost, none
 -- if it is refused, and the target, as it is afterwards.
 abbrev pub salvaging : (tabulation target scratch : List ℕ) → Other
@@ -146,15 +87,3 @@ salvaging tabulation target scratch = record {
   words = λ ws. (salvage_outcome tabulation ws target scratch).words;
   leaves = λ ws n. salvage_words tabulation ws target scratch;
 }
-
--- It may stand on any words, too,
-pub salvage_stands : (tabulation ws target scratch : List ℕ) → OtherStands ws (salvaging tabulation target scratch)
-salvage_stands tabulation ws target scratch = unchanged (salvage_words tabulation ws target scratch)
-
--- and two that differ only in what the scratch holds are like.
-pub salvaging_like : (t tabulation target scratch scratch' : List ℕ) → length scratch ≡ length scratch'
-    → Like t (Call.other (salvaging tabulation target scratch)) (Call.other (salvaging tabulation target scratch'))
-salvaging_like t tabulation target scratch scratch' e =
-    Like.other (salvaging tabulation target scratch) (salvaging tabulation target scratch')
-    (λ ws. rw (salvage_any_scratch tabulation ws target scratch scratch' e))
-    (λ ws. rw (salvage_any_scratch tabulation ws target scratch scratch' e))

@@ -2,15 +2,18 @@
 -- are fixed; comparing decides whether they have, and writing puts them there. Assumes nothing.
 use Rattle.std.specs.Prelude.{ℕ, suc, ◌+◌, ◌*◌, ◌<◌, ◌≡◌, Bool, true, ◌&&◌, List, ◌++◌, eqb, length, get_or, drop}
 use Rattle.std.proofs.Common.{sym, ◌∙◌, ap, arith, eqb-true, eq-eqb, length-drop, ext_get_or}
-use Rattle.basics.specs.Tests.{and_true, bool_ext}
-use Rattle.basics.specs.Lists.{same, same_true, true_same}
+use Rattle.basics.specs.Tests.{and_true}
+use Rattle.basics.proofs.Tests.{bool_ext}
+use Rattle.basics.specs.Lists.{same}
+use Rattle.basics.proofs.Lists.{same_true, true_same}
 use Rattle.cuckoo.specs.Graph.{slot_key, slot_next}
 use Rattle.hashing.specs.Slots.{slot_0, slot_1}
 use Rattle.layout.specs.Entries.{Entry, keys_of, tier_of}
 use Rattle.layout.specs.Layout.{Params, family, header_words, header_length, slot_width, place_width, key_at, tier_at, stash_at, place_at, words_length, slots_of, places_of}
 use Rattle.layout.specs.Layout.{key_count, stash_count, station_of, stash_of, fits, image}
 use Rattle.layout.specs.Shape.{Shaped}
-use Rattle.layout.specs.Image.{Laid, place_keys, image_laid, laid_image}
+use Rattle.layout.specs.Image.{Laid, place_keys}
+use Rattle.layout.proofs.Image.{image_laid, laid_image}
 use Rattle.layout.specs.declared.Header.{Header}
 use Rattle.records.specs.Columns.{picked, column_put, picked_length, picked_at, put_length, put_at, put_off}
 

@@ -8,11 +8,8 @@ pub mod Shape
 pub mod Image
 pub mod Standing
 pub mod Issues
-pub mod Fitting
-pub mod Look
 pub mod Canonical
 pub mod Ready
-pub mod Fresh
 pub mod Ends
 pub mod Bare
 pub mod Reissued

@@ -4,11 +4,12 @@ use Rattle.std.proofs.Common.{sym, ◌∙◌, ap, true≢false, inl, inr, arith}
 use borrow.Rule.Slice.PartMut.{mid_of}
 use Rattle.basics.specs.Tests.{test}
 use Rattle.basics.specs.Sets.{member, in_member}
-use Rattle.layout.specs.Entries.{Entry, keys_of, tier_of, tier_absent}
+use Rattle.layout.specs.Entries.{Entry, keys_of, tier_of}
+use Rattle.layout.proofs.Entries.{tier_absent}
 use Rattle.hashing.specs.Hash.{Family}
 use Rattle.hashing.specs.Slots.{slot_0, slot_1}
 use Rattle.layout.specs.Layout.{family_of, place_width, stash_at, slots_of, places_of, place_entries, slot_entry, stash_entries, looked_at}
-use Rattle.layout.specs.Standing.{stash_lent}
+use Rattle.layout.proofs.Standing.{stash_lent}
 use Rattle.layout.specs.Answers.{values, looked_up}
 use Rattle.layout.specs.declared.Found.{Found}
 use Rattle.layout.specs.declared.Found.TheVariants.{Listed, Absent, Refused}

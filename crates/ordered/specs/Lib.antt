@@ -3,5 +3,4 @@
 pub mod Keys
 pub mod Sorting
 pub mod Distinct
-pub mod Place
 pub mod Shift

@@ -5,4 +5,3 @@
 pub mod Inserts
 pub mod Orders
 pub mod Overfull
-pub mod AnyList

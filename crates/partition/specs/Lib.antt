@@ -3,4 +3,3 @@ pub mod Words
 pub mod Tally
 pub mod Chain
 pub mod Partition
-pub mod United

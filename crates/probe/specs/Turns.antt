@@ -6,9 +6,9 @@ use borrow.Author.Tests.{eq-eqb, ne_eqb, lt-ltb, le-ltb}
 use Rattle.basics.specs.Tests.{eq?}
 use Rattle.probing.specs.Rule.{after, looks}
 use Rattle.probing.specs.Moves.{displace, wrap, turn_word, wall}
-use Rattle.probing.specs.Way.{after_end, after_on}
-use Rattle.probing.specs.Adding.{displace_end, displace_swap, displace_on}
-use Rattle.probing.specs.Walls.{wrap_low, wrap_high, wall_here, wall_back, wall_skip}
+use Rattle.probing.proofs.Way.{after_end, after_on}
+use Rattle.probing.proofs.Adding.{displace_end, displace_swap, displace_on}
+use Rattle.probing.proofs.Walls.{wrap_low, wrap_high, wall_here, wall_back, wall_skip}
 
 -- a budget that is left is one more than it will be after this turn
 spend : (P : ℕ → ℕ → Type 0) (n : ℕ) → 0 < n → ((k : ℕ) → P (suc k) k) → P n (n - 1)

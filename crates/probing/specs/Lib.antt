@@ -10,5 +10,4 @@ pub mod Image
 pub mod Orders
 pub mod Walls
 pub mod Linear
-pub mod Canonical
 pub mod Rows

@@ -44,7 +44,3 @@ probing_rows =
     && not (canonical 0 (0 ∷ 50 ∷ 0 ∷ 0 ∷ 0 ∷ []))
     && not (canonical 4 (50 ∷ 50 ∷ 0 ∷ 0 ∷ 0 ∷ []))
     && not (canonical 1 (9 ∷ 0 ∷ 0 ∷ 0 ∷ 0 ∷ []))
-
-pub follow : T probing_rows
-unfolding same after place placed table_image looks look displace add wrap wall right settled all_settled add_all
-follow = tt

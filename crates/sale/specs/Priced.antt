@@ -18,7 +18,7 @@ use Rattle.layout.specs.declared.Found.TheVariants.{Listed, Absent, Refused}
 use Rattle.outcome.specs.Sale.{record_values, base_in_range, step_in_range, all_in_range, litre_price, unpriced}
 use Rattle.outcome.specs.Sale.{sale_refusal, sale_values, sale_of, sale_left}
 use Rattle.outcome.specs.declared.Sale.{Sale}
-use Rattle.outcome.specs.SaleLaws.{same_record, in_order, all_at, fair_iff, whole, sum_bound, untold, sale_refused, sale_done, sale_as_lookup, sale_absent, sale_listed}
+use Rattle.outcome.proofs.SaleLaws.{same_record, in_order, all_at, fair_iff, whole, sum_bound, untold, sale_refused, sale_done, sale_as_lookup, sale_absent, sale_listed}
 
 -- the price for a tier, 0 where 12 applies
 unfoldable pub price_or_0 : ℕ → List ℤ → ℕ → ℕ

@@ -6,23 +6,25 @@ use Rattle.std.proofs.Math.ListN.{length-map, get_or-append}
 use Rattle.std.proofs.Math.Seq.{take-length}
 use Rattle.basics.specs.Tests.{eq?}
 use Rattle.basics.specs.Sets.{keep, length_keep}
-use Rattle.basics.specs.Lists.{keep_append, at_map}
+use Rattle.basics.proofs.Lists.{keep_append, at_map}
 use Rattle.ordered.specs.Keys.{sorted, distinct}
-use Rattle.ordered.specs.Sorting.{sorted_length}
-use Rattle.ordered.specs.Distinct.{distinct_length}
+use Rattle.ordered.proofs.Sorting.{sorted_length}
+use Rattle.ordered.proofs.Distinct.{distinct_length}
 use Rattle.hashing.specs.Hash.{tables, Hashing}
 use Rattle.hashing.specs.Slots.{slot_0, slot_1}
 use Rattle.layout.specs.Entries.{Entry}
 use Rattle.layout.specs.Layout.{params_of, family_of, slots_of, places_of, station_of, slot_entry, stash_entries}
 use Rattle.layout.specs.Layout.{Spot, spot_key, looked_at}
-use Rattle.layout.specs.Shape.{Shaped, Sized, shape, by_own_family}
+use Rattle.layout.specs.Shape.{Shaped, Sized, shape}
+use Rattle.layout.proofs.Shape.{by_own_family}
 use Rattle.layout.specs.Ready.{Ready}
 use Rattle.edges.specs.Edge.{packed, Packable}
 use Rattle.build.specs.Scratch.{edges_at, used}
 use Rattle.scratch_set.specs.Edges.{edge_of, Lined, slots_in, packable}
 use Rattle.survivors.specs.Salvage.{counting, standing, standing_keys}
-use Rattle.survivors.specs.Spots.{counting_few}
-use Rattle.survivors.specs.Looked.{sound_issue, issue_small, standing_looked}
+use Rattle.survivors.proofs.Spots.{counting_few}
+use Rattle.survivors.specs.Looked.{sound_issue}
+use Rattle.survivors.proofs.Looked.{issue_small, standing_looked}
 use Rattle.candidates.specs.Candidates.{entry_of}
 
 -- the candidates: the keys that count, ascending, each once

@@ -7,17 +7,21 @@ use Rattle.std.proofs.Math.Path.{sym}
 use Rattle.std.proofs.lemmas.List.{length-map}
 use Rattle.std.proofs.Math.Seq.{paste, paste-zero}
 use Rattle.basics.specs.Tests.{le?}
-use Rattle.basics.specs.Lists.{at_map}
-use Rattle.basics.specs.Parts.{part_length, pasted_more, pasted_length, pasted_front, pasted_all}
+use Rattle.basics.proofs.Lists.{at_map}
+use Rattle.basics.specs.Parts.{part_length}
+use Rattle.basics.proofs.Parts.{pasted_more, pasted_length, pasted_front, pasted_all}
 use Rattle.edges.specs.Edge.{second_base, packed, first_of, second_of, tier_of_edge, Packable, Edge, no_edge}
 use Rattle.edges.specs.Edge.{packed_first, packed_second, packed_tier, packed_edge, no_edge_between}
 use Rattle.hashing.specs.Hash.{Family, tables}
-use Rattle.hashing.specs.Slots.{slot_0, slot_1, slot_0_lt, slot_1_le, slot_1_lt}
-use Rattle.forest.specs.Edges.{Edges, edge_at, edge_read, end_0, end_1}
+use Rattle.hashing.specs.Slots.{slot_0, slot_1}
+use Rattle.hashing.proofs.Slots.{slot_0_lt, slot_1_le, slot_1_lt}
+use Rattle.forest.specs.Edges.{Edges, edge_at, end_0, end_1}
+use Rattle.forest.proofs.Edges.{edge_read}
 use Rattle.forest.specs.Graph.{edges_in}
 use Rattle.layout.specs.Entries.{max_tier, tier_of}
 use Rattle.layout.specs.Layout.{Params, family, family_of, slots_of, station_of, slot_entry, stash_entries, tier_in}
-use Rattle.layout.specs.Shape.{Sized, by_own_family}
+use Rattle.layout.specs.Shape.{Sized}
+use Rattle.layout.proofs.Shape.{by_own_family}
 use Rattle.build.specs.Scratch.{parts, held_at, edges_at, used}
 use Rattle.build.specs.Build.{edges_of, Built, Buildable}
 use Rattle.build.specs.declared.StashCount.{StashCount}

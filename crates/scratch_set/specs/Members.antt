@@ -7,18 +7,20 @@ use mathlib.Core.List.{List, [], ◌∷◌, ◌++◌, map, map-append, Memᴰ as
 use Rattle.std.proofs.Math.Numerals.{add-one}
 use Rattle.std.proofs.Math.ListN.{length, take, drop, length-drop}
 use Rattle.std.proofs.lemmas.List.{take-append-le}
-use Rattle.basics.specs.Tests.{test, eq?, zero_one}
+use Rattle.basics.specs.Tests.{test, eq?}
+use Rattle.basics.proofs.Tests.{zero_one}
 use Rattle.basics.specs.Sets.{member, member_in, first, Asc, without}
-use Rattle.basics.specs.Lists.{at_map, map_same, map_take, map_drop}
+use Rattle.basics.proofs.Lists.{at_map, map_same, map_take, map_drop}
 use Rattle.basics.specs.Parts.{part_length}
 use Rattle.ordered.specs.Keys.{lower_bound, with_key}
-use Rattle.ordered.specs.Place.{bound_le, bound_found, member_at, member_past, with_parts, without_parts, length_with, length_without}
-use Rattle.ordered.specs.Shift.{shifted_in, shifted_out, shifted_in_column, shifted_out_column, shifted_in_length, shifted_out_length, shifted_in_behind, shifted_out_behind}
+use Rattle.ordered.proofs.Place.{bound_le, bound_found, member_at, member_past, with_parts, without_parts, length_with, length_without}
+use Rattle.ordered.specs.Shift.{shifted_in, shifted_out}
+use Rattle.ordered.proofs.Shift.{shifted_in_column, shifted_out_column, shifted_in_length, shifted_out_length, shifted_in_behind, shifted_out_behind}
 use Rattle.edges.specs.Edge.{tier_of_edge}
 use Rattle.hashing.specs.Hash.{first_part, blank}
-use Rattle.hashing.specs.Issues.{not_blank_iff}
+use Rattle.hashing.proofs.Issues.{not_blank_iff}
 use Rattle.layout.specs.Layout.{Params, another_issue, OneIssue, family}
-use Rattle.layout.specs.Issues.{issue_before, issue_at, issue_nowhere}
+use Rattle.layout.proofs.Issues.{issue_before, issue_at, issue_nowhere}
 use Rattle.layout.specs.Shape.{Sized}
 use Rattle.layout.specs.Answers.{values}
 use Rattle.layout.specs.declared.Found.{Found}

@@ -3,7 +3,6 @@
 -- the theorem that they agree (Sequences), what follows with one book and station (OneBook), and worked rows (Rows).
 pub mod Answers
 pub mod Canonical
-pub mod Demands
 pub mod Calls
 pub mod Sequences
 pub mod OneBook

@@ -82,7 +82,3 @@ stolen_rows =
     && eqb (stolen_lookup_refusal [] full 256 9) 1
     && tells full 256 9 2 []
     && tells full 0 9 5 []
-
-pub follow : T stolen_rows
-unfolding same below above with_key slots_in_range station_in_range blank hash after place placed table_image looks look table_keys stolen_board stolen_canonical stolen_lookup_refusal stolen_lookup_values stolen_insert_refusal stolen_insert_words
-follow = tt

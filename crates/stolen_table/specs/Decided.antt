@@ -5,17 +5,19 @@ use Rattle.std.proofs.Common.{sym, ◌∙◌, inl, inr, arith, ltb-true}
 use mathlib.Core.List.{List, Memᴰ as In}
 use Rattle.std.proofs.lemmas.Bool.{not-false}
 use Rattle.basics.specs.Tests.{and_true}
-use Rattle.basics.specs.Sets.{member, in_member, no_member}
-use Rattle.basics.specs.Lists.{get_or_in}
+use Rattle.basics.specs.Sets.{member, in_member}
+use Rattle.basics.proofs.Sets.{no_member}
+use Rattle.basics.proofs.Lists.{get_or_in}
 use Rattle.ordered.specs.Keys.{with_key}
-use Rattle.ordered.specs.Sorting.{in_at}
-use Rattle.hashing.specs.Hash.{tabulation_length, slots_in_range, station_in_range, blank, Hashing, hashing}
+use Rattle.ordered.proofs.Sorting.{in_at}
+use Rattle.hashing.specs.Hash.{tabulation_length, slots_in_range, station_in_range, blank, Hashing}
+use Rattle.hashing.proofs.Hash.{hashing}
 use Rattle.hashing.specs.Slots.{slot_0}
 use Rattle.probing.specs.Rule.{looks, look, table_keys}
 use Rattle.probing.specs.Moves.{displace, add, all_settled}
 use Rattle.probing.specs.Walls.{Barrier, empty, largest}
 use Rattle.stolen.specs.Answers.{stolen_family, stolen_image, stolen_canonical}
-use Rattle.stolen.specs.Canonical.{not_blank, canonical_true, canonical_settled, look_listed, room_left, inserted}
+use Rattle.stolen.proofs.Canonical.{not_blank, canonical_true, canonical_settled, look_listed, room_left, inserted}
 
 -- neither 1 nor 2 applies
 pub shaped_hashing : (tabulation ws : List ℕ) (station : ℕ) → length tabulation ≡ tabulation_length

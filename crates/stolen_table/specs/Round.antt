@@ -7,10 +7,10 @@ use native.Mathlib.Omega.{arith}
 use Rattle.std.proofs.lemmas.Bool.{lt-leb}
 use Rattle.basics.specs.Tests.{eq?}
 use Rattle.hashing.specs.Hash.{blank}
-use Rattle.hashing.specs.Issues.{blank_iff}
+use Rattle.hashing.proofs.Issues.{blank_iff}
 use Rattle.probing.specs.Moves.{slot_turn, turn_word, wall, right, settled, all_settled}
 use Rattle.probing.specs.Walls.{Walled}
-use Rattle.stolen.specs.Canonical.{not_blank}
+use Rattle.stolen.proofs.Canonical.{not_blank}
 
 -- a key that is right at a turn: no blank one, and one that starts behind its wall
 module _ (m b : ℕ) (h : ℕ → ℕ) (c w i : ℕ) where

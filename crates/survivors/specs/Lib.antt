@@ -4,7 +4,6 @@
 pub mod Salvage
 pub mod Spots
 pub mod Surviving
-pub mod Untampered
 pub mod Laws
 pub mod Looked
 pub mod Damage

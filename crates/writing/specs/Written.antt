@@ -9,7 +9,8 @@ use native.Mathlib.Omega.{arith}
 use Rattle.std.proofs.Math.ListN.{length, take, drop, length-append}
 use Rattle.std.proofs.lemmas.List.{take-set-le, set_split}
 use Rattle.std.proofs.Math.Seq.{append_snoc}
-use Rattle.grammar.specs.Decimal.{digit, decimal, decimal_small, decimal_large}
+use Rattle.grammar.specs.Decimal.{digit, decimal}
+use Rattle.grammar.proofs.Decimal.{decimal_small, decimal_large}
 
 pub record Written (text before : List ℕ) (at : ℕ) (after : List ℕ) (next : ℕ) : Type 0 where
   pub moved : next ≡ at + length text

@@ -8,7 +8,7 @@ use lib.Dec.{eqb}
 use lib.ListN.{length, length-replicate}
 use Prim.Native.Nat.{◌≤◌}
 use Rattle.layout.specs.Layout.{header_length, params_in_range, words_length}
-use Rattle.layout.specs.Fresh.{target_sizes, fresh_refused, fresh_accepted}
+use Rattle.layout.proofs.Fresh.{target_sizes, fresh_refused, fresh_accepted}
 use borrow.Author.Rules.{rules}
 use Rattle.access.proofs.fresh.Goals as goal
 

@@ -1,7 +1,7 @@
 -- `access::write_header` meets its contract: word by word.
 use native.Mathlib.Omega.{arith}
 use lib.ListN.{length-set}
-use Rattle.layout.specs.Image.{headed}
+use Rattle.layout.proofs.Image.{headed}
 use borrow.Author.Rules.{rules}
 use Rattle.access.proofs.write_header.Goals as goal
 

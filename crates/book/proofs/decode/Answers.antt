@@ -3,7 +3,8 @@ use mathlib.Core.Path.{◌≡◌, refl}
 use native.Mathlib.Omega.{arith}
 use borrow.Author.Rules.{rules}
 use lib.ListN.{length, take}
-use Rattle.book.specs.Bytes.{entries_of, decode_step, decode_end}
+use Rattle.book.specs.Bytes.{entries_of}
+use Rattle.book.proofs.Bytes.{decode_step, decode_end}
 use Rattle.book.proofs.decode.Goals as goal
 
 pub loop-i-init : goal.loop-i-init

@@ -4,7 +4,8 @@ use mathlib.Core.Path.{◌≡◌, refl}
 use native.Mathlib.Omega.{arith}
 use borrow.Author.Rules.{rules}
 use lib.ListN.{length, take}
-use Rattle.book.specs.Bytes.{entries_of, decode_step, decode_end}
+use Rattle.book.specs.Bytes.{entries_of}
+use Rattle.book.proofs.Bytes.{decode_step, decode_end}
 use Rattle.book.proofs.decode.Given as goal
 
 abbrev pub invariant-loop-i : goal.invariant-loop-i

@@ -3,7 +3,8 @@ use mathlib.Core.Path.{◌≡◌, refl}
 use native.Mathlib.Omega.{arith}
 use borrow.Author.Rules.{rules}
 use lib.ListN.{length, take, length-set}
-use Rattle.book.specs.Bytes.{bytes_of, encode_step, encode_end}
+use Rattle.book.specs.Bytes.{bytes_of}
+use Rattle.book.proofs.Bytes.{encode_step, encode_end}
 use Rattle.book.proofs.encode.Goals as goal
 
 pub loop-i-init : goal.loop-i-init

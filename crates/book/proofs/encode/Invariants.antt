@@ -4,7 +4,8 @@ use mathlib.Core.Path.{◌≡◌, refl}
 use native.Mathlib.Omega.{arith}
 use borrow.Author.Rules.{rules}
 use lib.ListN.{length, take, length-set}
-use Rattle.book.specs.Bytes.{bytes_of, encode_step, encode_end}
+use Rattle.book.specs.Bytes.{bytes_of}
+use Rattle.book.proofs.Bytes.{encode_step, encode_end}
 use Rattle.book.proofs.encode.Given as goal
 
 abbrev pub invariant-loop-i : goal.invariant-loop-i

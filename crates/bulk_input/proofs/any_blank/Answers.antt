@@ -7,7 +7,7 @@ use mathlib.Core.Bool.{◌||◌}
 use Rattle.basics.specs.Sets.{any}
 use Rattle.hashing.specs.Hash.{blank}
 use Rattle.bulk.specs.Bulk.{input_keys}
-use Rattle.bulk.specs.Input.{input_count, input_key, any_next, any_end}
+use Rattle.bulk.proofs.Input.{input_count, input_key, any_next, any_end}
 use Rattle.bulk_input.proofs.any_blank.Goals as goal
 
 pub loop-i-init : goal.loop-i-init

@@ -9,7 +9,7 @@ use lib.Dec.{ltb}
 use Rattle.basics.specs.Sets.{any}
 use Rattle.layout.specs.Entries.{max_tier}
 use Rattle.bulk.specs.Bulk.{input_tiers}
-use Rattle.bulk.specs.Input.{tier_count, input_tier, any_next, any_end}
+use Rattle.bulk.proofs.Input.{tier_count, input_tier, any_next, any_end}
 use Rattle.bulk_input.proofs.any_high.Goals as goal
 
 pub loop-i-init : goal.loop-i-init

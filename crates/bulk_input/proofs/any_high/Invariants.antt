@@ -10,7 +10,7 @@ use lib.Dec.{ltb}
 use Rattle.basics.specs.Sets.{any}
 use Rattle.layout.specs.Entries.{max_tier}
 use Rattle.bulk.specs.Bulk.{input_tiers}
-use Rattle.bulk.specs.Input.{tier_count, input_tier, any_next, any_end}
+use Rattle.bulk.proofs.Input.{tier_count, input_tier, any_next, any_end}
 use Rattle.bulk_input.proofs.any_high.Given as goal
 
 abbrev pub invariant-loop-i : goal.invariant-loop-i

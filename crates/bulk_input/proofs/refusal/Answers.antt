@@ -9,7 +9,7 @@ use Rattle.layout.specs.Entries.{max_tier}
 use Rattle.layout.specs.Layout.{one_issue}
 use Rattle.refusals.specs.Refusal.{done, other_issue, first_refusal}
 use Rattle.bulk.specs.Bulk.{input_keys, input_tiers, odd_length, rising, input_refusals}
-use Rattle.bulk.specs.Input.{tested_valid}
+use Rattle.bulk.proofs.Input.{tested_valid}
 use borrow.Author.Rules.{rules}
 use Rattle.bulk_input.proofs.refusal.Goals as goal
 

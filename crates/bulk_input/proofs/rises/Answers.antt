@@ -8,7 +8,7 @@ use lib.Dec.{ltb}
 use lib.ListN.{drop, length, get_or}
 use Rattle.basics.specs.Lists.{rises}
 use Rattle.bulk.specs.Bulk.{input_keys, rising}
-use Rattle.bulk.specs.Input.{input_count, input_key, rising_start, from_next, from_end}
+use Rattle.bulk.proofs.Input.{input_count, input_key, rising_start, from_next, from_end}
 use Rattle.bulk_input.proofs.rises.Goals as goal
 
 pub loop-i-init : goal.loop-i-init

@@ -1,7 +1,7 @@
 -- `bulk_load::bulk_load` meets its contract: what `load_words` answers and leaves, and cleared scratch.
 use mathlib.Core.Path.{sym, ◌∙◌}
-use Rattle.outcome.specs.Laws.{outcome_of}
-use Rattle.bulk.specs.Laws.{bulk_scratch}
+use Rattle.outcome.proofs.Laws.{outcome_of}
+use Rattle.bulk.proofs.Laws.{bulk_scratch}
 use borrow.Author.Rules.{rules}
 use Rattle.bulk_load.proofs.bulk_load.Goals as goal
 

@@ -4,9 +4,9 @@ use native.Mathlib.Omega.{arith}
 use borrow.Author.Rules.{rules}
 use lib.ListN.{length, set, length-set}
 use lib.Seq.{get_or-set_same, paste, paste-zero}
-use Rattle.basics.specs.Parts.{pasted_more, pasted_length}
+use Rattle.basics.proofs.Parts.{pasted_more, pasted_length}
 use Rattle.bulk.specs.Bulk.{input_keys}
-use Rattle.bulk.specs.Input.{input_count, input_key}
+use Rattle.bulk.proofs.Input.{input_count, input_key}
 use Rattle.bulk_load.specs.Loading.{keys_brought}
 use Rattle.bulk_load.proofs.put_keys.Goals as goal
 

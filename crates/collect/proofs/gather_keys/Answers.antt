@@ -4,7 +4,7 @@ use Prim.Native.Nat.{◌*◌}
 use native.Mathlib.Omega.{arith}
 use lib.ListN.{length-set}
 use Rattle.layout.specs.Layout.{header_length, slot_width, stash_at}
-use Rattle.layout.specs.Shape.{same_header}
+use Rattle.layout.proofs.Shape.{same_header}
 use Rattle.collect.specs.Collect.{non_blank_few, gathered_front}
 use borrow.Author.Rules.{rules}
 use Rattle.collect.proofs.gather_keys.Goals as goal

@@ -3,7 +3,7 @@ use mathlib.Core.Path.{sym, ◌∙◌}
 use native.Mathlib.Omega.{arith}
 use lib.ListN.{take}
 use lib.Seq.{length-take-le, take-append-le}
-use Rattle.ordered.specs.Distinct.{distinct_length}
+use Rattle.ordered.proofs.Distinct.{distinct_length}
 use borrow.Author.Rules.{rules}
 use Rattle.collect.proofs.make_set.Goals as goal
 

@@ -1,6 +1,6 @@
 -- `dictionary::check` meets its contract: what load answers, and cleared scratch.
 use mathlib.Core.Path.{sym, ◌∙◌}
-use Rattle.outcome.specs.Laws.{outcome_of, check_answer, check_words, check_scratch}
+use Rattle.outcome.proofs.Laws.{outcome_of, check_answer, check_words, check_scratch}
 use borrow.Author.Rules.{rules}
 use Rattle.dictionary.proofs.check.Goals as goal
 

@@ -1,6 +1,6 @@
 -- `dictionary::update` meets its contract: what `change_words` answers and leaves, and cleared scratch.
 use mathlib.Core.Path.{sym, ◌∙◌}
-use Rattle.outcome.specs.Laws.{outcome_of, change_scratch}
+use Rattle.outcome.proofs.Laws.{outcome_of, change_scratch}
 use borrow.Author.Rules.{rules}
 use Rattle.dictionary.proofs.update.Goals as goal
 

@@ -1,6 +1,6 @@
 use native.Mathlib.Omega.{arith}
 use borrow.Author.Rules.{rules}
-use Rattle.grammar.specs.Parted.{place_here, place_next, place_end}
+use Rattle.grammar.proofs.Parted.{place_here, place_next, place_end}
 use Rattle.fields.proofs.find.Goals as goal
 
 pub returns-then-bytes-i : goal.returns-then-bytes-i

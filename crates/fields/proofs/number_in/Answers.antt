@@ -1,7 +1,7 @@
 use mathlib.Core.Path.{sym, ◌∙◌}
 use native.Mathlib.Omega.{arith}
 use borrow.Author.Rules.{rules}
-use Rattle.grammar.specs.Number.{number_read, number_bad, read_low, read_high, read_over, read_step, read_done}
+use Rattle.grammar.proofs.NumberLaws.{number_read, number_bad, read_low, read_high, read_over, read_step, read_done}
 use Rattle.fields.proofs.number_in.Goals as goal
 
 pub returns-then-not-starts_well : goal.returns-then-not-starts_well

@@ -2,13 +2,14 @@
 use mathlib.Core.Path.{◌≡◌, sym, ◌∙◌}
 use native.Mathlib.Omega.{arith}
 use lib.Seq.{length-take-le}
-use Rattle.basics.specs.Parts.{to_end}
-use Rattle.grammar.specs.Parted.{comma, place_of, place_le}
+use Rattle.basics.proofs.Parts.{to_end}
+use Rattle.grammar.specs.Parted.{comma, place_of}
+use Rattle.grammar.proofs.Parted.{place_le}
 use Rattle.grammar.specs.Number.{number_of}
 use Prim.Native.Nat.{◌+◌, ◌-◌, ◌<◌}
 use native.Mathlib.Numerals.{add-one}
 use lib.ListN.{length, take, drop}
-use Rattle.grammar.specs.Command.{pair_none, pair_split}
+use Rattle.grammar.proofs.CommandLaws.{pair_none, pair_split}
 use Rattle.fields.proofs.pair_of.Goals as goal
 
 pub returns-then-text-end : goal.returns-then-text-end

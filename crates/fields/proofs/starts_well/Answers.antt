@@ -1,7 +1,7 @@
 -- `fields::starts_well` meets its contract: the three cases of `no_leading_zero`.
 use mathlib.Core.Path.{sym}
 use native.Mathlib.Omega.{arith}
-use Rattle.grammar.specs.Number.{leading_none, leading_one, leading_more}
+use Rattle.grammar.proofs.NumberLaws.{leading_none, leading_one, leading_more}
 use Rattle.fields.proofs.starts_well.Goals as goal
 
 pub returns-then-text-eq0 : goal.returns-then-text-eq0

@@ -1,6 +1,7 @@
 -- `forest::exchange` meets its contract: the two calls one after the other, over edges that stay.
 use mathlib.Core.Path.{◌∙◌}
-use Rattle.forest.specs.Graph.{Kept, kept_start, kept_graph, kept_rank, kept_edges, turned, taken, exchange_done}
+use Rattle.forest.specs.Graph.{Kept}
+use Rattle.forest.proofs.Graph.{kept_start, kept_graph, kept_rank, kept_edges, turned, taken, exchange_done}
 use borrow.Author.Rules.{rules}
 use Rattle.forest.proofs.exchange.Goals as goal
 

@@ -1,6 +1,7 @@
 -- `forest::finish_cycle` meets its contract: the calls one after the other, over edges that stay.
 use native.Mathlib.Omega.{arith}
-use Rattle.forest.specs.Graph.{Kept, kept_start, kept_graph, kept_edges, turned, cycle_done}
+use Rattle.forest.specs.Graph.{Kept}
+use Rattle.forest.proofs.Graph.{kept_start, kept_graph, kept_edges, turned, cycle_done}
 use borrow.Author.Rules.{rules}
 use Rattle.forest.proofs.finish_cycle.Goals as goal
 

@@ -2,8 +2,9 @@
 use native.Mathlib.Omega.{arith}
 use mathlib.Core.Path.{sym, ◌∙◌, ap}
 use Rattle.edges.specs.Edge.{first_of}
-use Rattle.forest.specs.Edges.{end_0, ends_fit}
-use Rattle.forest.specs.Graph.{first_none}
+use Rattle.forest.specs.Edges.{end_0}
+use Rattle.forest.proofs.Edges.{ends_fit}
+use Rattle.forest.proofs.Graph.{first_none}
 use borrow.Author.Rules.{rules}
 use Rattle.forest.proofs.first_slot.Goals as goal
 

@@ -8,8 +8,10 @@ use native.Mathlib.Numerals.{add-one}
 use lib.Dec.{ltb}
 use lib.ListN.{get_or}
 use borrow.Author.Tests.{lt-ltb, le-ltb}
-use Rattle.forest.specs.Way.{lowest_slot, lowest_none, lowest_stop, lowest_step}
-use Rattle.forest.specs.Graph.{lowest, held_in, other_slot, held_word, kept_start, kept_rank}
+use Rattle.forest.specs.Way.{lowest_slot}
+use Rattle.forest.proofs.Way.{lowest_none, lowest_stop, lowest_step}
+use Rattle.forest.specs.Graph.{lowest, held_in, other_slot}
+use Rattle.forest.proofs.Graph.{held_word, kept_start, kept_rank}
 use borrow.Author.Rules.{rules}
 use Rattle.forest.proofs.lowest_slot.Given as goal
 

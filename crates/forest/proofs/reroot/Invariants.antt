@@ -5,8 +5,10 @@ use mathlib.Core.Path.{◌≡◌, ◌∙◌, sym, ap}
 use native.Mathlib.Numerals.{add-one}
 use lib.ListN.{length, length-set}
 use lib.Seq.{take-set-lt}
-use Rattle.forest.specs.Reroot.{reroot, reroot_none, reroot_stop, reroot_step}
-use Rattle.forest.specs.Graph.{Kept, kept_start, kept_graph, kept_set, kept_rank, kept_with, kept_edges, held_in, edges_in, other_slot, held_word}
+use Rattle.forest.specs.Reroot.{reroot}
+use Rattle.forest.proofs.RerootLaws.{reroot_none, reroot_stop, reroot_step}
+use Rattle.forest.specs.Graph.{Kept, held_in, edges_in, other_slot}
+use Rattle.forest.proofs.Graph.{kept_start, kept_graph, kept_set, kept_rank, kept_with, kept_edges, held_word}
 use borrow.Author.Rules.{rules}
 use Rattle.forest.proofs.reroot.Given as goal
 

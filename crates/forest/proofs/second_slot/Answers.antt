@@ -2,7 +2,8 @@
 use native.Mathlib.Omega.{arith}
 use mathlib.Core.Path.{◌∙◌, ap}
 use Rattle.edges.specs.Edge.{second_of}
-use Rattle.forest.specs.Edges.{end_1, ends_fit}
+use Rattle.forest.specs.Edges.{end_1}
+use Rattle.forest.proofs.Edges.{ends_fit}
 use borrow.Author.Rules.{rules}
 use Rattle.forest.proofs.second_slot.Goals as goal
 

@@ -4,9 +4,9 @@ use mathlib.Core.Path.{◌≡◌, sym, ◌∙◌}
 use native.Mathlib.Omega.{arith}
 use lib.ListN.{length, take, drop}
 use Rattle.grammar.specs.Number.{number_of}
-use Rattle.basics.specs.Parts.{to_end}
-use Rattle.grammar.specs.Command.{pair_of, command_short, command_none, command_add, command_key}
-use borrow.Author.Rules.{rules}
+use Rattle.basics.proofs.Parts.{to_end}
+use Rattle.grammar.specs.Command.{pair_of}
+use Rattle.grammar.proofs.CommandLaws.{command_short, command_none, command_add, command_key}
 use Rattle.forms.proofs.command_of.Goals as goal
 
 pub returns-then-line-lt2 : goal.returns-then-line-lt2

@@ -6,7 +6,7 @@ use borrow.Author.Tests.{eq-eqb, ne_eqb, not-true, not-false}
 use borrow.Author.Rules.{rules}
 use lib.Dec.{eqb}
 use Rattle.layout.specs.Layout.{stash_at, slots_of, key_count, stash_count}
-use Rattle.layout.specs.Shape.{same_header}
+use Rattle.layout.proofs.Shape.{same_header}
 use Rattle.image.specs.Ranks.{held_length, slot_ranks, place_ranks}
 use Rattle.image.proofs.matches.Goals as goal
 

@@ -3,8 +3,9 @@ use mathlib.Core.Path.{◌≡◌, sym, ◌∙◌, ap}
 use native.Mathlib.Omega.{arith}
 use lib.ListN.{length}
 use lib.Seq.{length-take-le}
-use Rattle.grammar.specs.Command.{longest, command_of, command_long}
-use Rattle.grammar.specs.Buffer.{held, too_many}
+use Rattle.grammar.specs.Command.{longest, command_of}
+use Rattle.grammar.proofs.CommandLaws.{command_long}
+use Rattle.grammar.proofs.Buffer.{held, too_many}
 use borrow.Author.Rules.{rules}
 use Rattle.lines.proofs.command_in.Goals as goal
 

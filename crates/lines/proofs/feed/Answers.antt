@@ -1,5 +1,5 @@
 -- `lines::feed` meets its contract: with room the byte is kept, without it only counted.
-use Rattle.grammar.specs.Buffer.{holds_more, holds_over}
+use Rattle.grammar.proofs.Buffer.{holds_more, holds_over}
 use borrow.Author.Rules.{rules}
 use Rattle.lines.proofs.feed.Goals as goal
 

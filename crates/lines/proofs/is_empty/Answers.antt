@@ -1,5 +1,5 @@
 -- `lines::is_empty` meets its contract.
-use Rattle.grammar.specs.Buffer.{same_empty}
+use Rattle.grammar.proofs.Buffer.{same_empty}
 use Rattle.lines.proofs.is_empty.Goals as goal
 
 pub returns : goal.returns

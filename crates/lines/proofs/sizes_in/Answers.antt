@@ -4,8 +4,9 @@ use native.Mathlib.Omega.{arith}
 use lib.ListN.{length}
 use lib.Seq.{length-take-le}
 use Rattle.grammar.specs.Command.{longest}
-use Rattle.grammar.specs.Sizes.{sizes_of, sizes_long}
-use Rattle.grammar.specs.Buffer.{held, too_many}
+use Rattle.grammar.specs.Sizes.{sizes_of}
+use Rattle.grammar.proofs.SizesLaws.{sizes_long}
+use Rattle.grammar.proofs.Buffer.{held, too_many}
 use borrow.Author.Rules.{rules}
 use Rattle.lines.proofs.sizes_in.Goals as goal
 

@@ -2,7 +2,8 @@
 use native.Mathlib.Omega.{arith}
 use mathlib.Core.Path.{◌≡◌, ◌∙◌, ap}
 use Rattle.edges.specs.Edge.{first_of, second_of}
-use Rattle.forest.specs.Edges.{end_0, end_1, ends_fit}
+use Rattle.forest.specs.Edges.{end_0, end_1}
+use Rattle.forest.proofs.Edges.{ends_fit}
 use Rattle.forest.specs.Graph.{edges_in}
 use Rattle.build.specs.Scratch.{parts}
 use borrow.Author.Rules.{rules}

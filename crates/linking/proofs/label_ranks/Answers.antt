@@ -6,11 +6,14 @@ use native.Mathlib.Numerals.{add-one}
 use lib.ListN.{length, get_or, set}
 use Rattle.partition.specs.Words.{rep_of}
 use Rattle.edges.specs.Edge.{first_of}
-use Rattle.forest.specs.Edges.{Edges, edge_at, end_0, ends_fit}
+use Rattle.forest.specs.Edges.{Edges, edge_at, end_0}
+use Rattle.forest.proofs.Edges.{ends_fit}
 use Rattle.forest.specs.Graph.{edges_in}
 use Rattle.build.specs.Scratch.{Parts, parts, with_next}
-use Rattle.build.specs.Access.{Enough, enough_kept}
-use Rattle.build.specs.LinkCode.{Marks, marks_more, labelled_parts, labels_from, labels_none, labels_more, labels_done}
+use Rattle.build.specs.Access.{Enough}
+use Rattle.build.proofs.Access.{enough_kept}
+use Rattle.build.specs.LinkCode.{Marks, labelled_parts, labels_from}
+use Rattle.build.proofs.LinkCode.{marks_more, labels_none, labels_more, labels_done}
 use borrow.Author.Rules.{rules}
 use Rattle.linking.proofs.label_ranks.Goals as goal
 

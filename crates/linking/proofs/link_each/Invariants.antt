@@ -3,11 +3,12 @@ use native.Mathlib.Omega.{arith}
 use Prim.Native.Nat.{ℕ, ◌+◌, ◌≤◌, ◌<◌, ◌-◌}
 use native.Mathlib.Numerals.{add-one}
 use Rattle.forest.specs.Graph.{edges_in}
-use Rattle.build.specs.Access.{enough_kept, edges_count}
+use Rattle.build.proofs.Access.{enough_kept, edges_count}
 use mathlib.Core.Path.{◌≡◌, ◌∙◌, ap}
 use lib.ListN.{length}
 use Rattle.build.specs.Scratch.{Parts, parts}
-use Rattle.build.specs.LinkCode.{Linkable, rank_linked, ranks_linked, after_none, after_linkable, after_more}
+use Rattle.build.specs.LinkCode.{Linkable, rank_linked, ranks_linked}
+use Rattle.build.proofs.LinkCode.{after_none, after_linkable, after_more}
 use borrow.Author.Rules.{rules}
 use Rattle.linking.proofs.link_each.Given as goal
 

@@ -1,8 +1,8 @@
 -- `linking::link_rank` meets its contract: what `ends_of` found of the rank is the record `Found`, whose laws say the rest.
 use native.Mathlib.Omega.{arith}
 use mathlib.Core.Path.{◌∙◌}
-use Rattle.build.specs.Access.{enough_kept, edges_count}
-use Rattle.build.specs.LinkCode.{one_marked, two_marked, ends_merge, end_fits, within_sets, marked_graph, turned_sets, between_sets}
+use Rattle.build.proofs.Access.{enough_kept, edges_count}
+use Rattle.build.proofs.LinkCode.{one_marked, two_marked, ends_merge, end_fits, within_sets, marked_graph, turned_sets, between_sets}
 use borrow.Author.Rules.{rules}
 use Rattle.linking.proofs.link_rank.Goals as goal
 

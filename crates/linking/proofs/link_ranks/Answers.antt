@@ -6,8 +6,9 @@ use lib.ListN.{length}
 use Rattle.forest.specs.Edges.{Edges}
 use Rattle.forest.specs.Graph.{edges_in}
 use Rattle.build.specs.Scratch.{Parts, parts}
-use Rattle.build.specs.Access.{parts_fit}
-use Rattle.build.specs.LinkCode.{unlinked_parts, ranks_linked, linked_parts, start_linkable, start_all}
+use Rattle.build.proofs.Access.{parts_fit}
+use Rattle.build.specs.LinkCode.{unlinked_parts, ranks_linked, linked_parts}
+use Rattle.build.proofs.LinkCode.{start_linkable, start_all}
 use borrow.Author.Rules.{rules}
 use Rattle.linking.proofs.link_ranks.Goals as goal
 

@@ -1,6 +1,6 @@
 -- `linking::reroot_graph` meets its contract: the graph is lent whole, and comes back re-rooted.
 use Rattle.forest.specs.Graph.{rerooted}
-use Rattle.build.specs.Access.{graph_lent, graph_renewed}
+use Rattle.build.proofs.Access.{graph_lent, graph_renewed}
 use borrow.Author.Rules.{rules}
 use Rattle.linking.proofs.reroot_graph.Goals as goal
 

@@ -3,9 +3,10 @@ use native.Mathlib.Omega.{arith}
 use Prim.Native.Nat.{ℕ}
 use mathlib.Core.Path.{◌∙◌, ap}
 use mathlib.Core.List.{List}
-use Rattle.partition.specs.Words.{rep_of, rep_fits}
+use Rattle.partition.specs.Words.{rep_of}
+use Rattle.partition.proofs.Words.{rep_fits}
 use Rattle.build.specs.Scratch.{parts}
-use Rattle.build.specs.Access.{sets_part, part_lent, part_long}
+use Rattle.build.proofs.Access.{sets_part, part_lent, part_long}
 use borrow.Author.Rules.{rules}
 use Rattle.linking.proofs.set_of.Goals as goal
 

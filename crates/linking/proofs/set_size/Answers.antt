@@ -1,5 +1,5 @@
 -- `linking::set_size` meets its contract: the sets are lent whole.
-use Rattle.build.specs.Access.{sets_part, part_lent}
+use Rattle.build.proofs.Access.{sets_part, part_lent}
 use borrow.Author.Rules.{rules}
 use Rattle.linking.proofs.set_size.Goals as goal
 

@@ -1,6 +1,6 @@
 -- `linking::unite_sets` meets its contract: the sets are lent whole, and come back united.
 use Rattle.partition.specs.Words.{united}
-use Rattle.build.specs.Access.{sets_part, part_lent, part_renewed}
+use Rattle.build.proofs.Access.{sets_part, part_lent, part_renewed}
 use borrow.Author.Rules.{rules}
 use Rattle.linking.proofs.unite_sets.Goals as goal
 

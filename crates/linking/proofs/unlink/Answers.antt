@@ -4,8 +4,9 @@ use Prim.Native.Nat.{◌-◌}
 use lib.ListN.{length, replicate}
 use borrow.Rule.Slice.PartMut.{put_mid}
 use Rattle.partition.specs.Words.{singletons_of}
-use Rattle.build.specs.Access.{Enough, enough_kept, held_part, sets_part, part_renewed}
-use Rattle.build.specs.LinkCode.{unlinked_done}
+use Rattle.build.specs.Access.{Enough}
+use Rattle.build.proofs.Access.{enough_kept, held_part, sets_part, part_renewed}
+use Rattle.build.proofs.LinkCode.{unlinked_done}
 use borrow.Author.Rules.{rules}
 use Rattle.linking.proofs.unlink.Goals as goal
 

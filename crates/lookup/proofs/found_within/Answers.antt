@@ -2,8 +2,9 @@
 use Prim.Native.Nat.{◌+◌, ◌<◌}
 use mathlib.Core.Path.{◌≡◌, refl, ◌∙◌}
 use native.Mathlib.Omega.{arith}
-use Rattle.hashing.specs.Slots.{slot_0, slot_1, slot_0_lt, slot_1_lt}
-use Rattle.layout.specs.Shape.{by_own_family, same_header}
+use Rattle.hashing.specs.Slots.{slot_0, slot_1}
+use Rattle.hashing.proofs.Slots.{slot_0_lt, slot_1_lt}
+use Rattle.layout.proofs.Shape.{by_own_family, same_header}
 use Rattle.layout.specs.Layout.{family_of, slots_of}
 use borrow.Author.Rules.{rules}
 use Rattle.lookup.specs.Found.{own_listed, own_missed}

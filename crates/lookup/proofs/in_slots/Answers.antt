@@ -3,8 +3,9 @@ use Prim.Native.Nat.{◌+◌, ◌<◌}
 use mathlib.Core.Path.{◌≡◌, refl, sym, ◌∙◌}
 use native.Mathlib.Omega.{arith}
 use lib.Dec.{eqb}
-use Rattle.hashing.specs.Slots.{slot_0, slot_1, slot_0_lt, slot_1_lt}
-use Rattle.layout.specs.Shape.{by_own_family, same_header}
+use Rattle.hashing.specs.Slots.{slot_0, slot_1}
+use Rattle.hashing.proofs.Slots.{slot_0_lt, slot_1_lt}
+use Rattle.layout.proofs.Shape.{by_own_family, same_header}
 use Rattle.layout.specs.Layout.{family_of, slots_of, slot_entry}
 use borrow.Author.Rules.{rules}
 use Rattle.lookup.specs.Found.{found_first, found_second, found_neither}

@@ -1,7 +1,7 @@
 -- `lookup::in_stash` meets its contract: the stash lies inside words of the right shape.
 use mathlib.Core.Path.{◌∙◌, ap}
 use Rattle.layout.specs.Layout.{stash_at}
-use Rattle.layout.specs.Shape.{same_header}
+use Rattle.layout.proofs.Shape.{same_header}
 use borrow.Author.Rules.{rules}
 use Rattle.lookup.specs.Found.{found_stash}
 use Rattle.lookup.proofs.in_stash.Goals as goal

@@ -4,7 +4,7 @@ use native.Mathlib.Nat.{add-sub_cancel_left}
 use native.Mathlib.Omega.{arith}
 use borrow.Author.Tests.{eq-eqb, ne_eqb}
 use Rattle.layout.specs.Answers.{view_refusal, view_of}
-use Rattle.layout.specs.Shape.{viewed, same_header}
+use Rattle.layout.proofs.Shape.{viewed, same_header}
 use borrow.Author.Rules.{rules}
 use Rattle.lookup.proofs.stash.Goals as goal
 

@@ -3,8 +3,9 @@ use native.Mathlib.Omega.{arith}
 use Prim.Native.Nat.{◌-◌}
 use lib.ListN.{length, replicate}
 use borrow.Rule.Slice.PartMut.{put_mid}
-use Rattle.build.specs.Access.{Enough, enough_kept, stash_part, sets_part, part_renewed}
-use Rattle.build.specs.NotesCode.{cleared_done}
+use Rattle.build.specs.Access.{Enough}
+use Rattle.build.proofs.Access.{enough_kept, stash_part, sets_part, part_renewed}
+use Rattle.build.proofs.NotesCode.{cleared_done}
 use borrow.Author.Rules.{rules}
 use Rattle.noting.proofs.clear_notes.Goals as goal
 

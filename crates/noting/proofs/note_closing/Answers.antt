@@ -4,8 +4,10 @@ use mathlib.Core.Path.{◌≡◌, sym, ◌∙◌, ap}
 use native.Mathlib.Numerals.{add-one}
 use lib.ListN.{length}
 use Rattle.build.specs.Scratch.{parts}
-use Rattle.build.specs.Access.{Enough, enough_kept}
-use Rattle.build.specs.NotesCode.{Closing, with_noting, rank_noted, answer, closing_start, closing_more, closing_over, closing_done}
+use Rattle.build.specs.Access.{Enough}
+use Rattle.build.proofs.Access.{enough_kept}
+use Rattle.build.specs.NotesCode.{Closing, with_noting, rank_noted, answer}
+use Rattle.build.proofs.NotesCode.{closing_start, closing_more, closing_over, closing_done}
 use borrow.Author.Rules.{rules}
 use Rattle.noting.proofs.note_closing.Goals as goal
 

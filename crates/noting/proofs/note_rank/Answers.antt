@@ -5,9 +5,10 @@ use mathlib.Core.Path.{◌≡◌, refl, ◌∙◌}
 use native.Mathlib.Numerals.{add-one}
 use lib.ListN.{get_or, set}
 use Rattle.build.specs.Scratch.{Parts, parts, with_stash, with_sets, with_next}
-use Rattle.build.specs.Access.{enough_kept, parts_fit}
+use Rattle.build.proofs.Access.{enough_kept, parts_fit}
 use Rattle.build.specs.Notes.{pair_base, note_at, stash_rank}
-use Rattle.build.specs.NotesCode.{noting_in, with_noting, rank_on, rank_first, rank_later, rank_full}
+use Rattle.build.specs.NotesCode.{noting_in, with_noting}
+use Rattle.build.proofs.NotesCode.{rank_on, rank_first, rank_later, rank_full}
 use borrow.Author.Rules.{rules}
 use Rattle.noting.proofs.note_rank.Goals as goal
 

@@ -4,8 +4,10 @@ use mathlib.Core.Path.{◌≡◌, ◌∙◌, ap}
 use mathlib.Core.Logic.{inl, inr}
 use lib.ListN.{length, get_or, set}
 use Rattle.build.specs.Scratch.{Parts, parts, with_sets}
-use Rattle.build.specs.Access.{Enough, enough_kept}
-use Rattle.build.specs.NotesCode.{Lowing, lowing_start, lowing_done, lowing_skip, lowing_put}
+use Rattle.build.specs.Access.{Enough}
+use Rattle.build.proofs.Access.{enough_kept}
+use Rattle.build.specs.NotesCode.{Lowing}
+use Rattle.build.proofs.NotesCode.{lowing_start, lowing_done, lowing_skip, lowing_put}
 use borrow.Author.Rules.{rules}
 use Rattle.noting.proofs.note_smallest.Goals as goal
 

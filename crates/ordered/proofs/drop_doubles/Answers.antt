@@ -4,7 +4,8 @@ use Prim.Native.Nat.{◌≤◌, ◌<◌, ◌+◌, ◌-◌}
 use native.Mathlib.Omega.{arith}
 use lib.ListN.{length, get_or, set, length-set, length-take}
 use Rattle.ordered.specs.Keys.{distinct}
-use Rattle.ordered.specs.Distinct.{distinct_none, keeping, keeping_step, keeping_last}
+use Rattle.ordered.proofs.Distinct.{distinct_none, keeping_step, keeping_last}
+use Rattle.ordered.specs.Distinct.{keeping}
 use Rattle.ordered.proofs.drop_doubles.Goals as goal
 
 pub returns-then-keys-eq0 : goal.returns-then-keys-eq0

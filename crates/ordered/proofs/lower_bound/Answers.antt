@@ -3,7 +3,7 @@ use Prim.Native.Nat.{◌≤◌, ◌+◌, ◌-◌, ◌/◌}
 use native.Mathlib.Omega.{arith}
 use lib.ListN.{length}
 use Rattle.ordered.specs.Keys.{lower_bound}
-use Rattle.ordered.specs.Place.{bound_le, bound_low, bound_high}
+use Rattle.ordered.proofs.Place.{bound_le, bound_low, bound_high}
 use Rattle.ordered.proofs.lower_bound.Goals as goal
 
 pub loop-low-init : goal.loop-low-init

@@ -3,7 +3,8 @@ use mathlib.Core.Path.{◌≡◌, sym, ◌∙◌}
 use Prim.Native.Nat.{◌≤◌, ◌-◌}
 use native.Mathlib.Omega.{arith}
 use lib.ListN.{length}
-use Rattle.ordered.specs.Shift.{shifted_in, shifted_in_step, shifted_in_last}
+use Rattle.ordered.specs.Shift.{shifted_in}
+use Rattle.ordered.proofs.Shift.{shifted_in_step, shifted_in_last}
 use Rattle.ordered.proofs.shift_in.Goals as goal
 
 pub loop-i-preserved : goal.loop-i-preserved

@@ -4,7 +4,8 @@ use mathlib.Core.Path.{◌≡◌, sym, ◌∙◌}
 use Prim.Native.Nat.{◌≤◌, ◌-◌}
 use native.Mathlib.Omega.{arith}
 use lib.ListN.{length}
-use Rattle.ordered.specs.Shift.{shifted_in, shifted_in_step, shifted_in_last}
+use Rattle.ordered.specs.Shift.{shifted_in}
+use Rattle.ordered.proofs.Shift.{shifted_in_step, shifted_in_last}
 use Rattle.ordered.proofs.shift_in.Given as goal
 
 -- `ordered::shift_in` meets its contract. The invariant: what is still to be done gives the same list. Assumes nothing.

@@ -4,7 +4,8 @@ use mathlib.Core.Path.{◌≡◌, sym, ◌∙◌}
 use Prim.Native.Nat.{◌<◌, ◌-◌}
 use native.Mathlib.Omega.{arith}
 use lib.ListN.{length}
-use Rattle.ordered.specs.Shift.{shifted_out, shifted_out_step, shifted_out_last}
+use Rattle.ordered.specs.Shift.{shifted_out}
+use Rattle.ordered.proofs.Shift.{shifted_out_step, shifted_out_last}
 use Rattle.ordered.proofs.shift_out.Given as goal
 
 -- `ordered::shift_out` meets its contract. The invariant: what is still to be done gives the same list. Assumes nothing.

@@ -3,7 +3,8 @@ use mathlib.Core.Path.{◌≡◌, sym, ◌∙◌}
 use native.Mathlib.Omega.{arith}
 use borrow.Author.Rules.{rules}
 use lib.ListN.{length}
-use Rattle.partition.specs.Words.{walk, rep_of, walk_none, walk_stop, walk_step}
+use Rattle.partition.specs.Words.{walk, rep_of}
+use Rattle.partition.proofs.Words.{walk_none, walk_stop, walk_step}
 use Rattle.partition.proofs.representative.Goals as goal
 
 pub returns-then-n-word : goal.returns-then-n-word

@@ -4,7 +4,8 @@ use mathlib.Core.Path.{◌≡◌, sym, ◌∙◌}
 use native.Mathlib.Omega.{arith}
 use borrow.Author.Rules.{rules}
 use lib.ListN.{length}
-use Rattle.partition.specs.Words.{walk, rep_of, walk_none, walk_stop, walk_step}
+use Rattle.partition.specs.Words.{walk, rep_of}
+use Rattle.partition.proofs.Words.{walk_none, walk_stop, walk_step}
 use Rattle.partition.proofs.representative.Given as goal
 
 abbrev pub invariant-loop-left : goal.invariant-loop-left

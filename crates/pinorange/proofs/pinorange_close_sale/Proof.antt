@@ -34,7 +34,7 @@ use denote.Triple.Table.{entered}
 use denote.Triple.Walked.{says, Stays, stay_none_ref, walk_of, AllGo, Goes-none_ref, Walks, ends_at, walked, walk_Meets}
 use denote.Exit.{yes}
 use Rattle.outcome.specs.declared.Sale.{Sale}
-use Rattle.outcome.specs.SaleLaws.{closed_price}
+use Rattle.outcome.proofs.SaleLaws.{closed_price}
 use Rattle.outcome.specs.contracts.Sale as T
 use Rattle.outcome.proofs.Sale.TheLaws as T'
 use Rattle.pinorange.specs.contracts.pinorange_close_sale.Key.{name as #self}

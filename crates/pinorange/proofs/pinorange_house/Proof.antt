@@ -6,7 +6,7 @@ use native.Mathlib.Numerals.{add-one}
 use borrow.Author.Rules.{rules}
 use lib.ListN.{length, take, get_or, length-set}
 use lib.Seq.{take_all, take-suc-set, take-suc}
-use Rattle.house.specs.Rule.{house, house_is}
+use Rattle.house.proofs.Rule.{house, house_is}
 use Rattle.pinorange.specs.House.{house_refused, house_accepted}
 use Rattle.pinorange.proofs.pinorange_house.Statement.{statement}
 use Rattle.pinorange.proofs.pinorange_house.Tie as tie

@@ -5,7 +5,7 @@ use native.Mathlib.Omega.{arith}
 use borrow.Author.Tests.{eq-eqb, ne_eqb}
 use Rattle.layout.specs.Layout.{stash_at, stash_count, place_width}
 use Rattle.layout.specs.Answers.{view_refusal}
-use Rattle.layout.specs.Shape.{viewed, same_header}
+use Rattle.layout.proofs.Shape.{viewed, same_header}
 use Rattle.pinorange.specs.Out.{offset_out, length_out}
 use borrow.Author.Rules.{rules}
 use Rattle.pinorange.proofs.pinorange_stash.Statement.{statement}

@@ -4,7 +4,7 @@ use mathlib.Core.Path.{◌≡◌, sym, ◌∙◌}
 use native.Mathlib.Omega.{arith}
 use lib.ListN.{length}
 use Rattle.probing.specs.Moves.{turn_word, wall as wall-at}
-use Rattle.probing.specs.Walls.{wall_le}
+use Rattle.probing.proofs.Walls.{wall_le}
 use Rattle.probe.specs.Turns.{wall_stop, wall_over, wall_end}
 use borrow.Author.Rules.{rules}
 use Rattle.probe.proofs.wall_of.Given as goal

@@ -1,7 +1,7 @@
 -- `probe::wrapped` meets its contract.
 use mathlib.Core.Path.{sym}
 use native.Mathlib.Omega.{arith}
-use Rattle.probing.specs.Walls.{wrap_low, wrap_high}
+use Rattle.probing.proofs.Walls.{wrap_low, wrap_high}
 use Rattle.probe.proofs.wrapped.Goals as goal
 
 pub returns-then-number-slots : goal.returns-then-number-slots

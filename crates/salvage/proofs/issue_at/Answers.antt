@@ -3,8 +3,8 @@ use mathlib.Core.Path.{◌≡◌, sym, ◌∙◌, ap}
 use mathlib.Core.List.{List, ◌∷◌}
 use Rattle.layout.specs.Entries.{Entry}
 use Rattle.layout.specs.Layout.{stash_at, slot_entry, stash_entries}
-use Rattle.layout.specs.Shape.{same_header}
-use Rattle.layout.specs.Standing.{stash_lent}
+use Rattle.layout.proofs.Shape.{same_header}
+use Rattle.layout.proofs.Standing.{stash_lent}
 use Rattle.survivors.specs.Looked.{sound_issue}
 use Rattle.salvage.specs.Issue.{slot_here, slot_further}
 use borrow.Author.Rules.{rules}

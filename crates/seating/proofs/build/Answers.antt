@@ -1,7 +1,7 @@
 -- `seating::build` meets its contract: the two halves, by the theorem about the whole.
 use mathlib.Core.Path.{sym, ◌∙◌}
-use Rattle.build.specs.Access.{enough_kept}
-use Rattle.build.specs.Whole.{enough, full_built, mid_finishable, made_built}
+use Rattle.build.proofs.Access.{enough_kept}
+use Rattle.build.proofs.Whole.{enough, full_built, mid_finishable, made_built}
 use borrow.Author.Rules.{rules}
 use Rattle.seating.proofs.build.Goals as goal
 

@@ -1,8 +1,9 @@
 -- `seating::prepare` meets its contract: the passes one after the other.
 use mathlib.Core.Path.{◌≡◌}
 use Rattle.build.specs.Scratch.{Parts, parts}
-use Rattle.build.specs.Access.{enough_kept, parts_fit}
-use Rattle.build.specs.Whole.{smallest_from, enough, ranks_small, linked_able, linked_marks, smallest_labelled, after_four, noted_whole}
+use Rattle.build.proofs.Access.{enough_kept, parts_fit}
+use Rattle.build.specs.Whole.{smallest_from}
+use Rattle.build.proofs.Whole.{enough, ranks_small, linked_able, linked_marks, smallest_labelled, after_four, noted_whole}
 use borrow.Author.Rules.{rules}
 use Rattle.seating.proofs.prepare.Goals as goal
 

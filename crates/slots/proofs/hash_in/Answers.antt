@@ -7,7 +7,8 @@ use borrow.Author.Rules.{rules}
 use lib.ListN.{get_or, take, drop}
 use lib.Seq.{get_or-drop, get_or-take}
 use Rattle.hashing.specs.Hash.{first_part, entry, turned}
-use Rattle.hashing.specs.Sum.{total, total_step, total_hash}
+use Rattle.hashing.specs.Sum.{total}
+use Rattle.hashing.proofs.Sum.{total_step, total_hash}
 use Rattle.slots.proofs.hash_in.Goals as goal
 
 -- `slots::hash_in` meets its contract: what it reads from the table's half are that table's entries, the loop sums them as `total`

@@ -9,7 +9,8 @@ use borrow.Author.Rules.{rules}
 use lib.ListN.{get_or, take, drop}
 use lib.Seq.{get_or-drop, get_or-take}
 use Rattle.hashing.specs.Hash.{first_part, entry, turned}
-use Rattle.hashing.specs.Sum.{total, total_step, total_hash}
+use Rattle.hashing.specs.Sum.{total}
+use Rattle.hashing.proofs.Sum.{total_step, total_hash}
 use Rattle.slots.proofs.hash_in.Given as goal
 
 abbrev pub invariant-loop-i : goal.invariant-loop-i

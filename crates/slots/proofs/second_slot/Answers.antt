@@ -1,6 +1,7 @@
 -- `slots::second_slot` meets its contract: r and a hash below it are small.
 use native.Mathlib.Omega.{arith}
-use Rattle.hashing.specs.Hash.{tables, hash_lt}
+use Rattle.hashing.specs.Hash.{tables}
+use Rattle.hashing.proofs.Hash.{hash_lt}
 use borrow.Author.Rules.{rules}
 use Rattle.slots.proofs.second_slot.Goals as goal
 

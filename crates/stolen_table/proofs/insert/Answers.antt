@@ -10,7 +10,7 @@ use Rattle.basics.specs.Sets.{member}
 use Rattle.hashing.specs.Hash.{slots_in_range, station_in_range, blank, Hashing}
 use Rattle.probing.specs.Rule.{table_keys}
 use Rattle.stolen.specs.Answers.{stolen_family, stolen_canonical, stolen_insert_refusal, stolen_insert_words}
-use Rattle.stolen.specs.Answers.{insert_refused, insert_accepted}
+use Rattle.stolen.proofs.Answers.{insert_refused, insert_accepted}
 use Rattle.stolen_table.specs.Decided.{shaped_hashing, key_positive, found_member, carried, room_at, no_room_at}
 use borrow.Author.Rules.{rules}
 use Rattle.stolen_table.proofs.insert.Goals as goal

@@ -7,7 +7,8 @@ use lib.ListN.{length}
 use Rattle.hashing.specs.Hash.{slots_in_range, station_in_range}
 use Rattle.probing.specs.Rule.{look}
 use Rattle.refusals.specs.Refusal.{done}
-use Rattle.stolen.specs.Answers.{says, stolen_lookup_refusal, stolen_lookup_values, lookup_accepted}
+use Rattle.stolen.specs.Answers.{says, stolen_lookup_refusal, stolen_lookup_values}
+use Rattle.stolen.proofs.Answers.{lookup_accepted}
 use Rattle.stolen_table.specs.Decided.{shaped_hashing, key_positive}
 use borrow.Author.Rules.{rules}
 use Rattle.stolen_table.proofs.lookup.Goals as goal

@@ -2,7 +2,7 @@
 use mathlib.Core.Path.{◌∙◌}
 use native.Mathlib.Omega.{arith}
 use Rattle.hashing.specs.Hash.{tables}
-use Rattle.hashing.specs.Slots.{slot_0_lt}
+use Rattle.hashing.proofs.Slots.{slot_0_lt}
 use borrow.Author.Rules.{rules}
 use Rattle.stolen_table.proofs.start_of.Goals as goal
 

@@ -4,7 +4,8 @@ use mathlib.Core.Path.{◌≡◌, ◌∙◌, sym}
 use mathlib.Core.Bool.{true}
 use native.Mathlib.Omega.{arith}
 use lib.ListN.{length}
-use Rattle.hashing.specs.Hash.{tabulation_length, slots_in_range, station_in_range, Hashing, hashing}
+use Rattle.hashing.specs.Hash.{tabulation_length, slots_in_range, station_in_range, Hashing}
+use Rattle.hashing.proofs.Hash.{hashing}
 use Rattle.hashing.specs.Answer.{hashes_refusal, hashes_values}
 use borrow.Author.Rules.{rules}
 use Rattle.tabulation.proofs.hashes.Goals as goal

@@ -1,7 +1,8 @@
 -- `tabulation::pinorange_hashes` meets its contract: it hands on what `hashes` answers.
 use mathlib.Core.Path.{sym, ◌∙◌, ap}
 use borrow.Author.Rules.{rules}
-use Rattle.hashing.specs.Answer.{number, values, written_at, written_refused}
+use Rattle.hashing.specs.Answer.{number, values}
+use Rattle.hashing.proofs.Answer.{written_at, written_refused}
 use Rattle.tabulation.proofs.pinorange_hashes.Goals as goal
 
 pub returns-in-At : goal.returns-in-At

@@ -3,7 +3,8 @@ use mathlib.Core.Path.{ap}
 use native.Mathlib.Omega.{arith}
 use lib.ListN.{length, length-append}
 use mathlib.Core.List.{[], ◌∷◌}
-use Rattle.grammar.specs.Decimal.{decimal, digit, decimal_small, decimal_large}
+use Rattle.grammar.specs.Decimal.{decimal, digit}
+use Rattle.grammar.proofs.Decimal.{decimal_small, decimal_large}
 use Rattle.writing.proofs.digits.Goals as goal
 
 pub loop-rest-preserved : goal.loop-rest-preserved

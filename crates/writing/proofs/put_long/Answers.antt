@@ -1,6 +1,6 @@
 -- `writing::put_long` meets its contract: a number of 64 bits has at most 20 digits.
 use native.Mathlib.Omega.{arith}
-use Rattle.grammar.specs.Decimal.{digits_64}
+use Rattle.grammar.proofs.Decimal.{digits_64}
 use Rattle.writing.proofs.put_long.Goals as goal
 
 pub put_number-requires : goal.put_number-requires

@@ -1,4 +1,5 @@
-use Rattle.grammar.specs.Decimal.{digit, decimal_some}
+use Rattle.grammar.specs.Decimal.{digit}
+use Rattle.grammar.proofs.Decimal.{decimal_some}
 use Prim.Native.Nat.{◌-◌, ◌%◌}
 use mathlib.Core.Path.{◌∙◌}
 use native.Mathlib.Omega.{arith}

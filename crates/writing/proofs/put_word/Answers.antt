@@ -1,6 +1,6 @@
 -- `writing::put_word` meets its contract: a number of 32 bits has at most 10 digits.
 use native.Mathlib.Omega.{arith}
-use Rattle.grammar.specs.Decimal.{digits_32}
+use Rattle.grammar.proofs.Decimal.{digits_32}
 use Rattle.writing.proofs.put_word.Goals as goal
 
 pub put_number-requires : goal.put_number-requires

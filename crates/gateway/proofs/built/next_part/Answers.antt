@@ -2,7 +2,7 @@
 use Prim.Native.Nat.{◌+◌, ◌*◌}
 use native.Mathlib.Omega.{arith}
 use Rattle.build.specs.Scratch.{parts, next_at}
-use Rattle.basics.specs.Parts.{part_lent}
+use Rattle.basics.proofs.Parts.{part_lent}
 use borrow.Author.Rules.{rules}
 use Rattle.gateway.proofs.built.next_part.Goals as goal
 

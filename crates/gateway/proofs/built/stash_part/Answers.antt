@@ -1,7 +1,7 @@
 -- `gateway::built::stash_part` meets its contract: s words from where the stash begins.
 use native.Mathlib.Omega.{arith}
 use Rattle.build.specs.Scratch.{parts, stashed_at}
-use Rattle.basics.specs.Parts.{part_lent}
+use Rattle.basics.proofs.Parts.{part_lent}
 use borrow.Author.Rules.{rules}
 use Rattle.gateway.proofs.built.stash_part.Goals as goal
 

@@ -6,7 +6,7 @@ use lib.ListN.{get_or}
 use Rattle.forest.specs.Graph.{finished_cycle}
 use Rattle.build.specs.Scratch.{Parts, parts, with_graph}
 use Rattle.build.specs.Notes.{pair_base}
-use Rattle.build.specs.FinishCode.{rank_aside, rank_other, rank_tree, rank_cycle}
+use Rattle.build.proofs.FinishCode.{rank_aside, rank_other, rank_tree, rank_cycle}
 use borrow.Author.Rules.{rules}
 use Rattle.seating.proofs.finish.finish_rank.Goals as goal
 

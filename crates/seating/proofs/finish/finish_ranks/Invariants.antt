@@ -5,8 +5,9 @@ use mathlib.Core.Path.{◌≡◌, ◌∙◌, ap}
 use native.Mathlib.Numerals.{add-one}
 use lib.ListN.{length}
 use Rattle.build.specs.Scratch.{Parts, parts}
-use Rattle.build.specs.Access.{enough_kept}
-use Rattle.build.specs.FinishCode.{Finishable, rank_finished, ranks_finished, finished_none, finished_able, finished_more}
+use Rattle.build.proofs.Access.{enough_kept}
+use Rattle.build.specs.FinishCode.{Finishable, rank_finished, ranks_finished}
+use Rattle.build.proofs.FinishCode.{finished_none, finished_able, finished_more}
 use borrow.Author.Rules.{rules}
 use Rattle.seating.proofs.finish.finish_ranks.Given as goal
 

@@ -1,6 +1,6 @@
 -- `seating::finish::finish_tree` meets its contract: the graph is lent whole, and comes back finished.
 use Rattle.forest.specs.Graph.{finished_tree}
-use Rattle.build.specs.Access.{graph_lent, graph_renewed}
+use Rattle.build.proofs.Access.{graph_lent, graph_renewed}
 use borrow.Author.Rules.{rules}
 use Rattle.seating.proofs.finish.finish_tree.Goals as goal
 

@@ -4,8 +4,10 @@ use mathlib.Core.Path.{◌≡◌, ◌∙◌, ap}
 use mathlib.Core.Logic.{inl, inr}
 use lib.ListN.{length}
 use Rattle.build.specs.Scratch.{parts}
-use Rattle.build.specs.Access.{Enough, enough_kept}
-use Rattle.build.specs.NextCode.{Linked, chain_start, chain_skip, chain_put, chain_done}
+use Rattle.build.specs.Access.{Enough}
+use Rattle.build.proofs.Access.{enough_kept}
+use Rattle.build.specs.NextCode.{Linked}
+use Rattle.build.proofs.NextCode.{chain_start, chain_skip, chain_put, chain_done}
 use borrow.Author.Rules.{rules}
 use Rattle.seating.proofs.next.chain_ranks.Goals as goal
 

@@ -1,0 +1,22 @@
+-- The laws of the crate `cuckoo`.
+pub mod Agree
+pub mod Bullets
+pub mod Components
+pub mod Cycles
+pub mod Filled
+pub mod Forest
+pub mod Kruskal
+pub mod Locality
+pub mod Next
+pub mod Placement
+pub mod Places
+pub mod Renaming
+pub mod Rising
+pub mod Round
+pub mod Rows
+pub mod Seating
+pub mod Settling
+pub mod Trail
+pub mod Tree
+pub mod Unique
+pub mod Walks

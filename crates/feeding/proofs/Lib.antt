@@ -1,0 +1,3 @@
+-- The laws of the crate `feeding`.
+pub mod Feeding
+pub mod Rank

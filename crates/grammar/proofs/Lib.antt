@@ -1,0 +1,10 @@
+-- The laws of the crate `grammar`.
+pub mod Buffer
+pub mod CommandLaws
+pub mod Decimal
+pub mod Listing
+pub mod NumberLaws
+pub mod Parted
+pub mod Row
+pub mod SizesLaws
+pub mod Stream

@@ -1,0 +1,11 @@
+-- The laws of the crate `history`.
+pub mod Agrees
+pub mod Changes
+pub mod Corollaries
+pub mod Example
+pub mod History
+pub mod NoTrace
+pub mod Others
+pub mod Reads
+pub mod Sales
+pub mod Starts

@@ -1,0 +1,7 @@
+-- The laws of the crate `outcome`.
+pub mod Board
+pub mod Demands
+pub mod Held
+pub mod Laws
+pub mod SaleLaws
+pub mod TrailLaws
