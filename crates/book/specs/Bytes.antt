@@ -1,6 +1,5 @@
 -- Document 01: book.bin is read "low byte first"; document 02: "book.bin has 5,120 bytes". The definitions, that reading undoes writing, and how the loops go on. Assumes nothing.
-use Rattle.std.specs.Prelude.{ℕ, zero, suc, ◌+◌, ◌*◌, ◌/◌, ◌%◌, ◌≤◌, ◌<◌, ◌≡◌, refl, List, [], ◌∷◌, length, get_or, set, take}
-use Rattle.std.proofs.Common.{sym, ◌∙◌, add-one, arith, length-set, take-suc, take-suc-set, take_all}
+use Rattle.std.specs.Prelude.{ℕ, ◌+◌, ◌*◌, ◌/◌, ◌%◌, List, [], ◌∷◌}
 
 -- each entry as two bytes, the low byte first
 unfoldable pub bytes_of : List ℕ → List ℕ

@@ -1,7 +1,7 @@
 // The lines after the first: each is answered by a row when its newline, or the end of the input, is read. Byte by byte
 // this is a `Run` of grammar/specs/Stream.antt, whose law says that these are the lines of the input, and all of them,
 // unless a row cannot be written.
-ghost use Rattle.std.specs.Prelude.{◌≤◌, ◌≡◌};
+ghost use Rattle.std.specs.Prelude.{◌≤◌};
 ghost use Rattle.printing.specs.Room.{room};
 
 use counters::Counters;
@@ -35,16 +35,6 @@ struct Took {
     session: Session,
 }
 
-// The same change once more.
-fn again(kind: &Change) -> Change
-    ensures { result ≡ kind.now }
-{
-    match kind {
-        Change::Insert(tier) => Change::Insert(*tier),
-        Change::Remove => Change::Remove,
-    }
-}
-
 // Insert or remove.
 fn change(
     rt: &(impl Print + Eprint + Alloc),
@@ -60,8 +50,7 @@ fn change(
     ensures { result.rows.at ≤ room }
 {
     let before = done.counters;
-    let asked = again(&kind);
-    let counted = counting::update(asked, tabulation, words, scratch, key, before);
+    let counted = counting::update(kind, tabulation, words, scratch, key, before);
     let counters = counted.counters;
     let rows = printing::add_change(rt, out, done.rows, kind, key, counted.answer);
     Done {

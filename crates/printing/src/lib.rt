@@ -56,7 +56,7 @@ fn fail(rt: &(impl Eprint + Alloc), error: io::Error) {
     };
 }
 
-// Writes out what the buffer holds, unless rows are lost. The programs end with status 0 all the same, so the write
+// Writes out what the buffer holds, unless rows are lost. The console ends with status 0 all the same, so the write
 // that fails is told on standard error; none follows it, so there is one line of it in a run.
 pub fn flush(rt: &(impl Print + Eprint + Alloc), out: &[u8; ROOM], rows: Rows) -> Rows
     requires { rows.at ≤ room }

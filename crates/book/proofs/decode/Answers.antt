@@ -1,9 +1,6 @@
-use Prim.Native.Nat.{◌≤◌, ◌-◌}
-use mathlib.Core.Path.{◌≡◌, refl}
+use mathlib.Core.Path.{refl}
 use native.Mathlib.Omega.{arith}
 use borrow.Author.Rules.{rules}
-use lib.ListN.{length, take}
-use Rattle.book.specs.Bytes.{entries_of}
 use Rattle.book.proofs.Bytes.{decode_step, decode_end}
 use Rattle.book.proofs.decode.Goals as goal
 

@@ -1,11 +1,8 @@
 -- `book::decode` meets its contract: after i turns the first i entries are those of the first 2 * i bytes.
 use Prim.Native.Nat.{◌≤◌, ◌-◌}
-use mathlib.Core.Path.{◌≡◌, refl}
-use native.Mathlib.Omega.{arith}
-use borrow.Author.Rules.{rules}
+use mathlib.Core.Path.{◌≡◌}
 use lib.ListN.{length, take}
 use Rattle.book.specs.Bytes.{entries_of}
-use Rattle.book.proofs.Bytes.{decode_step, decode_end}
 use Rattle.book.proofs.decode.Given as goal
 
 abbrev pub invariant-loop-i : goal.invariant-loop-i

@@ -1,9 +1,7 @@
-use Prim.Native.Nat.{◌*◌, ◌≤◌, ◌-◌}
-use mathlib.Core.Path.{◌≡◌, refl}
+use mathlib.Core.Path.{refl}
 use native.Mathlib.Omega.{arith}
 use borrow.Author.Rules.{rules}
-use lib.ListN.{length, take, length-set}
-use Rattle.book.specs.Bytes.{bytes_of}
+use lib.ListN.{length-set}
 use Rattle.book.proofs.Bytes.{encode_step, encode_end}
 use Rattle.book.proofs.encode.Goals as goal
 

@@ -1,11 +1,8 @@
 -- `book::encode` meets its contract: after i turns the first 2 * i bytes are those of the first i entries.
 use Prim.Native.Nat.{◌*◌, ◌≤◌, ◌-◌}
-use mathlib.Core.Path.{◌≡◌, refl}
-use native.Mathlib.Omega.{arith}
-use borrow.Author.Rules.{rules}
-use lib.ListN.{length, take, length-set}
+use mathlib.Core.Path.{◌≡◌}
+use lib.ListN.{length, take}
 use Rattle.book.specs.Bytes.{bytes_of}
-use Rattle.book.proofs.Bytes.{encode_step, encode_end}
 use Rattle.book.proofs.encode.Given as goal
 
 abbrev pub invariant-loop-i : goal.invariant-loop-i

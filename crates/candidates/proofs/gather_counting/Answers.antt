@@ -33,4 +33,6 @@ returns c =
     let p = c.requires.0.1.1 in
     let all = gathered_counting a.tabulation.now a.words.now a.scratch.now _ _ p.0 p.1.1
     c.stash_start-start.ensures (c.wide-count.ensures ∙ p.1.0) (omega arith)
-    (c.gather_slots-n.ensures.front, c.gather_slots-n.ensures.counted) (c.gather_places-end.ensures.front, c.gather_places-end.ensures.counted) in record { front = all.0; counted = all.1 }
+    (c.gather_slots-n.ensures.front, c.gather_slots-n.ensures.counted)
+    (c.gather_places-end.ensures.front, c.gather_places-end.ensures.counted) in
+    record { front = all.0; counted = all.1 }

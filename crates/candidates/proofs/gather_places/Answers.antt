@@ -31,4 +31,5 @@ returns c =
     ∙ places_end a.places.now c.loop-i.scratch c.loop-i.end a.count c.loop-i.i (omega arith) in
     let f = rw (places_start a.places.now a.count) at e in
     let xs = places_counting (place_entries a.count a.places.now) in
-    let all = gathered_ends a.scratch.now c.loop-i.scratch xs f (omega arith) (omega arith) in record { front = all.0; counted = all.1 }
+    let all = gathered_ends a.scratch.now c.loop-i.scratch xs f (omega arith) (omega arith) in
+    record { front = all.0; counted = all.1 }

@@ -37,4 +37,5 @@ returns c =
     let z : a.r + a.r - 0 ≡ a.r + a.r = omega arith in
     let f = rw z at e in
     let xs = slots_counting F a.words.now 0 (a.r + a.r) in
-    let all = gathered_ends a.scratch.now c.loop-v.scratch xs f (omega arith) (omega arith) in record { front = all.0; counted = all.1 }
+    let all = gathered_ends a.scratch.now c.loop-v.scratch xs f (omega arith) (omega arith) in
+    record { front = all.0; counted = all.1 }

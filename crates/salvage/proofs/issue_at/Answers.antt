@@ -20,15 +20,15 @@ returns-then-is_issue c =
 
 pub returns-then-is_issue-2 : goal.returns-then-is_issue-2
 returns-then-is_issue-2 c =
-    let missed : let a = c.args in let ws = a.words.now in sound_issue (slot_entry ws a.first ∷ slot_entry ws a.second ∷ stash_entries ws) a.key ≡ sound_issue (slot_entry ws a.second ∷ stash_entries ws) a.key = let a = c.args in
-    slot_further a.words.now a.first a.key
-    (slot_entry a.words.now a.second ∷ stash_entries a.words.now)
-    c.key_in-c.ensures c.slot_tier-t.ensures c.first_part-part.ensures
-    c.is_issue.ensures c.if-is_issue.false in
     let a = c.args in
-    slot_here a.words.now a.second a.key (stash_entries a.words.now) c.key_in-d.ensures
+    let ws = a.words.now in
+    let rest = slot_entry ws a.second ∷ stash_entries ws in
+    let missed : sound_issue (slot_entry ws a.first ∷ rest) a.key ≡ sound_issue rest a.key =
+        slot_further ws a.first a.key rest c.key_in-c.ensures c.slot_tier-t.ensures c.first_part-part.ensures
+        c.is_issue.ensures c.if-is_issue.false in
+    slot_here ws a.second a.key (stash_entries ws) c.key_in-d.ensures
     c.slot_tier-u.ensures c.first_part-part.ensures c.is_issue-2.ensures c.if-is_issue-2.true
-    ∙ sym (missed)
+    ∙ sym missed
 
 pub stash_start-start-requires : goal.stash_start-start-requires
 stash_start-start-requires c = let h = same_header c.read_header-header.ensures in search rules
@@ -38,16 +38,16 @@ issue_in_places-requires c = let h = same_header c.read_header-header.ensures in
 
 pub returns : goal.returns
 returns c =
-    let missed : let a = c.args in let ws = a.words.now in sound_issue (slot_entry ws a.first ∷ slot_entry ws a.second ∷ stash_entries ws) a.key ≡ sound_issue (slot_entry ws a.second ∷ stash_entries ws) a.key = let a = c.args in
-    slot_further a.words.now a.first a.key
-    (slot_entry a.words.now a.second ∷ stash_entries a.words.now)
-    c.key_in-c.ensures c.slot_tier-t.ensures c.first_part-part.ensures
-    c.is_issue.ensures c.if-is_issue.false in
-    let h = same_header c.read_header-header.ensures in
     let a = c.args in
-    let p = stash_lent a.words.now (c.stash_start-start.ensures ∙ ap stash_at h.slots)
+    let ws = a.words.now in
+    let rest = slot_entry ws a.second ∷ stash_entries ws in
+    let missed : sound_issue (slot_entry ws a.first ∷ rest) a.key ≡ sound_issue rest a.key =
+        slot_further ws a.first a.key rest c.key_in-c.ensures c.slot_tier-t.ensures c.first_part-part.ensures
+        c.is_issue.ensures c.if-is_issue.false in
+    let h = same_header c.read_header-header.ensures in
+    let p = stash_lent ws (c.stash_start-start.ensures ∙ ap stash_at h.slots)
     (c.wide-count.ensures ∙ h.places) in
     c.issue_in_places.ensures ∙ ap (λ (L : List Entry). sound_issue L a.key) p
-    ∙ sym (missed ∙ slot_further a.words.now a.second a.key (stash_entries a.words.now)
+    ∙ sym (missed ∙ slot_further ws a.second a.key (stash_entries ws)
     c.key_in-d.ensures c.slot_tier-u.ensures c.first_part-part.ensures
     c.is_issue-2.ensures c.if-is_issue-2.false)

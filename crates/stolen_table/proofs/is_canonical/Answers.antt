@@ -63,24 +63,21 @@ loop-turn-preserved c =
     let inside = c.loop-turn-test.true in
     let at = c.slot_of.ensures.at in
     elim c.if-key-ne0.branch [
-      | goal.then-key-ne0 w ↦
-          let e : tie.After-is-right invariant-loop decreases-loop = record {
-            before = record {
-              before = record { before = record { before = c; if1 = w.0 }; walls = w.1 };
-              wall-of = w.2;
-            };
-            is_right = w.3;
-          } in
-          let u = sym (judged e) ∙ not-false _ w.4.left in
-          rw w.5 (
+      | goal.then-key-ne0+else-not-is_right w ↦
+          let walled : w.wall_of-wall.result ≡ wall-at (length ws) ws a.base (turn_word (length ws) ws a.base l.turn) l.turn =
+              rw at at w.wall_of-wall.ensures.at in
+          let judged = (rw (at, walled) at w.is_right.ensures)
+              ∙ sym (settled_key _ ws a.base _ l.turn (rw at at w.if-key-ne0.true)) in
+          let u = sym judged ∙ w.if-not-is_right.false in
+          rw w.walls-is (
             omega arith,
             rw length-set l.invariant.1,
-            walled_key _ (omega (arith, l.invariant.1, c.requires.0.slots_bound)) (walled e.before) l.invariant.2,
+            walled_key _ (omega (arith, l.invariant.1, c.requires.0.slots_bound)) walled l.invariant.2,
             l.invariant.3 ∙ settled_on _ ws a.base _ l.turn inside u,
           )
       | goal.else-key-ne0 w ↦
           let z = rw at at w.if-key-ne0.false in
-          rw w.1 (
+          rw w.walls-is (
             omega arith,
             l.invariant.1,
             walled_empty z l.invariant.2,

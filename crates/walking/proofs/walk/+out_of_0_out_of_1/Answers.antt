@@ -9,48 +9,58 @@ use Rattle.walking.proofs.walk.+out_of_0_out_of_1.Goals as goal
 pub out_of_0-goes_on-requires : goal.out_of_0-goes_on-requires
 out_of_0-goes_on-requires t c =
     let p = c.requires in
-    let q = stepped p.0.0 p.0.1 c.visit-key.ensures.held c.visit-key.ensures.marked (out_0 p.0.0 c.visit-key.ensures.held p.1 c.second_slot-next.ensures) in
+    let v = c.visit-key.ensures in
+    let q = stepped p.0.0 p.0.1 v.held v.marked (out_0 p.0.0 v.held p.1 c.second_slot-next.ensures) in
     omega (arith, q.onward.room)
 
 pub out_of_0-out_of_1-requires : goal.out_of_0-out_of_1-requires
 out_of_0-out_of_1-requires t c =
     let p = c.requires in
-    let q = stepped p.0.0 p.0.1 c.visit-key.ensures.held c.visit-key.ensures.marked (out_0 p.0.0 c.visit-key.ensures.held p.1 c.second_slot-next.ensures) in
-    (rw c.decreases at q.falls, ((p.0.0, goes_new q.onward.room c.if-goes_on.true c.goes_on.ensures), omega (arith, c.second_slot-next.ensures)))
+    let v = c.visit-key.ensures in
+    let q = stepped p.0.0 p.0.1 v.held v.marked (out_0 p.0.0 v.held p.1 c.second_slot-next.ensures) in
+    let new = goes_new q.onward.room c.if-goes_on.true c.goes_on.ensures in
+    (rw c.decreases at q.falls, ((p.0.0, new), omega (arith, c.second_slot-next.ensures)))
 
 pub out_of_0-returns-then-goes_on : goal.out_of_0-returns-then-goes_on
 out_of_0-returns-then-goes_on t c =
     let p = c.requires in
-    let q = stepped p.0.0 p.0.1 c.visit-key.ensures.held c.visit-key.ensures.marked (out_0 p.0.0 c.visit-key.ensures.held p.1 c.second_slot-next.ensures) in
+    let v = c.visit-key.ensures in
+    let q = stepped p.0.0 p.0.1 v.held v.marked (out_0 p.0.0 v.held p.1 c.second_slot-next.ensures) in
     onward_then q.onward c.out_of_1.ensures
 
 pub out_of_0-returns : goal.out_of_0-returns
 out_of_0-returns t c =
     let p = c.requires in
-    (stepped p.0.0 p.0.1 c.visit-key.ensures.held c.visit-key.ensures.marked (out_0 p.0.0 c.visit-key.ensures.held p.1 c.second_slot-next.ensures)).onward
+    let v = c.visit-key.ensures in
+    (stepped p.0.0 p.0.1 v.held v.marked (out_0 p.0.0 v.held p.1 c.second_slot-next.ensures)).onward
 
 -- The step out of table 1.
 pub out_of_1-goes_on-requires : goal.out_of_1-goes_on-requires
 out_of_1-goes_on-requires t c =
     let p = c.requires in
-    let q = stepped p.0.0 p.0.1 c.visit-key.ensures.held c.visit-key.ensures.marked (out_1 p.0.0 c.visit-key.ensures.held p.1 c.first_slot-next.ensures) in
+    let v = c.visit-key.ensures in
+    let q = stepped p.0.0 p.0.1 v.held v.marked (out_1 p.0.0 v.held p.1 c.first_slot-next.ensures) in
     omega (arith, q.onward.room)
 
 pub out_of_1-out_of_0-requires : goal.out_of_1-out_of_0-requires
 out_of_1-out_of_0-requires t c =
     let p = c.requires in
-    let q = stepped p.0.0 p.0.1 c.visit-key.ensures.held c.visit-key.ensures.marked (out_1 p.0.0 c.visit-key.ensures.held p.1 c.first_slot-next.ensures) in
+    let v = c.visit-key.ensures in
+    let q = stepped p.0.0 p.0.1 v.held v.marked (out_1 p.0.0 v.held p.1 c.first_slot-next.ensures) in
     let a = c.args in
     let below = slot_0_lt (tables a.tabulation.now a.r a.station) p.0.0.hashing.has_slots c.visit-key.result in
-    (rw c.decreases at q.falls, ((p.0.0, goes_new q.onward.room c.if-goes_on.true c.goes_on.ensures), omega (arith, c.first_slot-next.ensures, below)))
+    let new = goes_new q.onward.room c.if-goes_on.true c.goes_on.ensures in
+    (rw c.decreases at q.falls, ((p.0.0, new), omega (arith, c.first_slot-next.ensures, below)))
 
 pub out_of_1-returns-then-goes_on : goal.out_of_1-returns-then-goes_on
 out_of_1-returns-then-goes_on t c =
     let p = c.requires in
-    let q = stepped p.0.0 p.0.1 c.visit-key.ensures.held c.visit-key.ensures.marked (out_1 p.0.0 c.visit-key.ensures.held p.1 c.first_slot-next.ensures) in
+    let v = c.visit-key.ensures in
+    let q = stepped p.0.0 p.0.1 v.held v.marked (out_1 p.0.0 v.held p.1 c.first_slot-next.ensures) in
     onward_then q.onward c.out_of_0.ensures
 
 pub out_of_1-returns : goal.out_of_1-returns
 out_of_1-returns t c =
     let p = c.requires in
-    (stepped p.0.0 p.0.1 c.visit-key.ensures.held c.visit-key.ensures.marked (out_1 p.0.0 c.visit-key.ensures.held p.1 c.first_slot-next.ensures)).onward
+    let v = c.visit-key.ensures in
+    (stepped p.0.0 p.0.1 v.held v.marked (out_1 p.0.0 v.held p.1 c.first_slot-next.ensures)).onward
