@@ -1,6 +1,6 @@
 -- `salvage::salvage_words` meets its contract: 1 to 3, then what counts decides.
 use native.Mathlib.Omega.{arith}
-use Rattle.layout.specs.Shape.{shape}
+use Rattle.layout.proofs.Shape.{shape}
 use lib.ListN.{length}
 use Rattle.survivors.specs.Laws.{Salvable}
 use Rattle.salvage.specs.Salvaging.{told_early, early_salvable, told_set}
