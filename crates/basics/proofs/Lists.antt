@@ -6,10 +6,10 @@ use mathlib.Core.List.Memᴰ.{head as here}
 use mathlib.Core.List.Memᴰ.{tail as there}
 use mathlib.Core.List.{List, [], ◌∷◌, ◌++◌, map, Memᴰ as In}
 use Rattle.std.proofs.Math.Nat.{mod_self}
-use Rattle.basics.specs.Tests.{test, eq?, le?, and_true}
-use Rattle.basics.proofs.Tests.{bool_ext}
-use Rattle.basics.specs.Sets.{keep, first, keep_in, keep_test, in_keep, length_drop, below, Asc, none, some, first_in}
-use Rattle.basics.proofs.Sets.{in_below, asc_keep}
+use Rattle.basics.specs.Tests.{test}
+use Rattle.basics.proofs.Tests.{eq?, le?, and_true, bool_ext}
+use Rattle.basics.specs.Sets.{keep, first, below, Asc, none, some}
+use Rattle.basics.proofs.Sets.{keep_in, keep_test, in_keep, length_drop, in_below, asc_keep, first_in}
 use Rattle.basics.specs.Lists.{same_by, same, rises, Picked, upto, passes, fails}
 
 same_by_true : {A : Type 0} (test : A → A → Bool) → ((x y : A) → test x y ≡ true → x ≡ y) → (xs ys : List A)

@@ -6,7 +6,7 @@ use Rattle.std.proofs.lemmas.List.{take-append-le, drop-append-le, take-set-le, 
 use Rattle.std.proofs.Math.Seq.{take-set-lt, paste, paste-suc, length_paste_head}
 use Rattle.std.proofs.lemmas.List.Edits.{length-paste}
 use borrow.Rule.Slice.PartMut.{mid_of, put_mid, set_mid_at}
-use Rattle.basics.specs.Tests.{le?}
+use Rattle.basics.proofs.Tests.{le?}
 use Rattle.basics.specs.Parts.{part, PartAt}
 
 -- The laws. A part as it is lent, from a to e,
@@ -18,6 +18,9 @@ pub to_end : (a : ℕ) (xs : List ℕ) → mid_of a (length xs - a) xs ≡ drop 
 to_end a xs = take_all (length xs - a) (drop a xs) (omega (arith, length-drop a xs))
 
 module _ (at k : ℕ) (xs : List ℕ) where
+  pub part_length : at + k ≤ length xs → length (part at k xs) ≡ k
+  part_length h = simp (length-take, length-drop) (omega arith)
+
   pub part_word : (i : ℕ) → i < k → get_or (part at k xs) i 0 ≡ get_or xs (at + i) 0
   part_word i l = rw (get_or-take, get_or-drop)
 

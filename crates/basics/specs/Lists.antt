@@ -7,8 +7,8 @@ use mathlib.Core.List.Memᴰ.{head as here}
 use mathlib.Core.List.Memᴰ.{tail as there}
 use mathlib.Core.List.{List, [], ◌∷◌, ◌++◌, map, Memᴰ as In}
 use Rattle.std.proofs.Math.Nat.{mod_self}
-use Rattle.basics.specs.Tests.{test, eq?, le?, and_true}
-use Rattle.basics.specs.Sets.{keep, first, keep_in, keep_test, in_keep, length_drop, below, Asc, none, some, first_in}
+use Rattle.basics.specs.Tests.{test}
+use Rattle.basics.specs.Sets.{keep, first, below, Asc, none, some}
 
 -- equality
 

@@ -7,7 +7,6 @@ use Rattle.std.proofs.lemmas.List.{take-append-le, drop-append-le, take-set-le, 
 use Rattle.std.proofs.Math.Seq.{take-set-lt, paste, paste-suc, length_paste_head}
 use Rattle.std.proofs.lemmas.List.Edits.{length-paste}
 use borrow.Rule.Slice.PartMut.{mid_of, put_mid, set_mid_at}
-use Rattle.basics.specs.Tests.{le?}
 
 -- k words from `at` on
 abbrev pub part : ℕ → ℕ → List ℕ → List ℕ
@@ -19,7 +18,3 @@ pub record PartAt (at : ℕ) (of : List ℕ → List ℕ) : Type 0 where
   pub back : List ℕ
   pub long : length front ≡ at
   pub is : (ys : List ℕ) → of ys ≡ front ++ (ys ++ back)
-
-module _ (at k : ℕ) (xs : List ℕ) where
-  pub part_length : at + k ≤ length xs → length (part at k xs) ≡ k
-  part_length h = simp (length-take, length-drop) (omega arith)

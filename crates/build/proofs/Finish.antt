@@ -9,17 +9,19 @@ use mathlib.Core.List.{List, [], ◌∷◌, Memᴰ as In}
 use Rattle.std.proofs.Math.ListN.{get_or}
 use borrow.Author.Tests.{eq-eqb, ne_eqb, lt-ltb, le-ltb, ltb-true}
 use Rattle.cuckoo.specs.Graph.{seated, occupant}
-use Rattle.basics.specs.Tests.{eq?}
+use Rattle.basics.proofs.Tests.{eq?}
 use Rattle.basics.proofs.Sets.{in?, below_in, below_lt, in_below}
 use Rattle.basics.specs.Sets.{Sub, Asc, some}
-use Rattle.cuckoo.specs.Joined.{Joined, jrefl, jsym, edge, mono, least}
+use Rattle.cuckoo.specs.Joined.{Joined}
+use Rattle.cuckoo.proofs.Joined.{jrefl, jsym, edge, mono, least}
 use Rattle.cuckoo.specs.Forest.{forest}
 use Rattle.cuckoo.proofs.Forest.{forest_in, spans, spans_key, acyclic}
 use Rattle.cuckoo.proofs.Settling.{seated_asc, seated_sub, seated_forest, seated_stops, is_seated, one}
 use Rattle.cuckoo.specs.Settling.{smallest}
 use Rattle.cuckoo.specs.Seating.{Ends}
 use Rattle.cuckoo.proofs.Seating.{occupant_from}
-use Rattle.forest.specs.Oriented.{OrientedForest, Oriented, end_near, recast}
+use Rattle.forest.specs.Oriented.{OrientedForest, Oriented}
+use Rattle.forest.proofs.Oriented.{end_near, recast}
 use Rattle.forest.specs.Finish.{Finished, Spanned, TreeComponent, CycleComponent, finish_tree, finish_cycle}
 use Rattle.forest.proofs.Finish.{finishes_tree, finishes_cycle}
 use Rattle.build.specs.Labels.{Labels, Words}

@@ -8,7 +8,8 @@ use Rattle.std.proofs.Math.Logic.{inl, inr}
 use native.Mathlib.Omega.{arith}
 use Rattle.std.proofs.Math.ListN.{get_or}
 use borrow.Author.Tests.{eq-eqb, ne_eqb, lt-ltb, le-ltb}
-use Rattle.basics.specs.Tests.{test, le?}
+use Rattle.basics.specs.Tests.{test}
+use Rattle.basics.proofs.Tests.{le?}
 use Rattle.cuckoo.specs.Renaming.{from, ranks}
 use Rattle.cuckoo.proofs.Renaming.{ranks_more}
 use Rattle.forest.specs.Edges.{end_0, end_1, other_end}

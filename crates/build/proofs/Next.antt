@@ -9,7 +9,7 @@ use mathlib.Core.List.{List, [], ◌∷◌, Memᴰ as In}
 use Rattle.std.proofs.Math.Seq.{get_or-set_same, get_or-set_other}
 use borrow.Author.Tests.{ne_eqb, lt-ltb, le-ltb}
 use Rattle.cuckoo.specs.Graph.{seated, occupant, next, slot_key, slot_next}
-use Rattle.basics.specs.Tests.{eq?, le?}
+use Rattle.basics.proofs.Tests.{eq?, le?}
 use Rattle.basics.proofs.Sets.{in?}
 use Rattle.basics.specs.Sets.{Sub, Asc, some}
 use Rattle.cuckoo.proofs.Settling.{seated_asc, seated_sub, seated_forest}

@@ -15,16 +15,18 @@ use borrow.Author.Tests.{lt-ltb, le-ltb}
 use Rattle.basics.proofs.Lists.{get_or_zeros}
 use Rattle.basics.specs.Sets.{member, keep}
 use Rattle.cuckoo.specs.Graph.{seated, stash}
-use Rattle.basics.specs.Tests.{eq?, le?}
-use Rattle.basics.proofs.Sets.{in?, no_member, below_in, below_lt}
-use Rattle.basics.specs.Sets.{Sub, Asc, some, in_member, below, out_sub}
-use Rattle.cuckoo.specs.Joined.{Joined, jsym, jrefl, mono}
+use Rattle.basics.proofs.Tests.{eq?, le?}
+use Rattle.basics.proofs.Sets.{in?, in_member, no_member, below_in, below_lt, out_sub}
+use Rattle.basics.specs.Sets.{Sub, Asc, some, below}
+use Rattle.cuckoo.specs.Joined.{Joined}
+use Rattle.cuckoo.proofs.Joined.{jsym, jrefl, mono}
 use Rattle.cuckoo.specs.Forest.{forest}
 use Rattle.cuckoo.proofs.Forest.{forest_in, spans_key, acyclic}
 use Rattle.cuckoo.proofs.Settling.{seated_forest, seated_is, is_seated}
 use Rattle.cuckoo.specs.Settling.{tree, smallest}
-use Rattle.cuckoo.specs.Seating.{Bare, ends_near}
-use Rattle.cuckoo.specs.Tree.{far_some}
+use Rattle.cuckoo.specs.Seating.{Bare}
+use Rattle.cuckoo.proofs.Seating.{ends_near}
+use Rattle.cuckoo.proofs.Tree.{far_some}
 use Rattle.build.specs.Labels.{Labels, Words}
 use Rattle.build.proofs.Labels.{label_fit, same_label, label_joined}
 use Rattle.build.specs.Notes.{lows, Least, Lows, pair_base, Noting, note_at, stash_rank, overflowed, nothing_noted, noted, Going, NotedAs, Stashed, Smallest, found, none_of, none_yet, one_seen, full, done, over, fit, empty, rank}
@@ -54,9 +56,9 @@ module _ (m : ℕ) (next : List ℕ) where
   pub lows_least : (notes : List ℕ) → length notes ≡ m → (R : List ℕ) → Asc R → (l : ℕ) → l < m
       → Least next R l (get_or notes l 0) (get_or (lows m next R notes) l 0)
   unfolding lows
-  lows_least notes sz [] ordered l fit = none_of refl (λ x i. elim i [ ])
-  lows_least notes sz (c ∷ R) (some up ordered) l fit =
-      let ih = lows_least notes sz R ordered l fit in
+  lows_least notes sz [] ordered l small = none_of refl (λ x i. elim i [ ])
+  lows_least notes sz (c ∷ R) (some up ordered) l small =
+      let ih = lows_least notes sz R ordered l small in
       let s = lows m next R notes in
       elim (eq? l (get_or next c 0)) [
         | inl q ↦
@@ -73,7 +75,7 @@ module _ (m : ℕ) (next : List ℕ) where
 pub lows_all : (m : ℕ) (next : List ℕ) {S : List ℕ} → Asc S → Lows m S next (lows m next S (replicate m 0))
 lows_all m next {S} asc = record {
   size = lows_length m next S (replicate m 0) ∙ length-replicate m 0;
-  at = λ l fit. let h = lows_least m next (replicate m 0) (length-replicate m 0) S asc l fit in rw (get_or_zeros m l) at h;
+  at = λ l small. let h = lows_least m next (replicate m 0) (length-replicate m 0) S asc l small in rw (get_or_zeros m l) at h;
 }
 
 -- A rank has one of the forest in its component that is not larger.
@@ -175,11 +177,11 @@ module _ {a b : ℕ → ℕ} (m : ℕ) (fits : (c : ℕ) → (a c < m) × (b c <
         record {
           notes_size = length-set N.notes l z ∙ Q.notes_size;
           next_size = length-set N.next c l ∙ Q.next_size;
-          seen = λ k fit. elim (eq? k l) [
+          seen = λ k small. elim (eq? k l) [
             | inl q ↦
                 let e : get_or (set N.notes l z) k 0 ≡ z = rw q (get_or-set_same N.notes l z 0 (rw Q.notes_size (label_fit L fits c))) in
                 one_seen c (e ∙ rw (q, r.1)) ic (rw q (W.off c ic off)) (λ y i t. r.2 y i (rw q at t)) (λ t. omega (arith, up c t))
-            | inr ne ↦ rw (get_or-set_other N.notes l k z 0 ne) (elim (Q.seen k fit) [
+            | inr ne ↦ rw (get_or-set_other N.notes l k z 0 ne) (elim (Q.seen k small) [
               | none_yet e h ↦ none_yet e (λ y i q. elim (h y i q) [ here p ↦ absurd (ne (omega (arith, W.off c ic off, rw p at q))) | there t ↦ t ])
               | one_seen d e i q h n ↦ one_seen d e i q h (λ t. n (there t))
             ])
@@ -203,11 +205,11 @@ module _ {a b : ℕ → ℕ} (m : ℕ) (fits : (c : ℕ) → (a c < m) × (b c <
         record {
           notes_size = Q.notes_size;
           next_size = length-set N.next c m ∙ Q.next_size;
-          seen = λ k fit. elim (Q.seen k fit) [
+          seen = λ k small. elim (Q.seen k small) [
             | none_yet e h ↦ none_yet e (λ y i q. elim (h y i q) [
               | here p ↦
                   let g : k ≡ lab (a c) = omega (arith, W.off c ic off, rw p at q) in
-                  absurd (omega (arith, low_lt k fit, rw (← g) at f))
+                  absurd (omega (arith, low_lt k small, rw (← g) at f))
               | there t ↦ t
             ])
             | one_seen d e i q h n ↦ one_seen d e i q h (λ t. n (there t))
@@ -248,8 +250,8 @@ module _ {a b : ℕ → ℕ} (m : ℕ) (fits : (c : ℕ) → (a c < m) × (b c <
       let sub' : Sub R S = λ x i. sub x (there i) in
       elim (in? c F) [
         | inl f ↦
-            let fit : get_or N.next c 0 < m = omega (arith, Q.ahead c (here refl), W.on c ic f, label_fit L fits c) in
-            rw (noted_on m c R N fit, in_member (seated_forest a b S asc c f)) (noted_from R N ordered sub' room (going_on ic f Q))
+            let small : get_or N.next c 0 < m = omega (arith, Q.ahead c (here refl), W.on c ic f, label_fit L fits c) in
+            rw (noted_on m c R N small, in_member (seated_forest a b S asc c f)) (noted_from R N ordered sub' room (going_on ic f Q))
         | inr n ↦
             let l = lab (a c) in
             let e : get_or N.next c 0 ≡ m + l = Q.ahead c (here refl) ∙ W.off c ic n in

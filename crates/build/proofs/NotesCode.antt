@@ -8,8 +8,8 @@ use Rattle.std.proofs.Math.Bool.{true, false, cond}
 use native.Mathlib.Omega.{arith}
 use Rattle.std.proofs.Math.Seq.{set_out}
 use borrow.Author.Tests.{lt-ltb, le-ltb}
-use Rattle.basics.specs.Tests.{test, eq?, le?}
-use Rattle.basics.proofs.Tests.{zero_one}
+use Rattle.basics.specs.Tests.{test}
+use Rattle.basics.proofs.Tests.{eq?, le?, zero_one}
 use Rattle.cuckoo.specs.Renaming.{from, ranks}
 use Rattle.cuckoo.proofs.Renaming.{ranks_more}
 use Rattle.build.specs.Notes.{lows, pair_base, Noting, note_at, stash_rank, overflowed, noted}

@@ -2,8 +2,8 @@
 use Rattle.std.specs.Prelude.{ℕ, ◌+◌, ◌-◌, ◌*◌, ◌≤◌, ◌≡◌, refl, List, ◌++◌, length, take, drop}
 use Rattle.std.proofs.Common.{append_assoc, arith, length-append, take-append-drop, drop_at, drop-drop}
 use Rattle.std.proofs.Math.Seq.{take_at}
-use Rattle.basics.specs.Parts.{PartAt, part_length}
-use Rattle.basics.proofs.Parts.{place_part}
+use Rattle.basics.specs.Parts.{PartAt}
+use Rattle.basics.proofs.Parts.{part_length, place_part}
 use Rattle.build.specs.Scratch.{Parts, glue, held_at, edges_at, stashed_at, sets_at, next_at, used, PartsSized, parts, with_graph, with_stash, with_sets, with_next}
 
 -- the place of each of these

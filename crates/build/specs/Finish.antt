@@ -10,13 +10,12 @@ use mathlib.Core.List.{List, [], ◌∷◌, Memᴰ as In}
 use Rattle.std.proofs.Math.ListN.{get_or}
 use borrow.Author.Tests.{eq-eqb, ne_eqb, lt-ltb, le-ltb, ltb-true}
 use Rattle.cuckoo.specs.Graph.{seated, occupant}
-use Rattle.basics.specs.Tests.{eq?}
 use Rattle.basics.specs.Sets.{Sub, Asc, some}
-use Rattle.cuckoo.specs.Joined.{Joined, jrefl, jsym, edge, mono, least}
+use Rattle.cuckoo.specs.Joined.{Joined}
 use Rattle.cuckoo.specs.Forest.{forest}
 use Rattle.cuckoo.specs.Settling.{smallest}
 use Rattle.cuckoo.specs.Seating.{Ends}
-use Rattle.forest.specs.Oriented.{OrientedForest, Oriented, end_near, recast}
+use Rattle.forest.specs.Oriented.{OrientedForest, Oriented}
 use Rattle.forest.specs.Finish.{Finished, Spanned, TreeComponent, CycleComponent, finish_tree, finish_cycle}
 use Rattle.build.specs.Labels.{Labels, Words}
 use Rattle.build.specs.Notes.{pair_base, Noting, Going, none_yet, one_seen, Lows, Smallest, empty, rank}

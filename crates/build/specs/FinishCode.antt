@@ -9,7 +9,7 @@ use Rattle.std.proofs.Math.Logic.{inl, inr}
 use native.Mathlib.Omega.{arith}
 use Rattle.std.proofs.Math.ListN.{get_or}
 use borrow.Author.Tests.{eq-eqb, ne_eqb, lt-ltb, le-ltb}
-use Rattle.basics.specs.Tests.{test, le?}
+use Rattle.basics.specs.Tests.{test}
 use Rattle.cuckoo.specs.Renaming.{from, ranks}
 use Rattle.forest.specs.Edges.{end_0, end_1, other_end}
 use Rattle.forest.specs.Finish.{finish_tree, finish_cycle, exchange}

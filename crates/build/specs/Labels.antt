@@ -3,7 +3,7 @@
 use Rattle.std.specs.Prelude.{ℕ, ◌+◌, ◌<◌, ◌≤◌, ◌≡◌, length, get_or}
 use mathlib.Core.List.{List, Memᴰ as In}
 use Rattle.std.proofs.Common.{arith}
-use Rattle.cuckoo.specs.Joined.{Joined, mono}
+use Rattle.cuckoo.specs.Joined.{Joined}
 use Rattle.cuckoo.specs.Forest.{forest}
 use Rattle.partition.specs.Words.{rep_of}
 use Rattle.build.specs.EachSlot.{each_slot}

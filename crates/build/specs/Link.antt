@@ -8,12 +8,12 @@ use mathlib.Core.List.Memᴰ.{head as here}
 use mathlib.Core.List.Memᴰ.{tail as there}
 use mathlib.Core.List.{List, [], ◌∷◌, Memᴰ as In}
 use Rattle.std.proofs.Math.ListN.{length-set, length-replicate}
-use Rattle.basics.specs.Tests.{test, eq?}
+use Rattle.basics.specs.Tests.{test}
 use Rattle.basics.specs.Sets.{Sub, Asc, some}
-use Rattle.cuckoo.specs.Joined.{Joined, joined?, jrefl, edge, mono}
+use Rattle.cuckoo.specs.Joined.{Joined}
 use Rattle.cuckoo.specs.Seating.{Ends, from_a, from_b}
 use Rattle.cuckoo.specs.Forest.{forest}
-use Rattle.forest.specs.Oriented.{OrientedForest, forest_sub, recast}
+use Rattle.forest.specs.Oriented.{OrientedForest}
 use Rattle.forest.specs.Reroot.{reroot}
 use Rattle.forest.specs.Link.{grow, Once, no_key, one_more}
 use Rattle.partition.specs.Words.{max_points, singletons_of, rep_of, size_of, united}

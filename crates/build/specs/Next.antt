@@ -10,7 +10,6 @@ use mathlib.Core.List.{List, [], ◌∷◌, Memᴰ as In}
 use Rattle.std.proofs.Math.Seq.{get_or-set_same, get_or-set_other}
 use borrow.Author.Tests.{ne_eqb, lt-ltb, le-ltb}
 use Rattle.cuckoo.specs.Graph.{seated, occupant, next, slot_key, slot_next}
-use Rattle.basics.specs.Tests.{eq?, le?}
 use Rattle.basics.specs.Sets.{Sub, Asc, some}
 use Rattle.cuckoo.specs.Next.{larger, around}
 use Rattle.build.specs.Labels.{Labels}

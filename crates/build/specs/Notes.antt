@@ -15,13 +15,11 @@ use Rattle.std.proofs.Math.Seq.{get_or-set_other}
 use borrow.Author.Tests.{lt-ltb, le-ltb}
 use Rattle.basics.specs.Sets.{member, keep}
 use Rattle.cuckoo.specs.Graph.{seated, stash}
-use Rattle.basics.specs.Tests.{eq?, le?}
-use Rattle.basics.specs.Sets.{Sub, Asc, some, in_member, below, out_sub}
-use Rattle.cuckoo.specs.Joined.{Joined, jsym, jrefl, mono}
+use Rattle.basics.specs.Sets.{Sub, Asc, some, below}
+use Rattle.cuckoo.specs.Joined.{Joined}
 use Rattle.cuckoo.specs.Forest.{forest}
 use Rattle.cuckoo.specs.Settling.{tree, smallest}
-use Rattle.cuckoo.specs.Seating.{Bare, ends_near}
-use Rattle.cuckoo.specs.Tree.{far_some}
+use Rattle.cuckoo.specs.Seating.{Bare}
 use Rattle.build.specs.Labels.{Labels, Words}
 
 -- Step 3, and the notes of step 6: descending over the ranks whose word is a label, each is noted there. Of R the larger come first.

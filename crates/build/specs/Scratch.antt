@@ -5,7 +5,7 @@
 use Rattle.std.specs.Prelude.{ℕ, ◌+◌, ◌-◌, ◌*◌, ◌≤◌, ◌≡◌, refl, List, ◌++◌, length, take, drop}
 use Rattle.std.proofs.Common.{append_assoc, arith, length-append, take-append-drop, drop_at, drop-drop}
 use Rattle.std.proofs.Math.Seq.{take_at}
-use Rattle.basics.specs.Parts.{PartAt, part_length}
+use Rattle.basics.specs.Parts.{PartAt}
 
 pub record Parts : Type 0 where
   pub keys : List ℕ

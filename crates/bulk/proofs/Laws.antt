@@ -18,7 +18,7 @@ use Rattle.hashing.specs.Slots.{slot_0, slot_1}
 use Rattle.layout.specs.Entries.{Entry, max_tier, tier_of}
 use Rattle.layout.specs.Layout.{Params, one_issue, family, params_in_range, words_length, scratch_length}
 use Rattle.layout.specs.Layout.{fits, image, place_words}
-use Rattle.layout.specs.Shape.{ranged}
+use Rattle.layout.proofs.Shape.{ranged}
 use Rattle.layout.proofs.Fresh.{target_sizes}
 use Rattle.layout.proofs.Fitting.{full_answer, crowded_unfit}
 use Rattle.layout.specs.Answers.{lookup_values, view_of}

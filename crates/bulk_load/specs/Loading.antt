@@ -14,7 +14,8 @@ use Rattle.layout.specs.Entries.{max_tier, tier_of, tiered}
 use Rattle.layout.proofs.Entries.{tiered_self}
 use Rattle.layout.specs.Layout.{Params, with_keys, fits}
 use Rattle.layout.specs.Answers.{fresh_header}
-use Rattle.layout.specs.Shape.{Sized, ranged}
+use Rattle.layout.specs.Shape.{Sized}
+use Rattle.layout.proofs.Shape.{ranged}
 use Rattle.layout.proofs.Fitting.{crowded_unfit}
 use Rattle.build.specs.Scratch.{edges_at, used}
 use Rattle.scratch_set.specs.Edges.{edge_with, edge_of, Lined, EdgesTo, edges_start, edges_turn, edges_lined}

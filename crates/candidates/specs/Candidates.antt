@@ -11,7 +11,8 @@ use borrow.Rule.Slice.PartMut.{mid_of}
 use Rattle.std.proofs.Math.ListN.{take}
 use Rattle.std.proofs.lemmas.List.{length-map}
 use Rattle.basics.specs.Tests.{test}
-use Rattle.basics.specs.Sets.{keep, length_keep}
+use Rattle.basics.specs.Sets.{keep}
+use Rattle.basics.proofs.Sets.{length_keep}
 use Rattle.basics.proofs.Lists.{keep_append}
 use Rattle.cuckoo.specs.Placement.{slot}
 use Rattle.hashing.specs.Hash.{Family, tables}

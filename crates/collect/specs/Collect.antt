@@ -11,7 +11,8 @@ use Rattle.std.proofs.lemmas.List.{take-set-le, take-append-le}
 use borrow.Rule.Slice.PartMut.{mid_of, put_mid}
 use Rattle.basics.specs.Tests.{test}
 use Rattle.basics.proofs.Tests.{zero_one}
-use Rattle.basics.specs.Sets.{keep, length_keep}
+use Rattle.basics.specs.Sets.{keep}
+use Rattle.basics.proofs.Sets.{length_keep}
 use Rattle.basics.proofs.Lists.{keep_append}
 use Rattle.ordered.specs.Keys.{sorted, distinct}
 use Rattle.ordered.proofs.Sorting.{sorted_length}

@@ -2,7 +2,7 @@
 use Rattle.std.specs.Prelude.{ℕ, ◌+◌, ◌≤◌, ◌<◌, ◌≡◌, ◌⊎◌}
 use Rattle.std.proofs.Math.Path.{refl}
 use Rattle.std.proofs.Common.{inl, inr, arith, ne_eqb, lt-ltb, le-ltb}
-use Rattle.basics.specs.Tests.{eq?, le?}
+use Rattle.basics.proofs.Tests.{eq?, le?}
 use Rattle.refusals.specs.Refusal.{done}
 use Rattle.counters.specs.declared.Counters.{Counters}
 use Rattle.counters.specs.Counters.{max_count, one_more, counted}

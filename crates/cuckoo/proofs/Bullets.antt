@@ -3,19 +3,21 @@ use Rattle.std.specs.Prelude.{ℕ, ◌≤◌, ◌≡◌, refl, ◌⊎◌, ◌↔
 use Rattle.std.proofs.Common.{sym, ◌∙◌, ap, inl, inr, arith}
 use mathlib.Core.List.{List, Memᴰ as In}
 use Rattle.cuckoo.specs.Graph.{is_on_cycle, component, root, occupant}
-use Rattle.basics.specs.Tests.{eq?}
+use Rattle.basics.proofs.Tests.{eq?}
 use Rattle.basics.specs.Sets.{Asc}
 use Rattle.basics.specs.Lists.{Picked, passes, fails}
 use Rattle.basics.proofs.Lists.{picked}
-use Rattle.cuckoo.specs.Joined.{Joined, jsym, jrefl, jtrans, edge}
-use Rattle.cuckoo.specs.Settling.{OnCycle, Cyclic, Settled, is_on_cycle_true, true_is_on_cycle}
-use Rattle.cuckoo.specs.Seating.{from_b, tree_root, Rooted, rooted, root_same, true_sits, occupant_is}
-use Rattle.cuckoo.proofs.Seating.{occupant_from}
+use Rattle.cuckoo.specs.Joined.{Joined}
+use Rattle.cuckoo.proofs.Joined.{jsym, jrefl, jtrans, edge}
+use Rattle.cuckoo.specs.Settling.{OnCycle, Cyclic, Settled}
+use Rattle.cuckoo.proofs.Settling.{is_on_cycle_true, true_is_on_cycle}
+use Rattle.cuckoo.specs.Seating.{from_b, tree_root, Rooted}
+use Rattle.cuckoo.proofs.Seating.{rooted, root_same, true_sits, occupant_is, occupant_from}
 use Rattle.cuckoo.specs.Tree.{Far}
 use Rattle.cuckoo.proofs.Tree.{far_end, far_once}
 use Rattle.cuckoo.proofs.Components.{in_component, component_in, component_near, asc_component}
-use Rattle.cuckoo.specs.Places.{hung, hung_root, hung_joins, at_root, at_far, Seat, seat_occupant}
-use Rattle.cuckoo.proofs.Places.{hung_in, hung_bare, ends_or, occupant_seat}
+use Rattle.cuckoo.specs.Places.{hung, at_root, at_far, Seat}
+use Rattle.cuckoo.proofs.Places.{hung_in, hung_root, hung_joins, hung_bare, ends_or, seat_occupant, occupant_seat}
 use Rattle.cuckoo.specs.Bullets.{InOne, SmallestOf, SmallestOnCycle, AtEnds, TreeBullet, CycleBullet, Obeys}
 
 module _ (a b : ℕ → ℕ) (T : List ℕ) where

@@ -2,9 +2,10 @@
 use Rattle.std.specs.Prelude.{ℕ, ◌≡◌}
 use mathlib.Core.List.{List, Memᴰ as In}
 use Rattle.cuckoo.specs.Graph.{joined, component}
-use Rattle.basics.specs.Sets.{keep_in, keep_test, in_keep, Asc}
-use Rattle.basics.proofs.Sets.{asc_keep}
-use Rattle.cuckoo.specs.Joined.{Joined, joined_true, true_joined}
+use Rattle.basics.proofs.Sets.{keep_in, keep_test, in_keep, asc_keep}
+use Rattle.basics.specs.Sets.{Asc}
+use Rattle.cuckoo.specs.Joined.{Joined}
+use Rattle.cuckoo.proofs.Joined.{joined_true, true_joined}
 
 module _ (a b : ℕ → ℕ) (T : List ℕ) (v : ℕ) where
   -- a key of T is in the component of v exactly if its slots are joined to v

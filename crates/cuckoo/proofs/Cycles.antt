@@ -6,18 +6,19 @@ use mathlib.Core.List.Memᴰ.{head as here}
 use mathlib.Core.List.{List, [], ◌∷◌, Memᴰ as In}
 use mathlib.Core.List.Memᴰ.{eq_of_singleton as in-singleton}
 use mathlib.Core.List.Memᴰ.{not-nil as in-nil}
-use Rattle.basics.specs.Sets.{without, Sub, out_in, out_ne, Asc}
-use Rattle.basics.proofs.Sets.{in?, asc_out}
+use Rattle.basics.specs.Sets.{without, Sub, Asc}
+use Rattle.basics.proofs.Sets.{in?, out_in, out_ne, asc_out}
 use Rattle.cuckoo.specs.Graph.{cyclic, spare, settle, seated}
-use Rattle.cuckoo.specs.Joined.{Joined, jrefl, jsym, jtrans, mono, cut}
+use Rattle.cuckoo.specs.Joined.{Joined}
+use Rattle.cuckoo.proofs.Joined.{jrefl, jsym, jtrans, mono, cut}
 use Rattle.cuckoo.specs.Settling.{OnCycle, Cyclic, Spare, Settled, Goes, stop, go_on}
 use Rattle.cuckoo.proofs.Settling.{moves, round, seated_stops, seated_joined}
 use Rattle.cuckoo.proofs.Settling.{cyclic_true, true_cyclic, spare_true, true_spare}
-use Rattle.cuckoo.specs.Seating.{Ends, ends_flip}
+use Rattle.cuckoo.specs.Seating.{Ends}
+use Rattle.cuckoo.proofs.Seating.{ends_flip}
 use Rattle.cuckoo.specs.Walks.{Distinct, nil, new, stay, step, reached, ClosedWalk}
 use Rattle.cuckoo.proofs.Walks.{reached_rekey}
-use Rattle.cuckoo.proofs.Walks.{walk_near, walk_out, closed_on, simple_cycle, cycle_walk}
-use Rattle.cuckoo.specs.Walks.{walk_mono, walk_keys}
+use Rattle.cuckoo.proofs.Walks.{walk_near, walk_mono, walk_keys, walk_out, closed_on, simple_cycle, cycle_walk}
 use Rattle.cuckoo.specs.Cycles.{Cycle, keys, Simple, CycleAt, TwoCycles, LargestOnCycle, first_only, second_only}
 
 module _ {a b : ℕ → ℕ} where

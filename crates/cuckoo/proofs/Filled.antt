@@ -8,17 +8,17 @@ use Rattle.std.proofs.Math.Logic.{inl, inr}
 use mathlib.Core.List.{List, Memᴰ as In}
 use borrow.Author.Tests.{not-true}
 use Rattle.std.proofs.Math.ListN.{length}
-use Rattle.basics.specs.Tests.{eq?}
-use Rattle.basics.specs.Sets.{member, keep, Sub, keep_in, keep_test, in_keep, member_in, in_member, Asc}
-use Rattle.basics.proofs.Sets.{in?, no_member, asc_keep, asc_ext}
+use Rattle.basics.proofs.Tests.{eq?}
+use Rattle.basics.specs.Sets.{member, keep, Sub, Asc}
+use Rattle.basics.proofs.Sets.{in?, keep_in, keep_test, in_keep, member_in, in_member, no_member, asc_keep, asc_ext}
 use Rattle.basics.proofs.Lists.{length_split}
 use Rattle.cuckoo.specs.Graph.{root, sits, occupant, seated, stash}
-use Rattle.cuckoo.specs.Joined.{Joined, jsym, jrefl, jtrans}
+use Rattle.cuckoo.specs.Joined.{Joined}
+use Rattle.cuckoo.proofs.Joined.{jsym, jrefl, jtrans}
 use Rattle.cuckoo.specs.Settling.{Cyclic, Settled}
 use Rattle.cuckoo.proofs.Settling.{cyclic?, cyclic_near, seated_sub, seated_asc}
-use Rattle.cuckoo.specs.Seating.{occupant_is}
-use Rattle.cuckoo.proofs.Places.{or_ends, seat_near, occupant_seat, slot_seat}
-use Rattle.cuckoo.specs.Places.{seat_occupant}
+use Rattle.cuckoo.proofs.Seating.{occupant_is}
+use Rattle.cuckoo.proofs.Places.{or_ends, seat_near, seat_occupant, occupant_seat, slot_seat}
 use Rattle.cuckoo.specs.Bullets.{InOne, SmallestOf}
 use Rattle.cuckoo.proofs.Bullets.{root_tree, root_cycle, bullet_tree, bullet_cycle, seated_at}
 use Rattle.cuckoo.specs.Filled.{Sitting, in_one, in_both}

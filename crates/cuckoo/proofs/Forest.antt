@@ -6,11 +6,12 @@ use mathlib.Core.List.Memᴰ.{head as here}
 use mathlib.Core.List.Memᴰ.{tail as there}
 use mathlib.Core.List.{List, ◌∷◌, Memᴰ as In}
 use borrow.Author.Tests.{not-true}
-use Rattle.basics.specs.Tests.{le?}
-use Rattle.basics.specs.Sets.{keep, without, keep_in, keep_test, in_keep, Sub, out_in, out_ne, below}
-use Rattle.basics.proofs.Sets.{in?, below_in, below_lt, in_below, below_sub, below_up, below_suc, top, in_top}
+use Rattle.basics.proofs.Tests.{le?}
+use Rattle.basics.specs.Sets.{keep, without, Sub, below}
+use Rattle.basics.proofs.Sets.{keep_in, keep_test, in_keep, in?, out_in, out_ne, below_in, below_lt, in_below, below_sub, below_up, below_suc, top, in_top}
 use Rattle.cuckoo.specs.Graph.{joined}
-use Rattle.cuckoo.specs.Joined.{Joined, past, along, back, edge, mono, within, split, joined?, true_joined, no_joined}
+use Rattle.cuckoo.specs.Joined.{Joined, past, along, back}
+use Rattle.cuckoo.proofs.Joined.{edge, mono, within, split, joined?, true_joined, no_joined}
 use Rattle.cuckoo.specs.Forest.{Larger, forest}
 
 module _ (a b : ℕ → ℕ) where

@@ -3,17 +3,19 @@
 use Rattle.std.specs.Prelude.{ℕ, suc, ◌<◌, ◌≤◌, ◌≡◌, Bool, true, ◌↔◌}
 use Rattle.std.proofs.Common.{sym, inl, inr, arith}
 use mathlib.Core.List.{List, Memᴰ as In}
-use Rattle.basics.specs.Tests.{eq?, le?}
-use Rattle.basics.specs.Sets.{keep, without, Sub, keep_in, keep_test, in_keep, out_in, in_out, out_ne, outs, Asc}
-use Rattle.basics.proofs.Sets.{in?, below_in, below_lt, asc_keep, asc_ext}
+use Rattle.basics.proofs.Tests.{eq?, le?}
+use Rattle.basics.specs.Sets.{keep, without, Sub, Asc}
+use Rattle.basics.proofs.Sets.{in?, keep_in, keep_test, in_keep, out_in, in_out, out_ne, outs, below_in, below_lt, asc_keep, asc_ext}
 use Rattle.cuckoo.specs.Graph.{seated, root}
-use Rattle.cuckoo.specs.Joined.{Joined, jrefl, jsym, jtrans, edge, mono, confine}
+use Rattle.cuckoo.specs.Joined.{Joined}
+use Rattle.cuckoo.proofs.Joined.{jrefl, jsym, jtrans, edge, mono, confine}
 use Rattle.cuckoo.specs.Forest.{forest}
 use Rattle.cuckoo.proofs.Forest.{forest_in, spans_key, spans, acyclic}
 use Rattle.cuckoo.specs.Settling.{OnCycle, Cyclic, Settled, Stays}
 use Rattle.cuckoo.proofs.Settling.{seated_asc, one, seated_sub, seated_forest, seated_stops, seated_some, seated_is, is_seated}
-use Rattle.cuckoo.specs.Seating.{Bare, ends_near, ends_cycle, one_near}
-use Rattle.cuckoo.specs.Tree.{far_some}
+use Rattle.cuckoo.specs.Seating.{Bare}
+use Rattle.cuckoo.proofs.Seating.{ends_near, ends_cycle, one_near}
+use Rattle.cuckoo.proofs.Tree.{far_some}
 use Rattle.cuckoo.proofs.Bullets.{root_cycle}
 
 module _ (a b : ℕ → ℕ) where

@@ -5,6 +5,7 @@ pub mod Components
 pub mod Cycles
 pub mod Filled
 pub mod Forest
+pub mod Joined
 pub mod Kruskal
 pub mod Locality
 pub mod Next

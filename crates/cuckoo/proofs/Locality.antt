@@ -7,19 +7,19 @@ use Rattle.std.proofs.Math.Bool.{Bool, true, not, and-true as and_right}
 use Rattle.std.proofs.Math.Logic.{inl, inr}
 use mathlib.Core.List.{List, Memᴰ as In}
 use Rattle.std.proofs.Math.Dec.{eqb}
-use Rattle.basics.specs.Tests.{test, and_true}
-use Rattle.basics.proofs.Tests.{bool_ext}
-use Rattle.basics.specs.Sets.{member, keep, without, first, Sub, member_in, in_member, out_in, in_out, out_ne, out_sub, below, Asc}
-use Rattle.basics.proofs.Sets.{below_in, below_lt, in_below, below_sub, asc_ext}
+use Rattle.basics.specs.Tests.{test}
+use Rattle.basics.proofs.Tests.{and_true, bool_ext}
+use Rattle.basics.specs.Sets.{member, keep, without, first, Sub, below, Asc}
+use Rattle.basics.proofs.Sets.{member_in, in_member, out_in, in_out, out_ne, out_sub, below_in, below_lt, in_below, below_sub, asc_ext}
 use Rattle.basics.proofs.Lists.{keep_ext, keep_keep, keep_both}
 use Rattle.cuckoo.specs.Graph.{joined, is_on_cycle, component, seated, stash, root, sits, occupant, next}
-use Rattle.cuckoo.specs.Joined.{Joined, jrefl, jsym, jtrans, edge, mono, joined_true, true_joined, cut, confine}
+use Rattle.cuckoo.specs.Joined.{Joined}
+use Rattle.cuckoo.proofs.Joined.{jrefl, jsym, jtrans, edge, mono, joined_true, true_joined, cut, confine}
 use Rattle.cuckoo.specs.Forest.{forest}
 use Rattle.cuckoo.proofs.Forest.{forest_in, forest_no, in_forest}
-use Rattle.cuckoo.specs.Settling.{OnCycle, Cyclic, Spare, is_on_cycle_true, true_is_on_cycle, tree, smallest}
-use Rattle.cuckoo.proofs.Settling.{seated_sub, seated_joined, cycle_mono, spare_mono, seated_asc, seated_is, is_seated}
-use Rattle.cuckoo.specs.Seating.{ends_near, ends_of, rooted}
-use Rattle.cuckoo.proofs.Seating.{occupant_from}
+use Rattle.cuckoo.specs.Settling.{OnCycle, Cyclic, Spare, tree, smallest}
+use Rattle.cuckoo.proofs.Settling.{is_on_cycle_true, true_is_on_cycle, seated_sub, seated_joined, cycle_mono, spare_mono, seated_asc, seated_is, is_seated}
+use Rattle.cuckoo.proofs.Seating.{ends_near, ends_of, rooted, occupant_from}
 use Rattle.cuckoo.proofs.Components.{in_component, component_in, component_near, asc_component}
 use Rattle.cuckoo.specs.Locality.{SameImage}
 

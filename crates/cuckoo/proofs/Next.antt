@@ -8,7 +8,8 @@ use Rattle.cuckoo.specs.Graph.{component, next, seated, stash}
 use Rattle.basics.specs.Sets.{Asc}
 use Rattle.basics.proofs.Lists.{get_or_in, larger_drop, first_drop, picked}
 use Rattle.basics.specs.Lists.{passes, fails}
-use Rattle.cuckoo.specs.Joined.{Joined, jrefl}
+use Rattle.cuckoo.specs.Joined.{Joined}
+use Rattle.cuckoo.proofs.Joined.{jrefl}
 use Rattle.cuckoo.proofs.Components.{in_component, component_in, component_near, component_same, asc_component}
 use Rattle.cuckoo.proofs.Settling.{seated_asc}
 use Rattle.cuckoo.proofs.Filled.{not_seated_and_stash}

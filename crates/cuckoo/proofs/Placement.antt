@@ -7,18 +7,18 @@ use mathlib.Core.List.Memᴰ
 use mathlib.Core.List.{List, ◌++◌, map, Memᴰ as In}
 use Rattle.std.proofs.lemmas.Bool.{eqb-false}
 use Rattle.std.proofs.lemmas.List.{length-map}
-use Rattle.basics.specs.Tests.{test, le?}
-use Rattle.basics.specs.Sets.{member, without, Sub, below, in_member, out_in, Asc}
-use Rattle.basics.proofs.Sets.{in?, no_member, asc_out}
+use Rattle.basics.specs.Tests.{test}
+use Rattle.basics.proofs.Tests.{le?}
+use Rattle.basics.specs.Sets.{member, without, Sub, below, Asc}
+use Rattle.basics.proofs.Sets.{in?, in_member, no_member, out_in, asc_out}
 use Rattle.basics.proofs.Lists.{pigeonhole, length_upto, in_upto, rank_below, rank_apart}
 use Rattle.basics.specs.Lists.{upto}
 use Rattle.cuckoo.specs.Graph.{cyclic, seated, stash, occupant}
-use Rattle.cuckoo.specs.Joined.{jsym, edge}
+use Rattle.cuckoo.proofs.Joined.{jsym, edge}
 use Rattle.cuckoo.specs.Settling.{Cyclic}
 use Rattle.cuckoo.proofs.Settling.{cyclic_true, true_cyclic, cyclic_near, seated_sub, seated_asc, seated_joined, seated_stops}
 use Rattle.cuckoo.proofs.Seating.{look}
-use Rattle.cuckoo.proofs.Places.{seat_near, slot_seat}
-use Rattle.cuckoo.specs.Places.{seat_occupant}
+use Rattle.cuckoo.proofs.Places.{seat_near, seat_occupant, slot_seat}
 use Rattle.cuckoo.proofs.Filled.{occupant_injective, seated_or_stash, not_seated_and_stash, seated_stash_length}
 use Rattle.cuckoo.proofs.Kruskal.{stashed_cyclic}
 use Rattle.cuckoo.specs.Placement.{Place, MaySit, Placement, slot, place, table_0, table_1, aside}

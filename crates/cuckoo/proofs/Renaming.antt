@@ -10,16 +10,15 @@ use mathlib.Core.List.Memᴰ.{tail as there}
 use mathlib.Core.List.{List, [], ◌∷◌, ◌++◌, map, map-append, Memᴰ as In}
 use borrow.Author.Tests.{eqb-true, eq-eqb, ne_eqb, ltb-true, lt-ltb}
 use Rattle.std.proofs.lemmas.List.{length-map}
-use Rattle.basics.specs.Tests.{test, eq?, le?}
-use Rattle.basics.proofs.Tests.{bool_ext}
-use Rattle.basics.specs.Sets.{member, keep, any, first, last, without, Sub, keep_in, out_in, Asc, none, some}
-use Rattle.basics.proofs.Sets.{last_in}
+use Rattle.basics.specs.Tests.{test}
+use Rattle.basics.proofs.Tests.{eq?, le?, bool_ext}
+use Rattle.basics.specs.Sets.{member, keep, any, first, last, without, Sub, Asc, none, some}
+use Rattle.basics.proofs.Sets.{keep_in, out_in, last_in}
 use Rattle.basics.proofs.Lists.{get_or_in}
 use Rattle.cuckoo.specs.Graph.{label, joined, component, is_on_cycle, cyclic, spare, settle, seated, stash, root, sits, occupant, next, slot_key, slot_next}
-use Rattle.cuckoo.specs.Joined.{jrefl}
+use Rattle.cuckoo.proofs.Joined.{jrefl}
 use Rattle.cuckoo.proofs.Components.{component_in}
-use Rattle.cuckoo.specs.Seating.{rooted}
-use Rattle.cuckoo.proofs.Seating.{occupant_from}
+use Rattle.cuckoo.proofs.Seating.{rooted, occupant_from}
 use Rattle.cuckoo.proofs.Settling.{settle_sub}
 use Rattle.cuckoo.specs.Renaming.{Renames, from, ranks, ranked}
 

@@ -8,12 +8,13 @@ use mathlib.Core.List.{List, Memᴰ as In}
 use borrow.Author.Tests.{eqb-true, eq-eqb, not-true, not-false}
 use Rattle.basics.specs.Tests.{test}
 use Rattle.basics.proofs.Tests.{or_cases, bool_ext}
-use Rattle.basics.specs.Sets.{keep, first, member, member_in, in_member, below, Asc}
-use Rattle.basics.proofs.Sets.{asc_keep}
-use Rattle.basics.specs.Sets.{keep_in, keep_test, in_keep, first_in}
+use Rattle.basics.specs.Sets.{keep, first, member, below, Asc}
+use Rattle.basics.proofs.Sets.{member_in, in_member}
+use Rattle.basics.proofs.Sets.{asc_keep, keep_in, keep_test, in_keep, first_in}
 use Rattle.basics.proofs.Lists.{keep_ext, first_low}
 use Rattle.cuckoo.specs.Graph.{joined, component, seated, stash}
-use Rattle.cuckoo.specs.Joined.{Joined, jrefl, jsym, joined_true, true_joined, no_joined}
+use Rattle.cuckoo.specs.Joined.{Joined}
+use Rattle.cuckoo.proofs.Joined.{jrefl, jsym, joined_true, true_joined, no_joined}
 use Rattle.cuckoo.specs.Forest.{forest}
 use Rattle.cuckoo.proofs.Forest.{forest_no, in_forest}
 use Rattle.cuckoo.specs.Settling.{Stays, tree, smallest}

@@ -5,18 +5,22 @@ use Rattle.std.proofs.Math.Path.{refl, sym, ap}
 use Rattle.std.proofs.Common.{◌∙◌}
 use Rattle.std.proofs.Math.Logic.{inl, inr}
 use native.Mathlib.Omega.{arith}
-use Rattle.basics.specs.Tests.{eq?, le?}
-use Rattle.basics.specs.Sets.{without, in_out, out_sub, Asc}
+use Rattle.basics.proofs.Tests.{eq?, le?}
+use Rattle.basics.specs.Sets.{without, Asc}
+use Rattle.basics.proofs.Sets.{in_out, out_sub}
 use Rattle.basics.specs.Lists.{passes, fails}
 use Rattle.basics.proofs.Lists.{picked}
 use Rattle.cuckoo.specs.Graph.{is_on_cycle, root, occupant}
-use Rattle.cuckoo.specs.Joined.{Joined, jrefl, jsym, jtrans, mono}
-use Rattle.cuckoo.specs.Settling.{OnCycle, Settled, true_is_on_cycle}
-use Rattle.cuckoo.specs.Seating.{Ends, from_a, from_b, ends_edge, ends_near, ends_flip, ends_cycle, root_same}
+use Rattle.cuckoo.specs.Joined.{Joined}
+use Rattle.cuckoo.proofs.Joined.{jrefl, jsym, jtrans, mono}
+use Rattle.cuckoo.specs.Settling.{OnCycle, Settled}
+use Rattle.cuckoo.proofs.Settling.{true_is_on_cycle}
+use Rattle.cuckoo.specs.Seating.{Ends, from_a, from_b}
+use Rattle.cuckoo.proofs.Seating.{ends_edge, ends_near, ends_flip, ends_cycle, root_same}
 use Rattle.cuckoo.proofs.Tree.{far_near}
 use Rattle.cuckoo.proofs.Components.{in_component, asc_component}
-use Rattle.cuckoo.specs.Places.{hung_sub, Seat, seat_occupant}
-use Rattle.cuckoo.proofs.Places.{seat_near, slot_seat}
+use Rattle.cuckoo.proofs.Places.{hung_sub, seat_near, seat_occupant, slot_seat}
+use Rattle.cuckoo.specs.Places.{Seat}
 use Rattle.cuckoo.specs.Trail.{seat, other, trail, Trail, ends, hands_on}
 use Rattle.cuckoo.proofs.Trail.{seat_other, seat_once, hangs, hung_near, whole_only, trail_whole}
 use Rattle.cuckoo.specs.Round.{path, along, held, Under}

@@ -5,14 +5,16 @@ use Rattle.std.proofs.Math.Path.{refl}
 use Rattle.std.proofs.Common.{sym, ◌∙◌, true≢false, arith, le_of_eq}
 use Rattle.std.proofs.Math.Logic.{inl, inr}
 use mathlib.Core.List.{List, [], ◌∷◌, Memᴰ as In}
-use Rattle.basics.specs.Tests.{test, eq?, and_true}
-use Rattle.basics.specs.Sets.{member, keep, without, last, keep_test, in_keep, Sub, out_in, in_out, out_ne, outs, out_sub, member_in, in_member, Asc, out_shorter, in_length, some_or_all}
-use Rattle.basics.proofs.Sets.{in?, below_out, any_true, true_any, asc_keep, last_in, last_max, asc_out, both?, not?}
+use Rattle.basics.specs.Tests.{test}
+use Rattle.basics.proofs.Tests.{eq?, and_true}
+use Rattle.basics.specs.Sets.{member, keep, without, last, Sub, Asc}
+use Rattle.basics.proofs.Sets.{keep_test, in_keep, in?, out_in, in_out, out_ne, outs, out_sub, below_out, member_in, in_member, any_true, true_any, asc_keep, last_in, last_max, out_shorter, asc_out, in_length, some_or_all, both?, not?}
 use Rattle.cuckoo.specs.Graph.{joined, is_on_cycle, component, cyclic, spare, settle, seated}
-use Rattle.cuckoo.specs.Joined.{Joined, past, along, back, jrefl, jsym, jtrans, edge, mono, split_out, cut, joined?, joined_true, true_joined, confine}
+use Rattle.cuckoo.specs.Joined.{Joined, past, along, back}
+use Rattle.cuckoo.proofs.Joined.{jrefl, jsym, jtrans, edge, mono, split_out, cut, joined?, joined_true, true_joined, confine}
 use Rattle.cuckoo.specs.Forest.{forest}
 use Rattle.cuckoo.proofs.Forest.{forest_in, spans, acyclic, not_largest}
-use Rattle.cuckoo.specs.Settling.{OnCycle, Cyclic, Spare, Settled, Goes, Round, is_on_cycle_true, true_is_on_cycle, F, Stand, Stays, stop, go_on, tree, smallest}
+use Rattle.cuckoo.specs.Settling.{OnCycle, Cyclic, Spare, Settled, Goes, Round, F, Stand, Stays, stop, go_on, tree, smallest}
 
 module _ (a b : ℕ → ℕ) where
   pub is_on_cycle? : (R : List ℕ) (c : ℕ) → (OnCycle a b) R c ⊎ ((OnCycle a b) R c → ⊥)
@@ -23,6 +25,15 @@ module _ (a b : ℕ → ℕ) where
       ]
 
 module _ {a b : ℕ → ℕ} where
+  -- the definitions that compute say the same
+  pub is_on_cycle_true : {R : List ℕ} {c : ℕ} → is_on_cycle a b R c ≡ true → OnCycle a b R c
+  unfolding is_on_cycle
+  is_on_cycle_true {R} {c} e = let p = and_true (member c R) _ e in record { on = member_in c R p.0; closed = joined_true p.1 }
+
+  pub true_is_on_cycle : {R : List ℕ} {c : ℕ} → OnCycle a b R c → is_on_cycle a b R c ≡ true
+  unfolding is_on_cycle
+  true_is_on_cycle {R} {c} l = rw (in_member l.on) (true_joined l.closed)
+
   pub cyclic_true : {R : List ℕ} {v : ℕ} → cyclic a b R v ≡ true → Cyclic a b R v
   unfolding cyclic component
   cyclic_true {R} {v} e =

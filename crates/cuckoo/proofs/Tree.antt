@@ -4,16 +4,48 @@ use Rattle.std.proofs.Common.{sym, ◌∙◌, ap, true≢false, eqb-true, eq-eqb
 use Rattle.std.proofs.Math.Logic.{inl, inr}
 use mathlib.Core.List.{List, Memᴰ as In}
 use Rattle.std.proofs.lemmas.Bool.{not-true}
-use Rattle.basics.specs.Tests.{eq?}
-use Rattle.basics.specs.Sets.{keep, without, Sub, some_or_all, in_out, out_sub, keep_in, keep_test, in_keep}
-use Rattle.basics.proofs.Sets.{in?}
+use Rattle.basics.proofs.Tests.{eq?}
+use Rattle.basics.specs.Sets.{keep, without, Sub}
+use Rattle.basics.proofs.Sets.{in?, some_or_all, in_out, out_sub, keep_in, keep_test, in_keep}
 use Rattle.cuckoo.specs.Graph.{joined}
-use Rattle.cuckoo.specs.Joined.{Joined, mono, joined?, joined_true, true_joined, false_joined, jsym, jrefl, jtrans, edge, least}
-use Rattle.cuckoo.specs.Seating.{Ends, from_a, from_b, Bare, one_near, not_both, ends_edge, ends_flip, ends_two}
-use Rattle.cuckoo.proofs.Seating.{away}
-use Rattle.cuckoo.specs.Tree.{Far, LeadsOut, leads_new, progress, leads_far, far_some, end, right, Y}
+use Rattle.cuckoo.specs.Joined.{Joined}
+use Rattle.cuckoo.proofs.Joined.{mono, joined?, joined_true, true_joined, false_joined, jsym, jrefl, jtrans, edge, least}
+use Rattle.cuckoo.specs.Seating.{Ends, from_a, from_b, Bare}
+use Rattle.cuckoo.proofs.Seating.{one_near, not_both, away, ends_edge, ends_flip, ends_two}
+use Rattle.cuckoo.specs.Tree.{Far}
+
+module _ (a b : ℕ → ℕ) where
+  -- the key c leads from v, which Y joins to p, to w, which it does not
+  record LeadsOut (Y : List ℕ) (p c : ℕ) : Type 0 where
+    v : ℕ
+    w : ℕ
+    ends : Ends a b c v w
+    reached : Joined a b Y p v
+    fresh : Joined a b Y p w → ⊥
+
+  leads? : (Y : List ℕ) (p c : ℕ) → LeadsOut Y p c ⊎ (joined a b Y p (a c) ≡ joined a b Y p (b c))
+  leads? Y p c = go (joined? a b Y p (a c)) (joined? a b Y p (b c))
+    where
+      go : Joined a b Y p (a c) ⊎ (Joined a b Y p (a c) → ⊥) → Joined a b Y p (b c) ⊎ (Joined a b Y p (b c) → ⊥)
+          → LeadsOut Y p c ⊎ (joined a b Y p (a c) ≡ joined a b Y p (b c))
+      go (inl x) (inl y) = inr (true_joined x ∙ sym (true_joined y))
+      go (inl x) (inr m) = inl (record { v = a c; w = b c; ends = from_a refl refl; reached = x; fresh = m })
+      go (inr m) (inl y) = inl (record { v = b c; w = a c; ends = from_b refl refl; reached = y; fresh = m })
+      go (inr m) (inr k) = inr (false_joined m ∙ sym (false_joined k))
+
+module _ {a b : ℕ → ℕ} where
+  leads_new : {Y : List ℕ} {p c : ℕ} → LeadsOut a b Y p c → In c Y → ⊥
+  leads_new l i = l.fresh (jtrans l.reached (ends_edge l.ends i))
 
 module _ {a b : ℕ → ℕ} {X : List ℕ} {p : ℕ} where
+  -- while a slot of the component is not reached, some key leads on
+  progress : (Y : List ℕ) {u : ℕ} → Joined a b X p u → (Joined a b Y p u → ⊥) → (c : ℕ) × In c X × LeadsOut a b Y p c
+  progress Y {u} j n =
+      elim (some_or_all (leads? a b Y p) X) [
+        | inl r ↦ r
+        | inr h ↦ absurd (n (joined_true (sym (least (joined a b Y p) X h j) ∙ true_joined {R = Y} {u = p} jrefl)))
+      ]
+
   -- its other end is joined to p without it
   pub far_near : {c v : ℕ} (F : Far a b X p c v) → Joined a b X p v → Joined a b (without c X) F.w p
   far_near F j = elim (one_near F.ends F.c_in j) [ inl k ↦ absurd (F.cut k) | inr k ↦ k ]
@@ -35,6 +67,46 @@ module _ {a b : ℕ → ℕ} {X : List ℕ} {p : ℕ} (bare : Bare a b X p) wher
         | inr o ↦ inr (record { c_in = i; w = a c; ends = from_b refl refl; cut = o })
       ]
 
+  -- a key that leads on from what keys of X reach has its far end there
+  leads_far : {Y : List ℕ} {c : ℕ} → Sub Y X → In c X → (l : LeadsOut a b Y p c) → Far a b X p c l.w
+  leads_far {Y} {c} s i l = record {
+    c_in = i;
+    w = l.v;
+    ends = ends_flip l.ends;
+    cut = λ k. not_both bare l.ends i (mono (λ d h. in_out c X (λ q. leads_new l (rw q h)) (s d h)) (jsym l.reached)) k;
+  }
+
+  -- each slot of the tree but p is the far end of a key
+  pub far_some : {v : ℕ} → Joined a b X p v → (v ≡ p → ⊥) → (c : ℕ) × Far a b X p c v
+  far_some {v} j ne = let r = progress Y j no_way in go r.1 r.2
+    where
+      off : ℕ → Bool
+      off c = not (eqb v (a c) || eqb v (b c))
+
+      -- the keys that have no end at v
+      Y : List ℕ
+      Y = keep off X
+
+      off_ends : {c x w : ℕ} → Ends a b c x w → (v ≡ x → ⊥) → (v ≡ w → ⊥) → off c ≡ true
+      off_ends {c} (from_a e f) m n = rw (ne_eqb v (a c) (λ q. m (q ∙ sym e)), ne_eqb v (b c) (λ q. n (q ∙ sym f)))
+      off_ends {c} (from_b e f) m n = rw (ne_eqb v (a c) (λ q. n (q ∙ sym f)), ne_eqb v (b c) (λ q. m (q ∙ sym e)))
+
+      both_false : (s t : Bool) → (s || t) ≡ false → s ≡ t
+      both_false true t e = absurd (true≢false e)
+      both_false false t e = sym e
+
+      no_way : Joined a b Y p v → ⊥
+      no_way k =
+          let e = least (eqb v) Y (λ c i. both_false (eqb v (a c)) (eqb v (b c)) (not-true _ (keep_test off X i))) k in
+          ne (eqb-true v p (e ∙ eq-eqb v v refl))
+
+      go : {c : ℕ} → In c X → LeadsOut a b Y p c → (d : ℕ) × Far a b X p d v
+      go {c} i l =
+          elim (eq? v l.w) [
+            | inl q ↦ (c, rw q (leads_far (λ d h. keep_in off X h) i l))
+            | inr m ↦ absurd (leads_new l (in_keep off X (off_ends l.ends (λ q. no_way (rw (← q) at l.reached)) m) i))
+          ]
+
   -- the keys of the tree that are in Y make a tree as well, and a far end in Y is a far end in X
   bare_sub : {Y : List ℕ} → Sub Y X → Bare a b Y p
   bare_sub s c i j k = bare c (s c i) (mono s j) (mono (out_sub c s) k)
@@ -52,33 +124,43 @@ module _ {a b : ℕ → ℕ} {X : List ℕ} {p : ℕ} (bare : Bare a b X p) wher
   -- at its far end.
   module _ (f : ℕ → ℕ) (own : (c : ℕ) → In c X → Joined a b X p (a c) → (f (a c) ≡ c) ⊎ (f (b c) ≡ c))
       (top : (c v : ℕ) → f p ≡ c → Far a b X p c v → f v ≡ c) where
-    end_is : {c v : ℕ} → Far a b X p c v → Joined a b X p v → (end bare f own top) c ≡ v
+    end : ℕ → ℕ
+    end c = cond (joined a b (without c X) (a c) p) (b c) (a c)
+
+    end_is : {c v : ℕ} → Far a b X p c v → Joined a b X p v → end c ≡ v
     unfolding end
     end_is {c} {v} F j = go F.ends
       where
-        go : {w : ℕ} → Ends a b c v w → (end bare f own top) c ≡ v
+        go : {w : ℕ} → Ends a b c v w → end c ≡ v
         go (from_a e g) = rw (e, false_joined (rw e at F.cut))
         go (from_b e g) =
             elim (one_near (from_b e g) F.c_in j) [ inl k ↦ absurd (F.cut k) | inr k ↦ rw (e, true_joined (rw g at k)) ]
 
-    Y_in : Sub (Y bare f own top) X
+    right : ℕ → Bool
+    right c = eqb (f (end c)) c
+
+    -- the keys that sit at their far ends
+    Y : List ℕ
+    Y = keep right X
+
+    Y_in : Sub Y X
     unfolding Y
-    Y_in c i = keep_in (right bare f own top) X i
+    Y_in c i = keep_in right X i
 
-    Y_right : {c v : ℕ} → In c (Y bare f own top) → Far a b X p c v → Joined a b X p v → f v ≡ c
+    Y_right : {c v : ℕ} → In c Y → Far a b X p c v → Joined a b X p v → f v ≡ c
     unfolding Y right
-    Y_right {c} i F j = rw (← end_is F j) (eqb-true (f ((end bare f own top) c)) c (keep_test (right bare f own top) X i))
+    Y_right {c} i F j = rw (← end_is F j) (eqb-true (f (end c)) c (keep_test right X i))
 
-    right_Y : {c v : ℕ} → Far a b X p c v → Joined a b X p v → f v ≡ c → In c (Y bare f own top)
+    right_Y : {c v : ℕ} → Far a b X p c v → Joined a b X p v → f v ≡ c → In c Y
     unfolding Y right
-    right_Y {c} F j e = in_keep (right bare f own top) X (eq-eqb (f ((end bare f own top) c)) c (ap f (end_is F j) ∙ e)) F.c_in
+    right_Y {c} F j e = in_keep right X (eq-eqb (f (end c)) c (ap f (end_is F j) ∙ e)) F.c_in
 
     own_ends : {c v w : ℕ} → Ends a b c v w → In c X → Joined a b X p v → (f v ≡ c) ⊎ (f w ≡ c)
     own_ends {c} (from_a e g) i j = rw (e, g) (own c i (rw e at j))
     own_ends {c} (from_b e g) i j = rw (e, g) (elim (own c i (jtrans (rw e at j) (jsym (edge i)))) [ inl q ↦ inr q | inr q ↦ inl q ])
 
     -- a key that leads on from them would be one of them
-    leads_right : {c : ℕ} → In c X → LeadsOut a b (Y bare f own top) p c → ⊥
+    leads_right : {c : ℕ} → In c X → LeadsOut a b Y p c → ⊥
     leads_right {c} i l =
         let F = leads_far bare Y_in i l in
         let j = mono Y_in l.reached in
@@ -93,16 +175,16 @@ module _ {a b : ℕ → ℕ} {X : List ℕ} {p : ℕ} (bare : Bare a b X p) wher
           ]
         ]
 
-    reach : {u : ℕ} → Joined a b X p u → Joined a b (Y bare f own top) p u
-    reach {u} j = elim (joined? a b (Y bare f own top) p u) [ inl k ↦ k | inr n ↦ let r = progress (Y bare f own top) j n in absurd (leads_right r.1 r.2) ]
+    reach : {u : ℕ} → Joined a b X p u → Joined a b Y p u
+    reach {u} j = elim (joined? a b Y p u) [ inl k ↦ k | inr n ↦ let r = progress Y j n in absurd (leads_right r.1 r.2) ]
 
     -- each key of the tree sits at its far end
     pub fixed : {c v : ℕ} → Far a b X p c v → Joined a b X p v → f v ≡ c
     fixed {c} F j =
-        elim (in? c (Y bare f own top)) [
+        elim (in? c Y) [
           | inl i ↦ Y_right i F j
           | inr n ↦
-              let down : Sub (Y bare f own top) (without c X) = λ d i. in_out c X (λ q. n (rw q i)) (Y_in d i) in
+              let down : Sub Y (without c X) = λ d i. in_out c X (λ q. n (rw q i)) (Y_in d i) in
               let k = reach j in
               absurd (F.cut (jsym (mono down k)))
         ]

@@ -4,16 +4,18 @@ use Rattle.std.specs.Prelude.{ℕ, ◌≡◌, ◌⊎◌}
 use Rattle.std.proofs.Common.{sym, ◌∙◌, inl, inr}
 use mathlib.Core.List.{List, Memᴰ as In}
 use Rattle.cuckoo.specs.Graph.{root, seated, occupant}
-use Rattle.basics.specs.Tests.{eq?}
+use Rattle.basics.proofs.Tests.{eq?}
 use Rattle.basics.specs.Sets.{Asc}
-use Rattle.cuckoo.specs.Joined.{Joined, jsym, jrefl, jtrans, mono}
+use Rattle.cuckoo.specs.Joined.{Joined}
+use Rattle.cuckoo.proofs.Joined.{jsym, jrefl, jtrans, mono}
 use Rattle.cuckoo.specs.Settling.{Cyclic, Settled}
 use Rattle.cuckoo.proofs.Settling.{cyclic?, cyclic_near, seated_asc, seated_sub, seated_stops}
-use Rattle.cuckoo.specs.Seating.{from_a, from_b, ends_near, rooted}
+use Rattle.cuckoo.specs.Seating.{from_a, from_b}
+use Rattle.cuckoo.proofs.Seating.{ends_near, rooted}
 use Rattle.cuckoo.specs.Tree.{Far}
 use Rattle.cuckoo.proofs.Tree.{fixed}
-use Rattle.cuckoo.specs.Places.{hung, hung_sub, hung_root, hung_joins, at_root, at_far, Seat, seat_occupant}
-use Rattle.cuckoo.proofs.Places.{hung_bare, seat_near, or_ends, occupant_seat, slot_seat}
+use Rattle.cuckoo.specs.Places.{hung, at_root, at_far, Seat}
+use Rattle.cuckoo.proofs.Places.{hung_sub, hung_root, hung_joins, hung_bare, seat_near, or_ends, seat_occupant, occupant_seat, slot_seat}
 use Rattle.cuckoo.specs.Bullets.{InOne, SmallestOf, SmallestOnCycle, Obeys}
 use Rattle.cuckoo.proofs.Bullets.{one_of, root_tree, root_cycle, obeys}
 

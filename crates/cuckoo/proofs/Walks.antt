@@ -7,12 +7,16 @@ use mathlib.Core.List.Memᴰ.{tail as there}
 use mathlib.Core.List.{List, [], ◌∷◌, ◌++◌, Memᴰ as In}
 use mathlib.Core.List.Memᴰ.{append_cases as in-append}
 use mathlib.Core.List.Memᴰ.{not-nil as in-nil}
-use Rattle.basics.specs.Sets.{without, Sub, out_in, in_out, out_ne}
+use Rattle.basics.specs.Sets.{without, Sub}
+use Rattle.basics.proofs.Sets.{out_in, in_out, out_ne}
 use Rattle.cuckoo.specs.Graph.{label, joined, is_on_cycle}
-use Rattle.cuckoo.specs.Joined.{Joined, past, along, back, jrefl, jsym, jtrans, split, joined?, joined_true, true_joined}
-use Rattle.cuckoo.specs.Settling.{OnCycle, is_on_cycle_true, true_is_on_cycle}
-use Rattle.cuckoo.specs.Seating.{Ends, from_a, from_b, ends_edge, ends_cycle, ends_near}
-use Rattle.cuckoo.specs.Walks.{Distinct, Walk, reached, SimpleWalk, ClosedWalk, walk_keys, rekey, walk_mono, nil, new, stay, step}
+use Rattle.cuckoo.specs.Joined.{Joined, past, along, back}
+use Rattle.cuckoo.proofs.Joined.{jrefl, jsym, jtrans, split, joined?, joined_true, true_joined}
+use Rattle.cuckoo.specs.Settling.{OnCycle}
+use Rattle.cuckoo.proofs.Settling.{is_on_cycle_true, true_is_on_cycle}
+use Rattle.cuckoo.specs.Seating.{Ends, from_a, from_b}
+use Rattle.cuckoo.proofs.Seating.{ends_edge, ends_cycle, ends_near}
+use Rattle.cuckoo.specs.Walks.{Distinct, Walk, reached, SimpleWalk, ClosedWalk, nil, new, stay, step}
 
 distinct_append : {cs ds : List ℕ} → Distinct cs → Distinct ds → ((x : ℕ) → In x cs → In x ds → ⊥) → Distinct (cs ++ ds)
 distinct_append nil k n = k
@@ -29,16 +33,31 @@ module _ (a b : ℕ → ℕ) where
     after : Joined a b (without d R) y v
 
 module _ {a b : ℕ → ℕ} where
+  -- a walk is over keys of R
+  pub walk_keys : {R cs : List ℕ} {u v : ℕ} → Walk a b R cs u v → Sub cs R
+  walk_keys (step i e k) d (here q) = rw q i
+  walk_keys (step i e k) d (there m) = walk_keys k d m
+  walk_keys {R = R} (stay {u = u} {v = v} _) d x6 = elim x6 [ ]
+
   -- a walk joins
   walk_joined : {R cs : List ℕ} {u v : ℕ} → Walk a b R cs u v → Joined a b R u v
   walk_joined (stay e) = rw e jrefl
   walk_joined (step i e k) = jtrans (ends_edge e i) (walk_joined k)
+
+  -- it is a walk of every set that has its keys
+  pub rekey : {R R' cs : List ℕ} {u v : ℕ} → Sub cs R' → Walk a b R cs u v → Walk a b R' cs u v
+  rekey s (stay e) = stay e
+  rekey s (step {c = c} i e k) = step (s c (here refl)) e (rekey (λ d m. s d (there m)) k)
 
   -- and it reaches the same slots there
   pub reached_rekey : {R R' cs : List ℕ} {u v : ℕ} (s : Sub cs R') (k : Walk a b R cs u v) → reached a b (rekey s k) ≡ reached a b k
   unfolding reached rekey
   reached_rekey s (stay e) = refl
   reached_rekey s (step i e k) = rw (reached_rekey (λ d m. s d (there m)) k)
+
+  -- so a walk of R is one of every larger set
+  abbrev pub walk_mono : {R R' cs : List ℕ} {u v : ℕ} → Sub R R' → Walk a b R cs u v → Walk a b R' cs u v
+  walk_mono s k = rekey (λ d i. s d (walk_keys k d i)) k
 
   -- along a first walk, then along the key c, then along a second
   through : {R cs ds : List ℕ} {c u x y v : ℕ} → Walk a b R cs u x → In c R → Ends a b c x y → Walk a b R ds y v → Walk a b R (cs ++ (c ∷ ds)) u v

@@ -4,14 +4,13 @@ use Rattle.std.specs.Prelude.{ℕ, ◌≤◌, ◌≡◌, refl, ◌⊎◌, ◌↔
 use Rattle.std.proofs.Common.{sym, ◌∙◌, ap, inl, inr, arith}
 use mathlib.Core.List.{List, Memᴰ as In}
 use Rattle.cuckoo.specs.Graph.{is_on_cycle, component, root, occupant}
-use Rattle.basics.specs.Tests.{eq?}
 use Rattle.basics.specs.Sets.{Asc}
 use Rattle.basics.specs.Lists.{Picked, passes, fails}
-use Rattle.cuckoo.specs.Joined.{Joined, jsym, jrefl, jtrans, edge}
-use Rattle.cuckoo.specs.Settling.{OnCycle, Cyclic, Settled, is_on_cycle_true, true_is_on_cycle}
-use Rattle.cuckoo.specs.Seating.{from_b, tree_root, Rooted, rooted, root_same, true_sits, occupant_is}
+use Rattle.cuckoo.specs.Joined.{Joined}
+use Rattle.cuckoo.specs.Settling.{OnCycle, Cyclic, Settled}
+use Rattle.cuckoo.specs.Seating.{from_b, tree_root, Rooted}
 use Rattle.cuckoo.specs.Tree.{Far}
-use Rattle.cuckoo.specs.Places.{hung, hung_root, hung_joins, at_root, at_far, Seat, seat_occupant}
+use Rattle.cuckoo.specs.Places.{hung, at_root, at_far, Seat}
 
 -- the key c sits in exactly one slot
 pub record InOne (f : ℕ → ℕ) (c : ℕ) : Type 0 where

@@ -7,13 +7,12 @@ use mathlib.Core.List.Memᴰ.{head as here}
 use mathlib.Core.List.{List, [], ◌∷◌, Memᴰ as In}
 use mathlib.Core.List.Memᴰ.{eq_of_singleton as in-singleton}
 use mathlib.Core.List.Memᴰ.{not-nil as in-nil}
-use Rattle.basics.specs.Sets.{without, Sub, out_in, out_ne, Asc}
+use Rattle.basics.specs.Sets.{without, Sub, Asc}
 use Rattle.cuckoo.specs.Graph.{cyclic, spare, settle, seated}
-use Rattle.cuckoo.specs.Joined.{Joined, jrefl, jsym, jtrans, mono, cut}
+use Rattle.cuckoo.specs.Joined.{Joined}
 use Rattle.cuckoo.specs.Settling.{OnCycle, Cyclic, Spare, Settled, Goes, stop, go_on}
-use Rattle.cuckoo.specs.Seating.{Ends, ends_flip}
+use Rattle.cuckoo.specs.Seating.{Ends}
 use Rattle.cuckoo.specs.Walks.{Distinct, nil, new, stay, step, reached, ClosedWalk}
-use Rattle.cuckoo.specs.Walks.{walk_mono, walk_keys}
 
 module _ (a b : ℕ → ℕ) where
   -- A cycle of R (document 01's 'loop'): a closed walk along at least one key of R and along none twice.

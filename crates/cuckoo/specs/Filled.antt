@@ -8,13 +8,10 @@ use Rattle.std.proofs.Math.Logic.{inl, inr}
 use mathlib.Core.List.{List, Memᴰ as In}
 use borrow.Author.Tests.{not-true}
 use Rattle.std.proofs.Math.ListN.{length}
-use Rattle.basics.specs.Tests.{eq?}
-use Rattle.basics.specs.Sets.{member, keep, Sub, keep_in, keep_test, in_keep, member_in, in_member, Asc}
+use Rattle.basics.specs.Sets.{member, keep, Sub, Asc}
 use Rattle.cuckoo.specs.Graph.{root, sits, occupant, seated, stash}
-use Rattle.cuckoo.specs.Joined.{Joined, jsym, jrefl, jtrans}
+use Rattle.cuckoo.specs.Joined.{Joined}
 use Rattle.cuckoo.specs.Settling.{Cyclic, Settled}
-use Rattle.cuckoo.specs.Seating.{occupant_is}
-use Rattle.cuckoo.specs.Places.{seat_occupant}
 use Rattle.cuckoo.specs.Bullets.{InOne, SmallestOf}
 
 module _ (a b : ℕ → ℕ) where

@@ -7,10 +7,9 @@ use mathlib.Core.List.Memᴰ.{head as here}
 use mathlib.Core.List.Memᴰ.{tail as there}
 use mathlib.Core.List.{List, ◌∷◌, Memᴰ as In}
 use borrow.Author.Tests.{not-true}
-use Rattle.basics.specs.Tests.{le?}
-use Rattle.basics.specs.Sets.{keep, without, keep_in, keep_test, in_keep, Sub, out_in, out_ne, below}
+use Rattle.basics.specs.Sets.{keep, without, Sub, below}
 use Rattle.cuckoo.specs.Graph.{joined}
-use Rattle.cuckoo.specs.Joined.{Joined, past, along, back, edge, mono, within, split, joined?, true_joined, no_joined}
+use Rattle.cuckoo.specs.Joined.{Joined, past, along, back}
 
 module _ (a b : ℕ → ℕ) where
   -- a larger key on a cycle, near the key c

@@ -8,13 +8,12 @@ use Rattle.std.proofs.Math.Bool.{Bool, true, not, and-true as and_right}
 use Rattle.std.proofs.Math.Logic.{inl, inr}
 use mathlib.Core.List.{List, Memᴰ as In}
 use Rattle.std.proofs.Math.Dec.{eqb}
-use Rattle.basics.specs.Tests.{test, and_true}
-use Rattle.basics.specs.Sets.{member, keep, without, first, Sub, member_in, in_member, out_in, in_out, out_ne, out_sub, below, Asc}
+use Rattle.basics.specs.Tests.{test}
+use Rattle.basics.specs.Sets.{member, keep, without, first, Sub, below, Asc}
 use Rattle.cuckoo.specs.Graph.{joined, is_on_cycle, component, seated, stash, root, sits, occupant, next}
-use Rattle.cuckoo.specs.Joined.{Joined, jrefl, jsym, jtrans, edge, mono, joined_true, true_joined, cut, confine}
+use Rattle.cuckoo.specs.Joined.{Joined}
 use Rattle.cuckoo.specs.Forest.{forest}
-use Rattle.cuckoo.specs.Settling.{OnCycle, Cyclic, Spare, is_on_cycle_true, true_is_on_cycle, tree, smallest}
-use Rattle.cuckoo.specs.Seating.{ends_near, ends_of, rooted}
+use Rattle.cuckoo.specs.Settling.{OnCycle, Cyclic, Spare, tree, smallest}
 
 module _ (a b : ℕ → ℕ) where
   -- two sets have the same image in v's component: the same keys there are seated, in the same slots and with the same next keys, and the same

@@ -8,7 +8,7 @@ use Rattle.std.proofs.Math.ListN.{get_or}
 use Rattle.cuckoo.specs.Graph.{component, next, seated, stash}
 use Rattle.basics.specs.Sets.{Asc}
 use Rattle.basics.specs.Lists.{passes, fails}
-use Rattle.cuckoo.specs.Joined.{Joined, jrefl}
+use Rattle.cuckoo.specs.Joined.{Joined}
 
 module _ (a b : ℕ → ℕ) where
   -- x is a key of c's component: the smallest that is larger than c, or, if none is larger, the smallest of all

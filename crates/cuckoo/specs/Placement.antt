@@ -8,13 +8,11 @@ use mathlib.Core.List.Memᴰ
 use mathlib.Core.List.{List, ◌++◌, map, Memᴰ as In}
 use Rattle.std.proofs.lemmas.Bool.{eqb-false}
 use Rattle.std.proofs.lemmas.List.{length-map}
-use Rattle.basics.specs.Tests.{test, le?}
-use Rattle.basics.specs.Sets.{member, without, Sub, below, in_member, out_in, Asc}
+use Rattle.basics.specs.Tests.{test}
+use Rattle.basics.specs.Sets.{member, without, Sub, below, Asc}
 use Rattle.basics.specs.Lists.{upto}
 use Rattle.cuckoo.specs.Graph.{cyclic, seated, stash, occupant}
-use Rattle.cuckoo.specs.Joined.{jsym, edge}
 use Rattle.cuckoo.specs.Settling.{Cyclic}
-use Rattle.cuckoo.specs.Places.{seat_occupant}
 
 -- where a key may be put: a slot, or a place aside
 pub data Place : Type 0 where

@@ -12,11 +12,9 @@ use mathlib.Core.List.Memᴰ.{tail as there}
 use mathlib.Core.List.{List, [], ◌∷◌, ◌++◌, map, map-append, Memᴰ as In}
 use borrow.Author.Tests.{eqb-true, eq-eqb, ne_eqb, ltb-true, lt-ltb}
 use Rattle.std.proofs.lemmas.List.{length-map}
-use Rattle.basics.specs.Tests.{test, eq?, le?}
-use Rattle.basics.specs.Sets.{member, keep, any, first, last, without, Sub, keep_in, out_in, Asc, none, some}
+use Rattle.basics.specs.Tests.{test}
+use Rattle.basics.specs.Sets.{member, keep, any, first, last, without, Sub, Asc, none, some}
 use Rattle.cuckoo.specs.Graph.{label, joined, component, is_on_cycle, cyclic, spare, settle, seated, stash, root, sits, occupant, next, slot_key, slot_next}
-use Rattle.cuckoo.specs.Joined.{jrefl}
-use Rattle.cuckoo.specs.Seating.{rooted}
 
 -- f renames the keys of S: the order stays (and no key becomes 0, which is no key), and so do the slots, which a and b give to new names, a' and b' to old
 pub record Renames (f a b a' b' : ℕ → ℕ) (S : List ℕ) : Type 0 where

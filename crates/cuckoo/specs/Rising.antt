@@ -9,10 +9,9 @@ use Rattle.std.proofs.Math.Logic.{inl, inr}
 use mathlib.Core.List.{List, Memᴰ as In}
 use borrow.Author.Tests.{eqb-true, eq-eqb, not-true, not-false}
 use Rattle.basics.specs.Tests.{test}
-use Rattle.basics.specs.Sets.{keep, first, member, member_in, in_member, below, Asc}
-use Rattle.basics.specs.Sets.{keep_in, keep_test, in_keep, first_in}
+use Rattle.basics.specs.Sets.{keep, first, member, below, Asc}
 use Rattle.cuckoo.specs.Graph.{joined, component, seated, stash}
-use Rattle.cuckoo.specs.Joined.{Joined, jrefl, jsym, joined_true, true_joined, no_joined}
+use Rattle.cuckoo.specs.Joined.{Joined}
 use Rattle.cuckoo.specs.Forest.{forest}
 use Rattle.cuckoo.specs.Settling.{Stays, tree, smallest}
 

@@ -6,14 +6,13 @@ use Rattle.std.proofs.Math.Path.{refl, sym, ap}
 use Rattle.std.proofs.Common.{◌∙◌}
 use Rattle.std.proofs.Math.Logic.{inl, inr}
 use native.Mathlib.Omega.{arith}
-use Rattle.basics.specs.Tests.{eq?, le?}
-use Rattle.basics.specs.Sets.{without, in_out, out_sub, Asc}
+use Rattle.basics.specs.Sets.{without, Asc}
 use Rattle.basics.specs.Lists.{passes, fails}
 use Rattle.cuckoo.specs.Graph.{is_on_cycle, root, occupant}
-use Rattle.cuckoo.specs.Joined.{Joined, jrefl, jsym, jtrans, mono}
-use Rattle.cuckoo.specs.Settling.{OnCycle, Settled, true_is_on_cycle}
-use Rattle.cuckoo.specs.Seating.{Ends, from_a, from_b, ends_edge, ends_near, ends_flip, ends_cycle, root_same}
-use Rattle.cuckoo.specs.Places.{hung_sub, Seat, seat_occupant}
+use Rattle.cuckoo.specs.Joined.{Joined}
+use Rattle.cuckoo.specs.Settling.{OnCycle, Settled}
+use Rattle.cuckoo.specs.Seating.{Ends, from_a, from_b}
+use Rattle.cuckoo.specs.Places.{Seat}
 use Rattle.cuckoo.specs.Trail.{seat, other, trail, Trail, ends, hands_on}
 
 -- A walk by steps g from the slot v: the slot after n steps,

@@ -6,10 +6,10 @@ use Rattle.std.proofs.Math.Path.{refl}
 use Rattle.std.proofs.Common.{sym, ◌∙◌, true≢false, arith, le_of_eq}
 use Rattle.std.proofs.Math.Logic.{inl, inr}
 use mathlib.Core.List.{List, [], ◌∷◌, Memᴰ as In}
-use Rattle.basics.specs.Tests.{test, eq?, and_true}
-use Rattle.basics.specs.Sets.{member, keep, without, last, keep_test, in_keep, Sub, out_in, in_out, out_ne, outs, out_sub, member_in, in_member, Asc, out_shorter, in_length, some_or_all}
+use Rattle.basics.specs.Tests.{test}
+use Rattle.basics.specs.Sets.{member, keep, without, last, Sub, Asc}
 use Rattle.cuckoo.specs.Graph.{joined, is_on_cycle, component, cyclic, spare, settle, seated}
-use Rattle.cuckoo.specs.Joined.{Joined, past, along, back, jrefl, jsym, jtrans, edge, mono, split_out, cut, joined?, joined_true, true_joined, confine}
+use Rattle.cuckoo.specs.Joined.{Joined, past, along, back}
 use Rattle.cuckoo.specs.Forest.{forest}
 
 module _ (a b : ℕ → ℕ) where
@@ -41,16 +41,6 @@ module _ (a b : ℕ → ℕ) where
   pub data Round (R : List ℕ) (n : ℕ) : Type 0 where
     stop : Settled R → settle a b (suc n) R ≡ R → Round R n
     go_on : (c : ℕ) → Goes R c → settle a b (suc n) R ≡ settle a b n (without c R) → Round R n
-
-module _ {a b : ℕ → ℕ} where
-  -- the definitions that compute say the same
-  pub is_on_cycle_true : {R : List ℕ} {c : ℕ} → is_on_cycle a b R c ≡ true → OnCycle a b R c
-  unfolding is_on_cycle
-  is_on_cycle_true {R} {c} e = let p = and_true (member c R) _ e in record { on = member_in c R p.0; closed = joined_true p.1 }
-
-  pub true_is_on_cycle : {R : List ℕ} {c : ℕ} → OnCycle a b R c → is_on_cycle a b R c ≡ true
-  unfolding is_on_cycle
-  true_is_on_cycle {R} {c} l = rw (in_member l.on) (true_joined l.closed)
 
 module _ (a b : ℕ → ℕ) where
   module _ (S : List ℕ) where

@@ -13,16 +13,16 @@ use mathlib.Core.List.Memᴰ.{eq_of_singleton as in-singleton}
 use mathlib.Core.List.Memᴰ.{not-nil as in-nil}
 use Rattle.std.proofs.lemmas.Bool.{eqb-false}
 use Rattle.std.proofs.Math.Dec.{T}
-use Rattle.basics.specs.Tests.{test, eq?}
-use Rattle.basics.specs.Sets.{member, keep, without, first, last, Sub, keep_in, keep_test, in_keep, in_member, in_out, out_shorter, length_keep, length_drop, Asc}
+use Rattle.basics.specs.Tests.{test}
+use Rattle.basics.specs.Sets.{member, keep, without, first, last, Sub, Asc}
 use Rattle.basics.specs.Lists.{same, Picked, upto}
 use Rattle.cuckoo.specs.Graph.{label, joined, component, is_on_cycle, cyclic, spare, settle, seated, stash, root, sits, occupant}
-use Rattle.cuckoo.specs.Joined.{Joined, jrefl, jsym, jtrans, true_joined, no_joined}
+use Rattle.cuckoo.specs.Joined.{Joined}
 use Rattle.cuckoo.specs.Settling.{Settled}
-use Rattle.cuckoo.specs.Seating.{Ends, from_a, from_b, ends_edge, ends_near, ends_flip, rooted, root_same}
+use Rattle.cuckoo.specs.Seating.{Ends, from_a, from_b}
 use Rattle.cuckoo.specs.Walks.{Distinct, nil, new}
 use Rattle.cuckoo.specs.Tree.{Far}
-use Rattle.cuckoo.specs.Places.{hung, hung_sub, hung_joins, at_root, at_far, Seat, seat_occupant}
+use Rattle.cuckoo.specs.Places.{hung, at_root, at_far, Seat}
 use Rattle.cuckoo.specs.Rows.{board_0, board_1}
 
 module _ (a b : ℕ → ℕ) where

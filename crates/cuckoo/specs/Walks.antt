@@ -8,11 +8,11 @@ use mathlib.Core.List.Memᴰ.{tail as there}
 use mathlib.Core.List.{List, [], ◌∷◌, ◌++◌, Memᴰ as In}
 use mathlib.Core.List.Memᴰ.{append_cases as in-append}
 use mathlib.Core.List.Memᴰ.{not-nil as in-nil}
-use Rattle.basics.specs.Sets.{without, Sub, out_in, in_out, out_ne}
+use Rattle.basics.specs.Sets.{without, Sub}
 use Rattle.cuckoo.specs.Graph.{label, joined, is_on_cycle}
-use Rattle.cuckoo.specs.Joined.{Joined, past, along, back, jrefl, jsym, jtrans, split, joined?, joined_true, true_joined}
-use Rattle.cuckoo.specs.Settling.{OnCycle, is_on_cycle_true, true_is_on_cycle}
-use Rattle.cuckoo.specs.Seating.{Ends, from_a, from_b, ends_edge, ends_cycle, ends_near}
+use Rattle.cuckoo.specs.Joined.{Joined, past, along, back}
+use Rattle.cuckoo.specs.Settling.{OnCycle}
+use Rattle.cuckoo.specs.Seating.{Ends, from_a, from_b}
 
 -- nothing stands twice in the list
 pub data Distinct : List ℕ → Type 0 where
@@ -43,19 +43,3 @@ module _ (a b : ℕ → ℕ) where
     pub rest : List ℕ
     pub walk : Walk R (c ∷ rest) start start
     pub once : Distinct (c ∷ rest)
-
-module _ {a b : ℕ → ℕ} where
-  -- a walk is over keys of R
-  pub walk_keys : {R cs : List ℕ} {u v : ℕ} → Walk a b R cs u v → Sub cs R
-  walk_keys (step i e k) d (here q) = rw q i
-  walk_keys (step i e k) d (there m) = walk_keys k d m
-  walk_keys {R = R} (stay {u = u} {v = v} _) d x6 = elim x6 [ ]
-
-  -- it is a walk of every set that has its keys
-  unfoldable pub rekey : {R R' cs : List ℕ} {u v : ℕ} → Sub cs R' → Walk a b R cs u v → Walk a b R' cs u v
-  rekey s (stay e) = stay e
-  rekey s (step {c = c} i e k) = step (s c (here refl)) e (rekey (λ d m. s d (there m)) k)
-
-  -- so a walk of R is one of every larger set
-  abbrev pub walk_mono : {R R' cs : List ℕ} {u v : ℕ} → Sub R R' → Walk a b R cs u v → Walk a b R' cs u v
-  walk_mono s k = rekey (λ d i. s d (walk_keys k d i)) k

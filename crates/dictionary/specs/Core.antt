@@ -5,7 +5,8 @@ use Rattle.std.specs.Prelude.{ℕ, ◌+◌, ◌*◌, ◌-◌, ◌≤◌, ◌<◌
 use Rattle.std.proofs.Math.Path.{sym}
 use Rattle.std.proofs.Common.{◌∙◌, ap, true≢false, arith, eq-eqb, ne_eqb, lt-ltb, le-ltb, get_or-take}
 use mathlib.Core.List.{List, ◌∷◌, Memᴰ as In}
-use Rattle.basics.specs.Sets.{member, member_in, in_member, without, out_in, Asc}
+use Rattle.basics.specs.Sets.{member, without, Asc}
+use Rattle.basics.proofs.Sets.{member_in, in_member, out_in}
 use Rattle.ordered.proofs.Place.{bound_le, bound_found, length_with, length_without}
 use Rattle.ordered.specs.Keys.{lower_bound, with_key}
 use Rattle.refusals.specs.Refusal.{done, blank_key, key_present, key_absent, stash_full, wrong_tier, other_tier}

@@ -9,8 +9,8 @@ use mathlib.Core.List.Memᴰ.{tail as there}
 use mathlib.Core.List.{List, [], ◌∷◌, Memᴰ as In}
 use Rattle.std.proofs.Math.ListN.{length}
 use Rattle.basics.specs.Tests.{test}
-use Rattle.basics.specs.Sets.{below, without, Sub, Asc, none, some_or_all}
-use Rattle.basics.proofs.Sets.{in?, not?, asc_ext}
+use Rattle.basics.specs.Sets.{below, without, Sub, Asc, none}
+use Rattle.basics.proofs.Sets.{in?, not?, asc_ext, some_or_all}
 use Rattle.basics.proofs.Lists.{pigeonhole}
 use Rattle.ordered.specs.Keys.{with_key, above}
 use Rattle.ordered.proofs.Place.{with_cases, with_here, with_there, asc_with}

@@ -8,19 +8,19 @@ use mathlib.Core.List.Memᴰ.{tail as there}
 use mathlib.Core.List.{List, ◌∷◌, Memᴰ as In}
 use Rattle.std.proofs.lemmas.Bool.{eqb-false}
 use Rattle.basics.specs.Tests.{test}
-use Rattle.basics.specs.Sets.{without, Sub, out_in, in_out, out_ne, out_sub, Asc}
-use Rattle.basics.proofs.Sets.{in?}
+use Rattle.basics.specs.Sets.{without, Sub, Asc}
+use Rattle.basics.proofs.Sets.{in?, out_in, in_out, out_ne, out_sub}
 use Rattle.basics.proofs.Lists.{pigeonhole}
 use Rattle.ordered.specs.Keys.{with_key}
 use Rattle.ordered.proofs.Place.{with_cases, with_here, with_there, asc_with, length_with}
 use Rattle.cuckoo.specs.Graph.{cyclic, seated, stash, occupant}
-use Rattle.cuckoo.specs.Joined.{Joined, past, along, back, jrefl, jsym, jtrans, edge, mono, split, joined?}
+use Rattle.cuckoo.specs.Joined.{Joined, past, along, back}
+use Rattle.cuckoo.proofs.Joined.{jrefl, jsym, jtrans, edge, mono, split, joined?}
 use Rattle.cuckoo.specs.Settling.{OnCycle, Cyclic, Spare, Settled}
 use Rattle.cuckoo.proofs.Settling.{cyclic_true, true_cyclic, cyclic_near, cyclic?}
 use Rattle.cuckoo.proofs.Settling.{moves, cycle_mono, cyclic_mono, seated_sub, seated_asc, seated_joined, seated_stops}
 use Rattle.cuckoo.proofs.Seating.{look}
-use Rattle.cuckoo.proofs.Places.{seat_near, slot_seat}
-use Rattle.cuckoo.specs.Places.{seat_occupant}
+use Rattle.cuckoo.proofs.Places.{seat_near, seat_occupant, slot_seat}
 use Rattle.cuckoo.proofs.Filled.{occupant_injective, seated_stash_length}
 use Rattle.cuckoo.proofs.Kruskal.{stashed_cyclic}
 use Rattle.cuckoo.proofs.Cycles.{seated_cyclic}

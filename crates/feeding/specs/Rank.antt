@@ -10,12 +10,11 @@ use mathlib.Core.List.Memᴰ.{tail as there}
 use mathlib.Core.List.{List, ◌∷◌, Memᴰ as In}
 use Rattle.std.proofs.lemmas.Bool.{eqb-false}
 use Rattle.basics.specs.Tests.{test}
-use Rattle.basics.specs.Sets.{without, Sub, out_in, in_out, out_ne, out_sub, Asc}
+use Rattle.basics.specs.Sets.{without, Sub, Asc}
 use Rattle.ordered.specs.Keys.{with_key}
 use Rattle.cuckoo.specs.Graph.{cyclic, seated, stash, occupant}
-use Rattle.cuckoo.specs.Joined.{Joined, past, along, back, jrefl, jsym, jtrans, edge, mono, split, joined?}
+use Rattle.cuckoo.specs.Joined.{Joined, past, along, back}
 use Rattle.cuckoo.specs.Settling.{OnCycle, Cyclic, Spare, Settled}
-use Rattle.cuckoo.specs.Places.{seat_occupant}
 
 module _ (a b : ℕ → ℕ) where
   -- both slots of c lie in components of R with a cycle

@@ -8,24 +8,24 @@ use mathlib.Core.List.Memᴰ.{tail as there}
 use mathlib.Core.List.{List, ◌∷◌, Memᴰ as In}
 use Rattle.std.proofs.Math.ListN.{length, get_or, set, length-set}
 use Rattle.std.proofs.lemmas.List.{set-get_or}
-use Rattle.basics.specs.Tests.{eq?, le?}
-use Rattle.basics.specs.Sets.{without, Sub, out_in, in_out, out_ne, around, out_shorter, Asc, below}
-use Rattle.basics.proofs.Sets.{below_in, below_lt}
+use Rattle.basics.proofs.Tests.{eq?, le?}
+use Rattle.basics.specs.Sets.{without, Sub, Asc, below}
+use Rattle.basics.proofs.Sets.{out_in, in_out, out_ne, around, out_shorter, below_in, below_lt}
 use Rattle.cuckoo.specs.Graph.{root, occupant}
-use Rattle.cuckoo.specs.Joined.{Joined, past, along, back, split_out, jrefl, jsym, jtrans, edge, edge_head, mono, within, confine, more}
+use Rattle.cuckoo.specs.Joined.{Joined, past, along, back}
+use Rattle.cuckoo.proofs.Joined.{split_out, jrefl, jsym, jtrans, edge, edge_head, mono, within, confine, more}
 use Rattle.cuckoo.specs.Settling.{OnCycle}
 use Rattle.cuckoo.specs.Seating.{Ends, from_a}
-use Rattle.cuckoo.specs.Places.{hung, hung_sub, hung_root}
-use Rattle.cuckoo.proofs.Places.{hung_in}
+use Rattle.cuckoo.specs.Places.{hung}
+use Rattle.cuckoo.proofs.Places.{hung_in, hung_sub, hung_root}
 use Rattle.cuckoo.proofs.Bullets.{root_smallest, root_smallest_on_cycle}
-use Rattle.forest.specs.Oriented.{off_set, emptied, Forest, Oriented, sides, forest_sub, move, leads, tree_below}
-use Rattle.forest.proofs.Oriented.{forest_more, join, tree_beyond}
+use Rattle.forest.proofs.Oriented.{off_set, emptied, sides, forest_sub, forest_more, move, join, leads, tree_beyond, tree_below}
+use Rattle.forest.specs.Oriented.{Forest, Oriented}
 use Rattle.forest.specs.Reroot.{reroot}
 use Rattle.forest.proofs.RerootLaws.{length_reroot, reroots}
 use Rattle.forest.specs.Way.{lowest_slot, SmallestOnWay}
 use Rattle.forest.proofs.Way.{finds_lowest}
-use Rattle.forest.proofs.Seats.{hung_tree}
-use Rattle.forest.specs.Seats.{seats}
+use Rattle.forest.proofs.Seats.{hung_tree, seats}
 use Rattle.forest.specs.Finish.{finish_tree, exchange, finish_cycle, Finished, Spanned, TreeComponent, CycleComponent}
 
 module _ (a b : ℕ → ℕ) (other : ℕ → ℕ → ℕ) (n : ℕ) where

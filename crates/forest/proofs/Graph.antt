@@ -7,7 +7,7 @@ use mathlib.Core.List.{List, [], ◌∷◌, ◌++◌}
 use native.Mathlib.Omega.{arith}
 use Rattle.std.proofs.Math.ListN.{get_or}
 use Rattle.std.proofs.Math.Seq.{set_out, take-set-lt, length_front}
-use Rattle.basics.specs.Tests.{eq?, le?}
+use Rattle.basics.proofs.Tests.{eq?, le?}
 use Rattle.edges.specs.Edge.{no_edge, no_edge_first}
 use Rattle.forest.specs.Edges.{Edges, edge_at, end_0, end_1, other_end}
 use Rattle.forest.proofs.Edges.{edge_read}

@@ -5,17 +5,19 @@ use Rattle.std.proofs.Math.Path.{refl}
 use mathlib.Core.List.Memᴰ.{head as here}
 use mathlib.Core.List.Memᴰ.{tail as there}
 use mathlib.Core.List.{List, [], ◌∷◌, Memᴰ as In}
-use Rattle.basics.specs.Tests.{eq?}
+use Rattle.basics.proofs.Tests.{eq?}
 use Rattle.basics.proofs.Lists.{get_or_zeros}
-use Rattle.basics.specs.Sets.{without, Sub, in_out, out_shorter, Asc, none, some}
-use Rattle.basics.proofs.Sets.{asc_keep, below_in, below_lt, in_below}
+use Rattle.basics.specs.Sets.{without, Sub, Asc, none, some}
+use Rattle.basics.proofs.Sets.{in_out, out_shorter, asc_keep, below_in, below_lt, in_below}
 use Rattle.cuckoo.specs.Graph.{joined}
-use Rattle.cuckoo.specs.Joined.{Joined, jrefl, jsym, jtrans, mono, within, more, joined?, true_joined, false_joined}
-use Rattle.cuckoo.specs.Seating.{Ends, ends_flip, ends_edge, ends_cycle}
+use Rattle.cuckoo.specs.Joined.{Joined}
+use Rattle.cuckoo.proofs.Joined.{jrefl, jsym, jtrans, mono, within, more, joined?, true_joined, false_joined}
+use Rattle.cuckoo.specs.Seating.{Ends}
+use Rattle.cuckoo.proofs.Seating.{ends_flip, ends_edge, ends_cycle}
 use Rattle.cuckoo.specs.Forest.{forest}
 use Rattle.cuckoo.proofs.Forest.{forest_in, forest_no, in_forest, spans_key}
-use Rattle.forest.specs.Oriented.{off_set, emptied, Forest, Oriented, OrientedForest, end_near, recast, move}
-use Rattle.forest.proofs.Oriented.{forest_more, join}
+use Rattle.forest.proofs.Oriented.{off_set, emptied, end_near, forest_more, recast, move, join}
+use Rattle.forest.specs.Oriented.{Forest, Oriented, OrientedForest}
 use Rattle.forest.specs.Reroot.{reroot, Rerooted}
 use Rattle.forest.proofs.RerootLaws.{reroots, ends_fit}
 use Rattle.forest.specs.Link.{Once, grow, no_key, one_more}

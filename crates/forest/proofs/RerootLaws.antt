@@ -2,12 +2,14 @@
 use Rattle.std.specs.Prelude.{ℕ, zero, suc, ◌<◌, ◌≡◌, cond, List, eqb, length, get_or, set}
 use Rattle.std.proofs.Math.Path.{refl}
 use Rattle.std.proofs.Common.{sym, ◌∙◌, inl, inr, arith, not-suc-le-zero, length-set, eq-eqb, ne_eqb}
-use Rattle.basics.specs.Tests.{eq?}
-use Rattle.basics.specs.Sets.{without, out_in, around, out_shorter}
-use Rattle.cuckoo.specs.Joined.{Joined, jrefl, jsym, jtrans, mono}
+use Rattle.basics.proofs.Tests.{eq?}
+use Rattle.basics.specs.Sets.{without}
+use Rattle.basics.proofs.Sets.{out_in, around, out_shorter}
+use Rattle.cuckoo.specs.Joined.{Joined}
+use Rattle.cuckoo.proofs.Joined.{jrefl, jsym, jtrans, mono}
 use Rattle.cuckoo.specs.Seating.{Ends, from_a, from_b}
-use Rattle.forest.specs.Oriented.{at_set, off_set, emptied, Forest, Oriented, LeadsTo, forest_sub, recast, leads, tree_below}
-use Rattle.forest.proofs.Oriented.{join, tree_beyond}
+use Rattle.forest.proofs.Oriented.{at_set, off_set, emptied, forest_sub, recast, join, leads, tree_beyond, tree_below}
+use Rattle.forest.specs.Oriented.{Forest, Oriented, LeadsTo}
 use Rattle.forest.specs.Reroot.{reroot, Rerooted}
 
 -- `other v c` is the other slot of the key c that stands in slot v

@@ -6,7 +6,6 @@ use Rattle.std.proofs.Common.{sym, lt-ltb, le-ltb}
 use Rattle.std.proofs.Math.Logic.{inl, inr}
 use native.Mathlib.Omega.{arith}
 use Rattle.std.proofs.Math.ListN.{get_or-eq_default}
-use Rattle.basics.specs.Tests.{le?}
 use Rattle.cuckoo.specs.Seating.{Ends, from_a, from_b}
 use Rattle.edges.specs.Edge.{first_of, second_of, Edge, no_edge, no_edge_between}
 

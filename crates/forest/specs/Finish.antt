@@ -15,17 +15,15 @@ use mathlib.Core.List.Memᴰ.{tail as there}
 use mathlib.Core.List.{List, ◌∷◌, Memᴰ as In}
 use Rattle.std.proofs.Math.ListN.{length, get_or, set, length-set}
 use Rattle.std.proofs.lemmas.List.{set-get_or}
-use Rattle.basics.specs.Tests.{eq?, le?}
-use Rattle.basics.specs.Sets.{without, Sub, out_in, in_out, out_ne, around, out_shorter, Asc, below}
+use Rattle.basics.specs.Sets.{without, Sub, Asc, below}
 use Rattle.cuckoo.specs.Graph.{root, occupant}
-use Rattle.cuckoo.specs.Joined.{Joined, past, along, back, split_out, jrefl, jsym, jtrans, edge, edge_head, mono, within, confine, more}
+use Rattle.cuckoo.specs.Joined.{Joined, past, along, back}
 use Rattle.cuckoo.specs.Settling.{OnCycle}
 use Rattle.cuckoo.specs.Seating.{Ends, from_a}
-use Rattle.cuckoo.specs.Places.{hung, hung_sub, hung_root}
-use Rattle.forest.specs.Oriented.{off_set, emptied, Forest, Oriented, sides, forest_sub, move, leads, tree_below}
+use Rattle.cuckoo.specs.Places.{hung}
+use Rattle.forest.specs.Oriented.{Forest, Oriented}
 use Rattle.forest.specs.Reroot.{reroot}
 use Rattle.forest.specs.Way.{lowest_slot, SmallestOnWay}
-use Rattle.forest.specs.Seats.{seats}
 
 module _ (a b : ℕ → ℕ) (other : ℕ → ℕ → ℕ) (n : ℕ) where
   -- without a cycle, z being the smallest key

@@ -3,7 +3,6 @@ pub mod Oriented
 pub mod Reroot
 pub mod Way
 pub mod Link
-pub mod Seats
 pub mod Finish
 pub mod Edges
 pub mod Graph

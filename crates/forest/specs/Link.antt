@@ -7,13 +7,12 @@ use Rattle.std.proofs.Math.Path.{refl}
 use mathlib.Core.List.Memᴰ.{head as here}
 use mathlib.Core.List.Memᴰ.{tail as there}
 use mathlib.Core.List.{List, [], ◌∷◌, Memᴰ as In}
-use Rattle.basics.specs.Tests.{eq?}
-use Rattle.basics.specs.Sets.{without, Sub, in_out, out_shorter, Asc, none, some}
+use Rattle.basics.specs.Sets.{without, Sub, Asc, none, some}
 use Rattle.cuckoo.specs.Graph.{joined}
-use Rattle.cuckoo.specs.Joined.{Joined, jrefl, jsym, jtrans, mono, within, more, joined?, true_joined, false_joined}
-use Rattle.cuckoo.specs.Seating.{Ends, ends_flip, ends_edge, ends_cycle}
+use Rattle.cuckoo.specs.Joined.{Joined}
+use Rattle.cuckoo.specs.Seating.{Ends}
 use Rattle.cuckoo.specs.Forest.{forest}
-use Rattle.forest.specs.Oriented.{off_set, emptied, Forest, Oriented, OrientedForest, end_near, recast, move}
+use Rattle.forest.specs.Oriented.{Forest, Oriented, OrientedForest}
 use Rattle.forest.specs.Reroot.{reroot, Rerooted}
 
 -- a list that has no key twice

@@ -4,11 +4,10 @@
 use Rattle.std.specs.Prelude.{ℕ, zero, suc, ◌<◌, ◌≡◌, cond, List, eqb, length, get_or, set}
 use Rattle.std.proofs.Math.Path.{refl}
 use Rattle.std.proofs.Common.{sym, ◌∙◌, inl, inr, arith, not-suc-le-zero, length-set, eq-eqb, ne_eqb}
-use Rattle.basics.specs.Tests.{eq?}
-use Rattle.basics.specs.Sets.{without, out_in, around, out_shorter}
-use Rattle.cuckoo.specs.Joined.{Joined, jrefl, jsym, jtrans, mono}
+use Rattle.basics.specs.Sets.{without}
+use Rattle.cuckoo.specs.Joined.{Joined}
 use Rattle.cuckoo.specs.Seating.{Ends, from_a, from_b}
-use Rattle.forest.specs.Oriented.{at_set, off_set, emptied, Forest, Oriented, LeadsTo, forest_sub, recast, leads, tree_below}
+use Rattle.forest.specs.Oriented.{Forest, Oriented, LeadsTo}
 
 -- `other v c` is the other slot of the key c that stands in slot v
 module _ (other : ℕ → ℕ → ℕ) where

@@ -5,11 +5,10 @@ use Rattle.std.specs.Prelude.{◌≡◌, cond, ◌⊎◌, eqb, ltb, length, get_
 use Rattle.std.proofs.Math.Path.{refl}
 use Rattle.std.proofs.Common.{sym, ◌∙◌, inl, inr, arith, le_of_eq, eq-eqb, ne_eqb, lt-ltb, le-ltb}
 use mathlib.Core.List.{List, Memᴰ as In}
-use Rattle.basics.specs.Tests.{eq?, le?}
-use Rattle.basics.specs.Sets.{without, Sub, outs, out_in, in_out, out_shorter}
-use Rattle.cuckoo.specs.Joined.{Joined, jrefl, jtrans, mono}
-use Rattle.cuckoo.specs.Seating.{Ends, past_it, by_v, by_w, over, ends_edge}
-use Rattle.forest.specs.Oriented.{Forest, Oriented, LeadsTo, forest_sub, leads, one_root, not_below}
+use Rattle.basics.specs.Sets.{without, Sub}
+use Rattle.cuckoo.specs.Joined.{Joined}
+use Rattle.cuckoo.specs.Seating.{Ends, past_it, by_v, by_w}
+use Rattle.forest.specs.Oriented.{Forest, Oriented, LeadsTo}
 
 module _ (other : ℕ → ℕ → ℕ) where
   -- at most n steps from v towards the root: the slot of the smallest key on the way, s being that of the smallest before

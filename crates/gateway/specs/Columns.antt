@@ -7,7 +7,7 @@ use Rattle.std.proofs.Math.Logic.{inl, inr}
 use mathlib.Core.List.Memᴰ
 use mathlib.Core.List.{List, map, map-append, Memᴰ as In}
 use Rattle.std.proofs.lemmas.List.{length-map}
-use Rattle.basics.specs.Tests.{eq?}
+use Rattle.basics.proofs.Tests.{eq?}
 use Rattle.basics.proofs.Lists.{get_or_in, at_map, map_zeros}
 use Rattle.cuckoo.specs.Graph.{seated, slot_key, slot_next}
 use Rattle.cuckoo.proofs.Settling.{seated_sub, seated_asc}

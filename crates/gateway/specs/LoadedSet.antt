@@ -12,7 +12,8 @@ use Rattle.layout.proofs.Entries.{keys_tiered, tier_tiered}
 use Rattle.layout.specs.Layout.{Params, OneIssue, header_of, params_of, key_count}
 use Rattle.layout.specs.Layout.{image, image_by, keys_in, tier_in, set_in}
 use Rattle.layout.proofs.Canonical.{canonical_true}
-use Rattle.layout.specs.Shape.{Shaped, shape}
+use Rattle.layout.specs.Shape.{Shaped}
+use Rattle.layout.proofs.Shape.{shape}
 use Rattle.layout.proofs.Standing.{keys_in_valid}
 use Rattle.collect.specs.Collect.{keys_in_few}
 use Rattle.build.specs.Scratch.{used}

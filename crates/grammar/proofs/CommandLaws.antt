@@ -3,8 +3,7 @@ use Rattle.std.specs.Prelude.{ℕ, suc, ◌≤◌, ◌<◌, ◌≡◌, refl, tru
 use Rattle.std.proofs.Common.{sym, ◌∙◌, ap, inl, inr, arith, eq-eqb, ne_eqb, length-append}
 use Rattle.std.proofs.lemmas.Bool.{false≢true}
 use Rattle.std.proofs.Math.Seq.{split_at}
-use Rattle.basics.specs.Tests.{eq?, le?, and_true}
-use Rattle.basics.proofs.Tests.{and_false}
+use Rattle.basics.proofs.Tests.{eq?, le?, and_true, and_false}
 use Rattle.grammar.specs.Decimal.{decimal}
 use Rattle.grammar.proofs.Decimal.{digits_32}
 use Rattle.grammar.specs.Number.{number_of, is_digit, all_digits, largest}

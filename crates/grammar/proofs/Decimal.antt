@@ -1,7 +1,7 @@
 -- The laws of what specs/Decimal.antt defines.
 use Rattle.std.specs.Prelude.{ℕ, zero, suc, ◌+◌, ◌*◌, ◌/◌, ◌%◌, ◌^◌, ◌≤◌, ◌<◌, ◌≡◌, refl, cond, List, [], ◌∷◌, ◌++◌, ltb, length}
 use Rattle.std.proofs.Common.{sym, ◌∙◌, ap, inl, inr, pow-suc, arith, lt-ltb, le-ltb, length-append}
-use Rattle.basics.specs.Tests.{le?}
+use Rattle.basics.proofs.Tests.{le?}
 use Rattle.grammar.specs.Decimal.{digit, digits, decimal}
 
 digits_small : (k n : ℕ) → n < 10 → digits k n ≡ digit n ∷ []

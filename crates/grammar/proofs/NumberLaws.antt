@@ -8,8 +8,8 @@ use Rattle.std.proofs.Math.Logic.{inl, inr}
 use Rattle.std.proofs.Math.Dec.{leb}
 use Rattle.std.proofs.Math.Seq.{append_snoc}
 use borrow.Author.Tests.{le-leb, lt-leb, leb-true, leb-false, ne_eqb, eqb-false, not-true}
-use Rattle.basics.specs.Tests.{test, and_true}
-use Rattle.basics.proofs.Tests.{and_false}
+use Rattle.basics.specs.Tests.{test}
+use Rattle.basics.proofs.Tests.{and_true, and_false}
 use Rattle.grammar.specs.Decimal.{digit, decimal}
 use Rattle.grammar.proofs.Decimal.{decimal_small, decimal_large, decimal_more, by_digits}
 use Rattle.grammar.specs.declared.Number.{Number}

@@ -8,7 +8,7 @@ use native.Mathlib.Omega.{arith}
 use Rattle.std.proofs.Math.Seq.{take-append_seam, drop-cons, append_snoc}
 use Rattle.std.proofs.Math.Logic.{inl, inr}
 use borrow.Author.Tests.{eq-eqb, ne_eqb}
-use Rattle.basics.specs.Tests.{eq?}
+use Rattle.basics.proofs.Tests.{eq?}
 use Rattle.grammar.specs.Parted.{newline, parted, but_empty_last, lines_of, place_of, Lacks, read_on}
 
 drop_behind : (b : ℕ) (p t : List ℕ) → drop (suc (length p)) (p ++ (b ∷ t)) ≡ t

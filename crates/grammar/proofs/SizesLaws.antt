@@ -2,7 +2,7 @@
 use Rattle.std.specs.Prelude.{ℕ, suc, ◌≤◌, ◌<◌, ◌≡◌, refl, List, [], ◌∷◌, ◌++◌, length, take, drop}
 use Rattle.std.proofs.Common.{◌∙◌, ap, inl, inr, arith, length-append}
 use Rattle.std.proofs.Math.Seq.{split_at}
-use Rattle.basics.specs.Tests.{le?}
+use Rattle.basics.proofs.Tests.{le?}
 use Rattle.grammar.specs.Decimal.{decimal}
 use Rattle.grammar.proofs.Decimal.{digits_32}
 use Rattle.grammar.specs.Number.{number_of, largest}

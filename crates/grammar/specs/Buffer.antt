@@ -2,7 +2,6 @@
 -- Assumes nothing.
 use Rattle.std.specs.Prelude.{ℕ, suc, ◌+◌, ◌≤◌, ◌<◌, min, ◌≡◌, List, [], ◌∷◌, ◌++◌, length, take, set, eqb}
 use Rattle.std.proofs.Common.{sym, ◌∙◌, ap, add-one, arith, length-append, take-suc-set, inl, inr, eq-eqb, ne_eqb}
-use Rattle.basics.specs.Tests.{eq?}
 use Rattle.grammar.specs.Command.{longest}
 use Rattle.grammar.specs.declared.Line.{Line}
 

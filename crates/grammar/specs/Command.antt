@@ -5,7 +5,6 @@ use Rattle.std.specs.Prelude.{ℕ, suc, ◌≤◌, ◌<◌, ◌≡◌, refl, tru
 use Rattle.std.proofs.Common.{sym, ◌∙◌, ap, inl, inr, arith, eq-eqb, ne_eqb, length-append}
 use Rattle.std.proofs.lemmas.Bool.{false≢true}
 use Rattle.std.proofs.Math.Seq.{split_at}
-use Rattle.basics.specs.Tests.{eq?, le?, and_true}
 use Rattle.grammar.specs.Decimal.{decimal}
 use Rattle.grammar.specs.Number.{number_of, is_digit, all_digits, largest}
 use Rattle.grammar.specs.Parted.{comma, fields, parted, place_of}

@@ -9,7 +9,7 @@ use Rattle.std.proofs.Math.Logic.{inl, inr}
 use Rattle.std.proofs.Math.Dec.{leb}
 use Rattle.std.proofs.Math.Seq.{append_snoc}
 use borrow.Author.Tests.{le-leb, lt-leb, leb-true, leb-false, ne_eqb, eqb-false, not-true}
-use Rattle.basics.specs.Tests.{test, and_true}
+use Rattle.basics.specs.Tests.{test}
 use Rattle.grammar.specs.Decimal.{digit, decimal}
 use Rattle.grammar.specs.declared.Number.{Number}
 use Rattle.grammar.specs.declared.Number.TheVariants.{Value, Other}

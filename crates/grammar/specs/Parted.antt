@@ -9,7 +9,6 @@ use native.Mathlib.Omega.{arith}
 use Rattle.std.proofs.Math.Seq.{take-append_seam, drop-cons, append_snoc}
 use Rattle.std.proofs.Math.Logic.{inl, inr}
 use borrow.Author.Tests.{eq-eqb, ne_eqb}
-use Rattle.basics.specs.Tests.{eq?}
 
 -- ASCII: 10 ends a line, 44 is ','
 abbrev pub newline : ℕ

@@ -3,7 +3,6 @@
 use Rattle.std.specs.Prelude.{ℕ, suc, ◌≤◌, ◌<◌, ◌≡◌, refl, List, [], ◌∷◌, ◌++◌, length, take, drop}
 use Rattle.std.proofs.Common.{◌∙◌, ap, inl, inr, arith, length-append}
 use Rattle.std.proofs.Math.Seq.{split_at}
-use Rattle.basics.specs.Tests.{le?}
 use Rattle.grammar.specs.Decimal.{decimal}
 use Rattle.grammar.specs.Number.{number_of, largest}
 use Rattle.grammar.specs.Parted.{comma, fields, place_of}

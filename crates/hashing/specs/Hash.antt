@@ -3,7 +3,6 @@
 -- compute with it.
 use Rattle.std.specs.Prelude.{ℕ, zero, suc, ◌+◌, ◌*◌, ◌/◌, ◌%◌, ◌<◌, ◌≤◌, ◌≡◌, Bool, true, ◌&&◌, List, leb, ltb, length, get_or}
 use Rattle.std.proofs.Common.{mod-lt, leb-true, le-leb}
-use Rattle.basics.specs.Tests.{and_true}
 
 -- the tabulation (document 01's 'spread book') is "2,560 numbers, 1,280 for each rack in five stretches of 256"
 abbrev pub tabulation_length : ℕ
@@ -64,20 +63,6 @@ hash F table key =
     let e = entry F.tabulation table in
     let b : ℕ → ℕ = λ i. byte i (first_part key) in
     (e 0 (b 0) + e 1 (b 1) + e 2 (b 2) + e 3 (b 3) + e 4 (turned F.station (b 0))) % F.slots
-
--- The laws that callers use.
-
-pub in_range_pos : (r : ℕ) → slots_in_range r ≡ true → 0 < r
-unfolding slots_in_range
-in_range_pos r e = leb-true 1 r (and_true (leb 1 r) (leb r max_slots) e).0
-
-pub in_range_max : (r : ℕ) → slots_in_range r ≡ true → r ≤ max_slots
-unfolding slots_in_range
-in_range_max r e = leb-true r max_slots (and_true (leb 1 r) (leb r max_slots) e).1
-
-pub station_max : (station : ℕ) → station_in_range station ≡ true → station ≤ max_station
-unfolding station_in_range
-station_max station e = leb-true station max_station e
 
 -- what hashing needs: a tabulation of its length, r and the station number in their ranges
 pub record Hashing (tabulation : List ℕ) (r station : ℕ) : Type 0 where

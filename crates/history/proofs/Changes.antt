@@ -9,9 +9,10 @@ use mathlib.Core.List.Memᴰ.{tail as there}
 use mathlib.Core.List.{List, [], ◌∷◌, Memᴰ as In}
 use borrow.Author.Tests.{eq-eqb, ne_eqb, lt-ltb, le-ltb}
 use Rattle.std.proofs.Math.Dec.{ltb}
-use Rattle.basics.specs.Tests.{test, eq?, le?}
-use Rattle.basics.specs.Sets.{Asc, some, keep, without, below, in_member, out_ne}
-use Rattle.basics.proofs.Sets.{asc_out}
+use Rattle.basics.specs.Tests.{test}
+use Rattle.basics.proofs.Tests.{eq?, le?}
+use Rattle.basics.specs.Sets.{Asc, some, keep, without, below}
+use Rattle.basics.proofs.Sets.{in_member, asc_out, out_ne}
 use Rattle.basics.proofs.Lists.{keep_all, keep_none}
 use Rattle.ordered.specs.Keys.{with_key, above}
 use Rattle.ordered.proofs.Place.{asc_with}

@@ -2,8 +2,8 @@
 use Rattle.std.specs.Prelude.{◌≡◌, refl, Bool, true, false, not, cond, ◌&&◌, ◌||◌, List, [], ◌∷◌, ℕ, zero, suc, ◌+◌, ◌*◌, ◌%◌, ◌<◌, ltb, eqb, length, get_or}
 use Rattle.std.proofs.Common.{sym, ap, ◌∙◌, true≢false, le_of_suc-le-suc, not-suc-le-zero, add-zero, add-suc, suc-add, zero-add, arith, eqb-true, eq-eqb}
 use Rattle.std.proofs.lemmas.Bool.{false≢true, not-true}
-use Rattle.basics.specs.Tests.{and_true}
-use Rattle.house.specs.Rule.{house_entry, rule_entries, house_table, House, Tree, has, grown, test_from, house_test, entry, long, leaf, node}
+use Rattle.basics.proofs.Tests.{and_true}
+use Rattle.house.specs.Rule.{house_entry, rule_entries, house_table, House, Tree, has, grown, test_from, house_test, leaf, node}
 
 or_true : (p q : Bool) → q ≡ true → (p || q) ≡ true
 or_true true q e = refl
@@ -35,6 +35,19 @@ has_put_other x z (node l y r) h = go (ltb x y) (eqb z y) (ltb z y) refl refl (h
     go false false true ec ed hl hr h = rw (ec, ed) h
     go false false false ec ed hl hr h = rw (ec, ed) (hr h)
 
+-- what one entry's part of the test says
+record EntryTested (n i x : ℕ) (seen : Tree) (xs : List ℕ) : Type 0 where
+  ruled : x ≡ house_entry i
+  fresh : has x seen ≡ false
+  rest : test_from n (suc i) (grown x seen) xs ≡ true
+
+entry : (n i x : ℕ) (seen : Tree) (xs : List ℕ) → test_from (suc n) i seen (x ∷ xs) ≡ true → EntryTested n i x seen xs
+unfolding test_from
+entry n i x seen xs e =
+    let p = and_true _ _ e in
+    let q = and_true _ _ p.0 in
+    record { ruled = eqb-true x (house_entry i) q.0; fresh = not-true (has x seen) q.1; rest = p.1 }
+
 -- the rule at each place
 ruled_at : (n i : ℕ) (seen : Tree) (xs : List ℕ) → test_from n i seen xs ≡ true → (k : ℕ) → k < length xs → get_or xs k 0 ≡ house_entry (i + k)
 unfolding test_from
@@ -65,6 +78,12 @@ differ_from (suc n) i seen (x ∷ xs) e zero (suc k) h l q =
     apart n (suc i) (grown x seen) xs (entry n i x seen xs e).rest x (has_put_same x seen) k (le_of_suc-le-suc l) (sym q)
 differ_from (suc n) i seen (x ∷ xs) e (suc j) (suc k) h l q =
     differ_from n (suc i) (grown x seen) xs (entry n i x seen xs e).rest j k (le_of_suc-le-suc h) (le_of_suc-le-suc l) q
+
+long : (n i : ℕ) (seen : Tree) (xs : List ℕ) → test_from n i seen xs ≡ true → length xs ≡ n
+unfolding test_from
+long n i seen [] e = sym (eqb-true n 0 e)
+long zero i seen (x ∷ xs) e = absurd (false≢true e)
+long (suc n) i seen (x ∷ xs) e = ap suc (long n (suc i) (grown x seen) xs (entry n i x seen xs e).rest)
 
 -- the test means just that
 pub house : (t : List ℕ) → house_test t ≡ true → House t

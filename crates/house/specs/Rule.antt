@@ -4,7 +4,6 @@
 use Rattle.std.specs.Prelude.{◌≡◌, refl, Bool, true, false, not, cond, ◌&&◌, ◌||◌, List, [], ◌∷◌, ℕ, zero, suc, ◌+◌, ◌*◌, ◌%◌, ◌<◌, ltb, eqb, length, get_or}
 use Rattle.std.proofs.Common.{sym, ap, ◌∙◌, true≢false, le_of_suc-le-suc, not-suc-le-zero, add-zero, add-suc, suc-add, zero-add, arith, eqb-true, eq-eqb}
 use Rattle.std.proofs.lemmas.Bool.{false≢true, not-true}
-use Rattle.basics.specs.Tests.{and_true}
 
 -- "Entry i is (25,173 × i × i + 13,849) modulo 65,521"
 abbrev pub house_entry : ℕ → ℕ
@@ -49,22 +48,3 @@ test_from (suc n) i seen (x ∷ xs) = eqb x (house_entry i) && not (has x seen) 
 -- the whole test of a table of 2,560 entries
 unfoldable pub house_test : List ℕ → Bool
 house_test t = test_from 2560 0 leaf t
-
--- what one entry's part of the test says
-record EntryTested (n i x : ℕ) (seen : Tree) (xs : List ℕ) : Type 0 where
-  ruled : x ≡ house_entry i
-  fresh : has x seen ≡ false
-  rest : test_from n (suc i) (grown x seen) xs ≡ true
-
-pub entry : (n i x : ℕ) (seen : Tree) (xs : List ℕ) → test_from (suc n) i seen (x ∷ xs) ≡ true → EntryTested n i x seen xs
-unfolding test_from
-entry n i x seen xs e =
-    let p = and_true _ _ e in
-    let q = and_true _ _ p.0 in
-    record { ruled = eqb-true x (house_entry i) q.0; fresh = not-true (has x seen) q.1; rest = p.1 }
-
-pub long : (n i : ℕ) (seen : Tree) (xs : List ℕ) → test_from n i seen xs ≡ true → length xs ≡ n
-unfolding test_from
-long n i seen [] e = sym (eqb-true n 0 e)
-long zero i seen (x ∷ xs) e = absurd (false≢true e)
-long (suc n) i seen (x ∷ xs) e = ap suc (long n (suc i) (grown x seen) xs (entry n i x seen xs e).rest)

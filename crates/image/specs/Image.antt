@@ -2,7 +2,7 @@
 -- are fixed; comparing decides whether they have, and writing puts them there. Assumes nothing.
 use Rattle.std.specs.Prelude.{ℕ, suc, ◌+◌, ◌*◌, ◌<◌, ◌≡◌, Bool, true, ◌&&◌, List, ◌++◌, eqb, length, get_or, drop}
 use Rattle.std.proofs.Common.{sym, ◌∙◌, ap, arith, eqb-true, eq-eqb, length-drop, ext_get_or}
-use Rattle.basics.specs.Tests.{and_true}
+use Rattle.basics.proofs.Tests.{and_true}
 use Rattle.basics.proofs.Tests.{bool_ext}
 use Rattle.basics.specs.Lists.{same}
 use Rattle.basics.proofs.Lists.{same_true, true_same}

@@ -5,8 +5,7 @@ use mathlib.Core.List.Memᴰ.{head as here}
 use mathlib.Core.List.Memᴰ.{tail as there}
 use mathlib.Core.List.{List, [], ◌∷◌, Memᴰ as In}
 use Rattle.std.proofs.lemmas.Bool.{not-true, lt-leb}
-use Rattle.basics.specs.Tests.{le?, and_true}
-use Rattle.basics.proofs.Tests.{T_true}
+use Rattle.basics.proofs.Tests.{le?, and_true, T_true}
 use Rattle.basics.specs.Sets.{without}
 use Rattle.basics.specs.Lists.{same, rises}
 use Rattle.basics.proofs.Lists.{same_true, rises_asc}

@@ -5,7 +5,8 @@ use Rattle.std.proofs.Math.Bool.{false, not}
 use Rattle.std.proofs.Math.Logic.{inl, inr}
 use mathlib.Core.List.{List, Memᴰ as In}
 use borrow.Author.Tests.{ltb-true, ltb-false, not-true}
-use Rattle.basics.specs.Tests.{test, and_true}
+use Rattle.basics.specs.Tests.{test}
+use Rattle.basics.proofs.Tests.{and_true}
 use Rattle.basics.specs.Sets.{any}
 use Rattle.basics.proofs.Sets.{any_true, true_any}
 use Rattle.basics.specs.Lists.{same}
@@ -15,7 +16,7 @@ use Rattle.layout.proofs.Entries.{keys_tiered, key_in, tiered_in, in_tiered}
 use Rattle.hashing.specs.Hash.{first_part, blank}
 use Rattle.hashing.proofs.Issues.{not_blank_iff}
 use Rattle.layout.specs.Layout.{Params, ValidKeys, ValidSet, OneIssue, one_issue, key_at, slots_of, params_of, params_in_range, shaped, fits, image, keys_in, tier_in, set_in}
-use Rattle.layout.specs.Shape.{shape}
+use Rattle.layout.proofs.Shape.{shape}
 use Rattle.layout.proofs.Image.{image_shaped, image_params}
 use Rattle.layout.proofs.Issues.{one_issue_iff}
 use Rattle.layout.specs.Standing.{KeyWord}

@@ -6,8 +6,8 @@ use mathlib.Core.List.Memᴰ.{head as here}
 use mathlib.Core.List.Memᴰ.{tail as there}
 use mathlib.Core.List.{List, [], ◌∷◌, Memᴰ as In}
 use Rattle.basics.specs.Tests.{test}
-use Rattle.basics.specs.Sets.{without, Sub, Asc, some, out_in}
-use Rattle.basics.proofs.Sets.{asc_out}
+use Rattle.basics.specs.Sets.{without, Sub, Asc, some}
+use Rattle.basics.proofs.Sets.{out_in, asc_out}
 use Rattle.refusals.specs.Refusal.{done, stash_full}
 use Rattle.cuckoo.specs.Seating.{from_a}
 use Rattle.cuckoo.specs.Cycles.{Cycle, keys}

@@ -9,7 +9,8 @@ use native.Mathlib.Omega.{arith}
 use Rattle.std.proofs.Math.Dec.{eqb}
 use Rattle.std.proofs.lemmas.List.{replicate-append-replicate}
 use Rattle.cuckoo.specs.Graph.{settle, seated, stash, occupant, slot_key, slot_next}
-use Rattle.basics.specs.Tests.{test, and_true}
+use Rattle.basics.specs.Tests.{test}
+use Rattle.basics.proofs.Tests.{and_true}
 use Rattle.basics.specs.Sets.{none}
 use Rattle.basics.proofs.Lists.{drop_zeros}
 use Rattle.refusals.specs.Refusal.{done}

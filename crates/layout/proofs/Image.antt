@@ -8,14 +8,13 @@ use borrow.Author.Tests.{leb-true, le-leb}
 use Rattle.std.proofs.Math.ListN.{length-append, get_or-append}
 use Rattle.std.proofs.lemmas.List.{length-replicate}
 use Rattle.cuckoo.specs.Graph.{stash, slot_key, slot_next}
-use Rattle.basics.specs.Tests.{eq?, le?}
+use Rattle.basics.proofs.Tests.{eq?, le?}
 use Rattle.hashing.specs.Slots.{slot_0, slot_1}
 use Rattle.layout.specs.Entries.{Entry, keys_of, tier_of}
 use Rattle.layout.specs.Layout.{Params, family, header_words, header_length, slot_width, place_width, key_at, tier_at, stash_at, place_at, words_length, slots_of, places_of, fits_by, place_words, image_by, slot_words_by}
 use Rattle.layout.specs.Layout.{stash_count, station_of, params_of, params_in_range, shaped, stash_of, fits, slot_words, stash_words, image}
 use Rattle.layout.specs.declared.Header.{Header}
-use Rattle.layout.specs.Shape.{ranged}
-use Rattle.layout.proofs.Shape.{shape_true}
+use Rattle.layout.proofs.Shape.{ranged, shape_true}
 use Rattle.layout.specs.Image.{place_keys, S, Laid}
 
 -- the heading as the code writes it, word by word

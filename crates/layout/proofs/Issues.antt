@@ -6,8 +6,8 @@ use mathlib.Core.List.Memᴰ.{tail as there}
 use mathlib.Core.List.{List, [], ◌∷◌, Memᴰ as In}
 use borrow.Author.Tests.{eqb-true, eqb-false, eq-eqb, ne_eqb, not-true}
 use Rattle.std.proofs.Math.Seq.{drop-length}
-use Rattle.basics.specs.Tests.{test, eq?, le?, and_true}
-use Rattle.basics.proofs.Tests.{bool_ext}
+use Rattle.basics.specs.Tests.{test}
+use Rattle.basics.proofs.Tests.{eq?, le?, and_true, bool_ext}
 use Rattle.basics.specs.Sets.{any, Sub, Asc, some}
 use Rattle.basics.proofs.Sets.{any_true, true_any}
 use Rattle.basics.proofs.Lists.{get_or_in}

@@ -10,8 +10,8 @@ use borrow.Author.Tests.{eq-eqb, ne_eqb, le-ltb}
 use Rattle.std.proofs.Math.ListN.{length, take}
 use Rattle.basics.specs.Tests.{test}
 use Rattle.basics.proofs.Tests.{bool_ext, zero_one}
-use Rattle.basics.specs.Sets.{Asc, member, member_in, in_member}
-use Rattle.basics.proofs.Sets.{no_member}
+use Rattle.basics.specs.Sets.{Asc, member}
+use Rattle.basics.proofs.Sets.{member_in, in_member, no_member}
 use Rattle.refusals.specs.Refusal.{done, blank_key}
 use Rattle.hashing.specs.Hash.{Family, tabulation_length, blank}
 use Rattle.hashing.specs.Slots.{slot_0, slot_1}
@@ -19,7 +19,7 @@ use Rattle.layout.specs.Entries.{Entry, keys_of, tier_of, tiered}
 use Rattle.layout.proofs.Entries.{key_in, tiered_self, tiered_in, in_tiered}
 use Rattle.layout.specs.Layout.{Params, ValidSet, slots_of, places_of, key_at, tier_at, place_at, place_entries, params_in_range, family_of, stash_of, fits, image, place_width, place_words, stash_at, stash_count, looked_at, tier_in}
 use Rattle.layout.specs.Answers.{lookup_refusal, lookup_values, looked_up, view_refusal, view_of}
-use Rattle.layout.specs.Shape.{ranged}
+use Rattle.layout.proofs.Shape.{ranged}
 use Rattle.layout.proofs.Image.{fits_le, image_slots, image_places, image_stashed, image_stash, image_shaped, place_words_length}
 use Rattle.layout.proofs.Standing.{not_blank, looked_key_word, image_key_in, image_in_looked, tier_in_image}
 

@@ -7,9 +7,9 @@ use mathlib.Core.List.Memᴰ.{head as here}
 use mathlib.Core.List.Memᴰ.{tail as there}
 use mathlib.Core.List.{List, [], ◌∷◌, ◌++◌, map, map-append, map-map, map-id, Memᴰ as In}
 use Rattle.std.proofs.Math.ListN.{length-map}
-use Rattle.basics.specs.Tests.{eq?}
-use Rattle.basics.specs.Sets.{keep, first, without, keep_in, keep_test, in_keep, first_in, out_in, out_ne, in_out}
-use Rattle.basics.proofs.Sets.{asc_out, asc_ext}
+use Rattle.basics.proofs.Tests.{eq?}
+use Rattle.basics.specs.Sets.{keep, first, without}
+use Rattle.basics.proofs.Sets.{keep_in, keep_test, in_keep, first_in, out_in, out_ne, in_out, asc_out, asc_ext}
 use Rattle.basics.proofs.Lists.{keep_none, from_map, in_map, asc_map, map_same, map_zeros}
 use Rattle.ordered.specs.Keys.{with_key}
 use Rattle.ordered.proofs.Place.{with_cases, with_here, with_there, asc_with}

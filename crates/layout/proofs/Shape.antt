@@ -2,23 +2,44 @@
 use Rattle.std.specs.Prelude.{ℕ, ◌≤◌, ◌<◌, ◌≡◌, refl, true, not, ◌&&◌, List, [], leb, ltb, length}
 use Rattle.std.proofs.Common.{ap, ◌∙◌, arith, leb-true, eqb-true, le-leb, eq-eqb, ltb-false}
 use Rattle.std.proofs.lemmas.Bool.{not-false}
-use Rattle.basics.specs.Tests.{and_true}
+use Rattle.basics.proofs.Tests.{and_true}
 use Rattle.refusals.specs.Refusal.{none, and}
 use Rattle.refusals.proofs.Refusal.{front_none}
-use Rattle.hashing.specs.Hash.{Family, tables, slots_in_range, station_in_range, max_slots, max_station, in_range_pos, in_range_max, station_max}
-use Rattle.hashing.proofs.Hash.{range_in, station_in}
+use Rattle.hashing.specs.Hash.{Family, tables, slots_in_range, station_in_range, max_slots, max_station}
+use Rattle.hashing.proofs.Hash.{in_range_pos, in_range_max, range_in, station_max, station_in}
 use Rattle.layout.specs.Layout.{family_of, header_length, slots_of, places_of, stash_count, station_of, max_places, sizes_in_range, params_in_range, shaped, words_length}
 use Rattle.layout.specs.Answers.{view_refusals, view_refusal}
 use Rattle.layout.specs.declared.Header.{Header}
-use Rattle.layout.specs.Shape.{Sized, Shaped, shape, SameHeader, Viewed}
+use Rattle.layout.specs.Shape.{Sized, Shaped, SameHeader, Viewed}
+
+pub sized : (r s : ℕ) → sizes_in_range r s ≡ true → Sized r s
+unfolding sizes_in_range
+sized r s e =
+    let p = and_true (slots_in_range r) _ e in
+    record { has_slots = in_range_pos r p.0; slots_bound = in_range_max r p.0; places_bound = leb-true s max_places p.1 }
 
 pub sized_true : (r s : ℕ) → Sized r s → sizes_in_range r s ≡ true
 unfolding sizes_in_range
 sized_true r s z = rw (range_in r z.has_slots z.slots_bound) (le-leb s max_places z.places_bound)
 
+-- with the station number
+pub ranged : (r s station : ℕ) → params_in_range r s station ≡ true → Sized r s × (station ≤ max_station)
+unfolding params_in_range
+ranged r s station e =
+    let p = and_true (sizes_in_range r s) (station_in_range station) e in
+    (sized r s p.0, station_max station p.1)
+
 pub ranged_true : (r s station : ℕ) → Sized r s → station ≤ max_station → params_in_range r s station ≡ true
 unfolding params_in_range
 ranged_true r s station z l = rw (sized_true r s z) (station_in station l)
+
+pub shape : (ws : List ℕ) → shaped ws ≡ true → Shaped ws
+unfolding shaped
+shape ws e =
+    let p = and_true (leb header_length (length ws) && params_in_range (slots_of ws) (places_of ws) (station_of ws)) _ e in
+    let q = and_true (leb header_length (length ws)) _ p.0 in
+    let t = ranged _ _ _ q.1 in
+    record { sizes = t.0; station = t.1; size = eqb-true (length ws) _ p.1 }
 
 pub shape_true : (ws : List ℕ) → Shaped ws → shaped ws ≡ true
 unfolding shaped

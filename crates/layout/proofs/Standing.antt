@@ -10,9 +10,9 @@ use mathlib.Core.List.Memᴰ.{tail as there}
 use mathlib.Core.List.{List, [], ◌∷◌, ◌++◌, map, map-append, Memᴰ as In}
 use borrow.Author.Tests.{ne_eqb, not-true}
 use borrow.Rule.Slice.PartMut.{mid_of}
-use Rattle.basics.specs.Tests.{eq?}
-use Rattle.basics.specs.Sets.{keep, Asc, keep_in, keep_test, in_keep}
-use Rattle.basics.proofs.Sets.{asc_ext}
+use Rattle.basics.proofs.Tests.{eq?}
+use Rattle.basics.specs.Sets.{keep, Asc}
+use Rattle.basics.proofs.Sets.{asc_ext, keep_in, keep_test, in_keep}
 use Rattle.basics.proofs.Lists.{get_or_in}
 use Rattle.cuckoo.specs.Graph.{seated, stash, occupant, next, slot_key, slot_next}
 use Rattle.cuckoo.proofs.Settling.{seated_sub, seated_asc, seated_stops}

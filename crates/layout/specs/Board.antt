@@ -8,7 +8,6 @@ use mathlib.Core.List.Memᴰ.{head as here}
 use mathlib.Core.List.Memᴰ.{tail as there}
 use mathlib.Core.List.{List, [], ◌∷◌, Memᴰ as In}
 use Rattle.std.proofs.lemmas.Bool.{not-true, lt-leb}
-use Rattle.basics.specs.Tests.{le?, and_true}
 use Rattle.basics.specs.Sets.{without}
 use Rattle.basics.specs.Lists.{same, rises}
 use Rattle.cuckoo.specs.Graph.{label, joined, component, is_on_cycle, cyclic, spare, settle, seated, stash, root, sits, occupant, next, slot_key, slot_next}

@@ -7,13 +7,12 @@ use Rattle.std.proofs.Math.Bool.{false, not}
 use Rattle.std.proofs.Math.Logic.{inl, inr}
 use mathlib.Core.List.{List, Memᴰ as In}
 use borrow.Author.Tests.{ltb-true, ltb-false, not-true}
-use Rattle.basics.specs.Tests.{test, and_true}
+use Rattle.basics.specs.Tests.{test}
 use Rattle.basics.specs.Sets.{any}
 use Rattle.basics.specs.Lists.{same}
 use Rattle.layout.specs.Entries.{Entry, max_tier, keys_of}
 use Rattle.hashing.specs.Hash.{first_part, blank}
 use Rattle.layout.specs.Layout.{Params, ValidKeys, ValidSet, OneIssue, one_issue, key_at, slots_of, params_of, params_in_range, shaped, fits, image, keys_in, tier_in, set_in}
-use Rattle.layout.specs.Shape.{shape}
 use Rattle.layout.specs.Standing.{KeyWord}
 
 -- The words are a canonical image: the keys that stand in them are one issue of each first part, they fit, the tiers at which they are found are 0 to 7, and the

@@ -5,7 +5,6 @@ use Rattle.std.proofs.Common.{sym, ap, inl, inr, arith, eq-eqb, ne_eqb}
 use mathlib.Core.List.Memᴰ.{head as here}
 use mathlib.Core.List.Memᴰ.{tail as there}
 use mathlib.Core.List.{List, [], ◌∷◌, ◌++◌, Memᴰ as In}
-use Rattle.basics.specs.Tests.{eq?}
 use Rattle.basics.specs.Sets.{Asc, some}
 
 -- a key and its tier

@@ -7,7 +7,7 @@ use mathlib.Core.List.Memᴰ.{tail as there}
 use mathlib.Core.List.{List, [], ◌∷◌, Memᴰ as In}
 use borrow.Author.Tests.{eqb-true, eqb-false, eq-eqb, ne_eqb, not-true}
 use Rattle.std.proofs.Math.Seq.{drop-length}
-use Rattle.basics.specs.Tests.{test, eq?, le?, and_true}
+use Rattle.basics.specs.Tests.{test}
 use Rattle.basics.specs.Sets.{any, Sub, Asc, some}
 use Rattle.ordered.specs.Keys.{lower_bound, with_key}
 use Rattle.hashing.specs.Hash.{first_part, blank}

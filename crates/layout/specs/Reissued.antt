@@ -9,8 +9,7 @@ use mathlib.Core.List.Memᴰ.{head as here}
 use mathlib.Core.List.Memᴰ.{tail as there}
 use mathlib.Core.List.{List, [], ◌∷◌, ◌++◌, map, map-append, map-map, map-id, Memᴰ as In}
 use Rattle.std.proofs.Math.ListN.{length-map}
-use Rattle.basics.specs.Tests.{eq?}
-use Rattle.basics.specs.Sets.{keep, first, without, keep_in, keep_test, in_keep, first_in, out_in, out_ne, in_out}
+use Rattle.basics.specs.Sets.{keep, first, without}
 use Rattle.ordered.specs.Keys.{with_key}
 use Rattle.cuckoo.specs.Graph.{stash, slot_key, slot_next}
 use Rattle.cuckoo.specs.Renaming.{Renames}

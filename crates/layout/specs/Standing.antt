@@ -11,8 +11,7 @@ use mathlib.Core.List.Memᴰ.{tail as there}
 use mathlib.Core.List.{List, [], ◌∷◌, ◌++◌, map, map-append, Memᴰ as In}
 use borrow.Author.Tests.{ne_eqb, not-true}
 use borrow.Rule.Slice.PartMut.{mid_of}
-use Rattle.basics.specs.Tests.{eq?}
-use Rattle.basics.specs.Sets.{keep, Asc, keep_in, keep_test, in_keep}
+use Rattle.basics.specs.Sets.{keep, Asc}
 use Rattle.cuckoo.specs.Graph.{seated, stash, occupant, next, slot_key, slot_next}
 use Rattle.hashing.specs.Hash.{blank}
 use Rattle.hashing.specs.Slots.{slot_0, slot_1}

@@ -3,7 +3,8 @@ use Rattle.std.specs.Prelude.{ℕ, ◌+◌, ◌*◌, ◌-◌, ◌≡◌, refl, B
 use Rattle.std.proofs.Common.{sym, ◌∙◌, ap, true≢false, inl, inr, arith}
 use borrow.Rule.Slice.PartMut.{mid_of}
 use Rattle.basics.specs.Tests.{test}
-use Rattle.basics.specs.Sets.{member, in_member}
+use Rattle.basics.specs.Sets.{member}
+use Rattle.basics.proofs.Sets.{in_member}
 use Rattle.layout.specs.Entries.{Entry, keys_of, tier_of}
 use Rattle.layout.proofs.Entries.{tier_absent}
 use Rattle.hashing.specs.Hash.{Family}

@@ -8,9 +8,9 @@ use mathlib.Core.List.{List, [], ◌∷◌, ◌++◌, Memᴰ as In}
 use mathlib.Core.List.Memᴰ
 use Rattle.std.proofs.Math.ListN.{length, get_or, length-append}
 use Rattle.std.proofs.Math.Seq.{get_or-append_seam, take-append_seam, drop-append_seam, drop-append-add}
-use Rattle.basics.specs.Tests.{eq?, le?}
-use Rattle.basics.specs.Sets.{member, without, Asc, none, some, keep_in, keep_test, in_keep, length_keep, below, out_in, out_ne, in_out, in_member}
-use Rattle.basics.proofs.Sets.{asc_ext, asc_keep, asc_out, below_in, below_lt, in_below, in?, no_member}
+use Rattle.basics.proofs.Tests.{eq?, le?}
+use Rattle.basics.specs.Sets.{member, without, Asc, none, some, below}
+use Rattle.basics.proofs.Sets.{asc_ext, asc_keep, asc_out, keep_in, keep_test, in_keep, length_keep, below_in, below_lt, in_below, out_in, out_ne, in_out, in?, in_member, no_member}
 use Rattle.basics.proofs.Lists.{get_or_in}
 use Rattle.ordered.specs.Keys.{lower_bound, above, with_key}
 use Rattle.ordered.proofs.Sorting.{in_at}

@@ -12,9 +12,10 @@ use mathlib.Core.List.Memᴰ.{tail as there}
 use mathlib.Core.List.{List, [], ◌∷◌, map, Memᴰ as In}
 use borrow.Author.Tests.{eq-eqb, ne_eqb, ltb-false, not-true, not-false}
 use Rattle.std.proofs.lemmas.List.{length-map}
-use Rattle.basics.specs.Tests.{test, eq?, and_true}
-use Rattle.basics.specs.Sets.{Asc, Sub, in_member}
-use Rattle.basics.proofs.Sets.{asc_ext, in?, no_member}
+use Rattle.basics.specs.Tests.{test}
+use Rattle.basics.proofs.Tests.{eq?, and_true}
+use Rattle.basics.specs.Sets.{Asc, Sub}
+use Rattle.basics.proofs.Sets.{asc_ext, in?, in_member, no_member}
 use Rattle.basics.proofs.Lists.{from_map, in_map, asc_map}
 use Rattle.ordered.specs.Keys.{with_key}
 use Rattle.ordered.proofs.Place.{with_cases, with_here, with_there, asc_with, with_same}

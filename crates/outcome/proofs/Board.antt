@@ -1,4 +1,5 @@
--- The laws of what specs/Board.antt defines.
+-- Document 01's board as calls, every card multiplied by ten: the rows of K1 to K12 that are an add or a withdrawal, with the answer and with every word that is
+-- left; an add of another issue; and document 02's trails there. They follow from the table of images (layout/specs/Board.antt) and from what a call does to a dictionary that holds a set. Assumes nothing.
 use Rattle.std.specs.Prelude.{ℕ, zero, suc, ◌-◌, ◌≤◌, ◌<◌, ◌≡◌, true, false, cond, ltb, length, replicate}
 use Rattle.std.proofs.Math.Path.{refl}
 use Rattle.std.proofs.Common.{sym, ◌∙◌, ap, arith, ne_eqb, le-ltb}
@@ -26,7 +27,6 @@ use Rattle.outcome.specs.Held.{Holds}
 use Rattle.outcome.proofs.Held.{one_too_many, held_issue, held_new, held_absent, held_remove, held_changed}
 use Rattle.outcome.specs.Trail.{trail_of, trail_in, trail_refusal, trail_outcome}
 use Rattle.outcome.proofs.TrailLaws.{held_asked, held_trail}
-use Rattle.outcome.specs.Board.{range, plainly}
 
 -- the words of a row are a dictionary that holds its set
 shown_holds : {r s : ℕ} {L : List Entry} {ws : List ℕ} → params_in_range r s 0 ≡ true → Shown r s L ws → Holds (board r s) L ws
@@ -59,6 +59,10 @@ row_in (R ∷ Rs) (suc n) l = there (row_in Rs n (omega arith))
 
 row_holds : (n : ℕ) → n < length rows → Board.RowHolds (row rows n)
 row_holds n l = board_rows (row rows n) (row_in rows n l)
+
+range : params_in_range 4 1 0 ≡ true
+unfolding params_in_range sizes_in_range slots_in_range station_in_range
+range = refl
 
 -- r = 4, s = 1, and scratch that is long enough
 module _ (scratch : List ℕ) (room : scratch_length 4 1 ≤ length scratch) where
@@ -142,11 +146,14 @@ k12 tabulation scratch station full_length at room c x d y tier key z parts smal
 -- Document 02's trails on the board. The trail of a key of a row is that over the plain ends.
 module _ {r s : ℕ} {L : List Entry} {ws : List ℕ} (range : params_in_range r s 0 ≡ true) (h : Shown r s L ws) (scratch : List ℕ)
     (room : scratch_length r s ≤ length scratch) (key : ℕ) (b : blank key ≡ false) (m : member key (keys_of L) ≡ true) where
-  trail_plainly : trail_of (board r s) (keys_of L) key ≡ (plainly range h scratch room key b m)
+  abbrev pub plainly : List ℕ
+  plainly = trail (plain_0 r) (plain_1 r) (seated (plain_0 r) (plain_1 r) (keys_of L)) key
+
+  trail_plainly : trail_of (board r s) (keys_of L) key ≡ plainly
   trail_plainly = trail_agree h.valid.keys.asc h.known key
 
   -- the trail, and whether n words do for it
-  pub shown_trail : {K : List ℕ} → (plainly range h scratch room key b m) ≡ K
+  pub shown_trail : {K : List ℕ} → plainly ≡ K
       → (trail_in board_tabulation ws key ≡ K)
       × ((n : ℕ) → trail_refusal board_tabulation ws scratch key n ≡ cond (ltb n (length K)) short_trail done)
   shown_trail {K} e =
@@ -154,7 +161,7 @@ module _ {r s : ℕ} {L : List Entry} {ws : List ℕ} (range : params_in_range r
       let t = le-ltb (length scratch) (scratch_length r s) room in
       (held_asked H key ∙ trail_plainly ∙ e, λ n. held_trail H key board_length scratch n ∙ (rw (t, b, m, trail_plainly, e)))
 
-  trail_on_board : {K : List ℕ} → (plainly range h scratch room key b m) ≡ K → (sheet : List ℕ) → length K ≤ length sheet
+  trail_on_board : {K : List ℕ} → plainly ≡ K → (sheet : List ℕ) → length K ≤ length sheet
       → let o = trail_outcome board_tabulation ws scratch key sheet in
       (o.number ≡ done) × ((o.values ≡ length K ∷ []) × (o.trail ≡ K ++ replicate (length sheet - length K) 0))
   unfolding trail_outcome

@@ -5,9 +5,10 @@ use mathlib.Core.List.Memᴰ.{head as here}
 use mathlib.Core.List.Memᴰ.{tail as there}
 use mathlib.Core.List.{List, [], ◌∷◌, ◌++◌, Memᴰ as In}
 use borrow.Author.Tests.{eq-eqb, ne_eqb, lt-ltb, le-ltb, ltb-false, not-false}
-use Rattle.basics.specs.Tests.{test, eq?}
-use Rattle.basics.specs.Sets.{Asc, without, member, member_in, in_member, out_in, out_ne, in_out}
-use Rattle.basics.proofs.Sets.{no_member}
+use Rattle.basics.specs.Tests.{test}
+use Rattle.basics.proofs.Tests.{eq?}
+use Rattle.basics.specs.Sets.{Asc, without, member}
+use Rattle.basics.proofs.Sets.{member_in, in_member, out_in, out_ne, in_out, no_member}
 use Rattle.cuckoo.specs.Placement.{Placement}
 use Rattle.ordered.specs.Keys.{with_key}
 use Rattle.ordered.proofs.Place.{with_cases, with_here, with_there, asc_with, with_same, without_with, length_with}
@@ -19,8 +20,7 @@ use Rattle.hashing.specs.Slots.{slot_0, slot_1}
 use Rattle.layout.specs.Entries.{Entry, max_tier, keys_of, tier_of, tiered}
 use Rattle.layout.proofs.Entries.{key_in, keys_tiered, tiered_agree, tier_tiered, tiered_self, tiered_in}
 use Rattle.layout.specs.Layout.{Params, ValidKeys, another_issue, OneIssue, ValidSet, family, params_of, slots_of, places_of, scratch_length, params_in_range, station_of, shaped, fits, image, keys_in, tier_in, set_in}
-use Rattle.layout.specs.Shape.{ranged, shape}
-use Rattle.layout.proofs.Shape.{ranged_true}
+use Rattle.layout.proofs.Shape.{ranged, ranged_true, shape}
 use Rattle.layout.proofs.Image.{image_shaped}
 use Rattle.layout.proofs.Issues.{no_other, listed_alone, one_issue_part, one_issue_with}
 use Rattle.layout.proofs.Reissued.{reissued_fits, instead_reissues, instead_is}

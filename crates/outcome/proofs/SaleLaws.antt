@@ -7,8 +7,8 @@ use mathlib.Core.List.{List, [], ◌∷◌, Memᴰ as In}
 use borrow.Author.Tests.{eq-eqb, ne_eqb, eqb-true, leb-true, le-leb, le-ltb, ltb-false, not-false}
 use Rattle.std.proofs.Math.ListN.{length}
 use Rattle.std.specs.Int.Signed.{mag, le_z, lt_z, lt_z_yes, lt_z_no, clash_ℤ}
-use Rattle.basics.specs.Tests.{test, eq?, and_true}
-use Rattle.basics.proofs.Tests.{T_true, zero_one}
+use Rattle.basics.specs.Tests.{test}
+use Rattle.basics.proofs.Tests.{eq?, and_true, T_true, zero_one}
 use Rattle.basics.specs.Sets.{member}
 use Rattle.refusals.specs.Refusal.{done, not_canonical, blank_key, key_absent, wrong_price, first_refusal, None, none, and}
 use Rattle.refusals.proofs.Refusal.{first_refusal_in, front_applies, front_passes, front_none}
@@ -224,7 +224,7 @@ module _ (tabulation ws : List ℕ) (key base : ℕ) (steps : List ℤ) (e : sal
         small_tier = small;
         price = w.0;
         least = w.1.0;
-        most = let e = f.each (tier tabulation ws key base steps e) (omega arith) in rw w.1.1 (sum_bound base (get_or steps (tier tabulation ws key base steps e) (pos 0)) f.base_most e.0 e.1);
+        most = let step = f.each (tier tabulation ws key base steps e) (omega arith) in rw w.1.1 (sum_bound base (get_or steps (tier tabulation ws key base steps e) (pos 0)) f.base_most step.0 step.1);
       }
 
 -- on a dictionary that holds a set

@@ -7,8 +7,8 @@ use mathlib.Core.List.Memᴰ.{head as here}
 use mathlib.Core.List.Memᴰ.{tail as there}
 use mathlib.Core.List.{List, [], ◌∷◌, ◌++◌, Memᴰ as In}
 use borrow.Author.Tests.{eq-eqb, ne_eqb, lt-ltb, le-ltb, ltb-false, not-false}
-use Rattle.basics.specs.Tests.{test, eq?}
-use Rattle.basics.specs.Sets.{Asc, without, member, member_in, in_member, out_in, out_ne, in_out}
+use Rattle.basics.specs.Tests.{test}
+use Rattle.basics.specs.Sets.{Asc, without, member}
 use Rattle.cuckoo.specs.Placement.{Placement}
 use Rattle.ordered.specs.Keys.{with_key}
 use Rattle.refusals.specs.Refusal.{done, short_scratch, blank_key, key_present, key_absent, stash_full, wrong_tier, other_tier, other_issue, first_refusal, None, none, and}
@@ -16,7 +16,6 @@ use Rattle.hashing.specs.Hash.{tabulation_length, first_part, blank}
 use Rattle.hashing.specs.Slots.{slot_0, slot_1}
 use Rattle.layout.specs.Entries.{Entry, max_tier, keys_of, tier_of, tiered}
 use Rattle.layout.specs.Layout.{Params, ValidKeys, another_issue, OneIssue, ValidSet, family, params_of, slots_of, places_of, scratch_length, params_in_range, station_of, shaped, fits, image, keys_in, tier_in, set_in}
-use Rattle.layout.specs.Shape.{ranged, shape}
 use Rattle.layout.specs.Canonical.{canonical, ImageOf}
 use Rattle.layout.specs.Answers.{lookup_values, looked_up}
 use Rattle.outcome.specs.declared.Change.{Change}

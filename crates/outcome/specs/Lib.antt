@@ -5,7 +5,6 @@ pub mod Outcome
 pub mod Laws
 pub mod Held
 pub mod Demands
-pub mod Board
 pub mod Trail
 pub mod TrailLaws
 pub mod Sale

@@ -8,7 +8,7 @@ use mathlib.Core.List.{List, [], ◌∷◌, Memᴰ as In}
 use borrow.Author.Tests.{eq-eqb, ne_eqb, eqb-true, leb-true, le-leb, le-ltb, ltb-false, not-false}
 use Rattle.std.proofs.Math.ListN.{length}
 use Rattle.std.specs.Int.Signed.{mag, le_z, lt_z, lt_z_yes, lt_z_no, clash_ℤ}
-use Rattle.basics.specs.Tests.{test, eq?, and_true}
+use Rattle.basics.specs.Tests.{test}
 use Rattle.basics.specs.Sets.{member}
 use Rattle.refusals.specs.Refusal.{done, not_canonical, blank_key, key_absent, wrong_price, first_refusal, None, none, and}
 use Rattle.hashing.specs.Hash.{tabulation_length, blank}

@@ -4,8 +4,9 @@ use Rattle.std.proofs.Math.Path.{sym, ap}
 use Rattle.std.proofs.Common.{◌∙◌, inl, inr, arith, pow_mono}
 use Rattle.std.proofs.Math.ListN.{length-replicate, get_or-replicate}
 use Rattle.cuckoo.specs.Graph.{label}
-use Rattle.basics.specs.Tests.{le?}
-use Rattle.cuckoo.specs.Joined.{Joined, past, along, back, jrefl, more, split}
+use Rattle.basics.proofs.Tests.{le?}
+use Rattle.cuckoo.specs.Joined.{Joined, past, along, back}
+use Rattle.cuckoo.proofs.Joined.{jrefl, more, split}
 use Rattle.partition.specs.Words.{max_points, max_steps, singletons_of, Representative, rep_of, size_of, Mergeable}
 use Rattle.partition.proofs.Words.{walk_stop}
 use Rattle.partition.specs.Tally.{tally}

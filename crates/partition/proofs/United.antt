@@ -2,8 +2,9 @@
 -- words say afterwards of sizes and representatives. Assumes nothing.
 use Rattle.std.specs.Prelude.{ℕ, suc, ◌≤◌, ◌<◌, ◌≡◌, ◌⊎◌, List, ◌∷◌, length, get_or}
 use Rattle.std.proofs.Common.{sym, ◌∙◌, ap, inl, inr, arith, lt-ltb, le-ltb}
-use Rattle.basics.specs.Tests.{eq?, le?}
-use Rattle.cuckoo.specs.Joined.{Joined, jsym, jtrans, more, edge_head}
+use Rattle.basics.proofs.Tests.{eq?, le?}
+use Rattle.cuckoo.specs.Joined.{Joined}
+use Rattle.cuckoo.proofs.Joined.{jsym, jtrans, more, edge_head}
 use Rattle.partition.specs.Words.{Representative, rep_of, size_of, Mergeable, linked, smaller, larger, united}
 use Rattle.partition.specs.Tally.{tally, tally_moved}
 use Rattle.partition.proofs.Tally.{moved_child, moved_other, tally_ext, tally_parent, tally_other}

@@ -4,7 +4,7 @@ use Rattle.std.specs.Prelude.{◌≡◌, cond, List, ltb, length, get_or, set, r
 use Rattle.std.proofs.Math.Path.{refl}
 use Rattle.std.proofs.Math.Logic.{inl, inr}
 use Rattle.std.proofs.Common.{not-suc-le-zero, sub-one, lt-ltb, le-ltb}
-use Rattle.basics.specs.Tests.{le?}
+use Rattle.basics.proofs.Tests.{le?}
 use Rattle.partition.specs.Words.{max_steps, walk, rep_of}
 
 -- the walk, step by step

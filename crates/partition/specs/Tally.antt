@@ -5,7 +5,6 @@ use Rattle.std.proofs.Math.Path.{refl}
 use Rattle.std.proofs.Common.{sym, ◌∙◌, ap, eq-eqb, ne_eqb}
 use Rattle.std.proofs.Math.Logic.{inl, inr}
 use native.Mathlib.Omega.{arith}
-use Rattle.basics.specs.Tests.{eq?}
 
 unfoldable pub tally : (ℕ → ℕ) → ℕ → ℕ → ℕ
 tally f r zero = 0

@@ -6,7 +6,6 @@ use Rattle.std.specs.Prelude.{◌≡◌, cond, List, ltb, length, get_or, set, r
 use Rattle.std.proofs.Math.Path.{refl}
 use Rattle.std.proofs.Math.Logic.{inl, inr}
 use Rattle.std.proofs.Common.{not-suc-le-zero, sub-one, lt-ltb, le-ltb}
-use Rattle.basics.specs.Tests.{le?}
 
 -- the most slots of both tables together, at most 1,024 each
 abbrev pub max_points : ℕ

@@ -9,7 +9,8 @@ use mathlib.Core.List.{List, [], ◌∷◌, ◌++◌, Memᴰ as In}
 use native.Mathlib.Omega.{arith}
 use Rattle.std.proofs.Math.Seq.{get_or-drop, drop-drop}
 use Rattle.basics.specs.Tests.{test}
-use Rattle.basics.specs.Sets.{member, in_member}
+use Rattle.basics.specs.Sets.{member}
+use Rattle.basics.proofs.Sets.{in_member}
 use Rattle.basics.proofs.Sets.{no_member}
 use Rattle.basics.proofs.Parts.{to_end}
 use Rattle.layout.specs.Entries.{Entry, keys_of}

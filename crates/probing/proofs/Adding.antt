@@ -4,7 +4,7 @@ use Rattle.std.proofs.Common.{sym, ◌∙◌, ap, arith, length-set, get_or-set_
 use Rattle.std.proofs.Math.Logic.{inl, inr}
 use mathlib.Core.List.{List, Memᴰ as In}
 use borrow.Author.Tests.{eq-eqb, ne_eqb, lt-ltb, le-ltb}
-use Rattle.basics.specs.Tests.{eq?, le?}
+use Rattle.basics.proofs.Tests.{eq?, le?}
 use Rattle.basics.specs.Sets.{Sub}
 use Rattle.probing.specs.Rule.{after}
 use Rattle.probing.specs.Moves.{displace, add}

@@ -9,7 +9,7 @@ use Rattle.std.proofs.Math.Logic.{inl, inr}
 use mathlib.Core.List.{List, [], ◌∷◌, Memᴰ as In}
 use Rattle.std.proofs.Math.Dec.{leb}
 use borrow.Author.Tests.{eq-eqb, ne_eqb, eqb-true, le-leb, leb-true}
-use Rattle.basics.specs.Tests.{eq?, and_true}
+use Rattle.basics.proofs.Tests.{eq?, and_true}
 use Rattle.basics.specs.Sets.{Asc, none}
 use Rattle.basics.proofs.Sets.{asc_ext, in?}
 use Rattle.ordered.proofs.Place.{with_cases, with_here, with_there, asc_with, with_same, length_with}

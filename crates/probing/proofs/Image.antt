@@ -9,10 +9,9 @@ use native.Mathlib.Omega.{arith}
 use Rattle.std.proofs.lemmas.List.{length-replicate}
 use Rattle.std.proofs.Math.ListN.{get_or-eq_default}
 use borrow.Author.Tests.{eq-eqb, ne_eqb, eqb-true, lt-ltb, ltb-true}
-use Rattle.basics.specs.Tests.{eq?, le?}
-use Rattle.basics.proofs.Tests.{bool_ext}
-use Rattle.basics.specs.Sets.{member, Sub, Asc, none, some, some_or_all, in_member, member_in}
-use Rattle.basics.proofs.Sets.{top, in_top}
+use Rattle.basics.proofs.Tests.{eq?, le?, bool_ext}
+use Rattle.basics.specs.Sets.{member, Sub, Asc, none, some}
+use Rattle.basics.proofs.Sets.{some_or_all, in_member, member_in, top, in_top}
 use Rattle.basics.proofs.Lists.{get_or_in, get_or_zeros, pigeonhole, length_upto, in_upto}
 use Rattle.basics.specs.Lists.{upto}
 use Rattle.ordered.specs.Keys.{with_key}

@@ -10,8 +10,7 @@ use native.Mathlib.Omega.{arith}
 use Rattle.std.proofs.lemmas.List.{length-replicate}
 use Rattle.std.proofs.Math.ListN.{get_or-eq_default}
 use borrow.Author.Tests.{eq-eqb, ne_eqb, eqb-true, lt-ltb, ltb-true}
-use Rattle.basics.specs.Tests.{eq?, le?}
-use Rattle.basics.specs.Sets.{member, Sub, Asc, none, some, some_or_all, in_member, member_in}
+use Rattle.basics.specs.Sets.{member, Sub, Asc, none, some}
 use Rattle.basics.specs.Lists.{upto}
 use Rattle.ordered.specs.Keys.{with_key}
 use Rattle.probing.specs.Rule.{after, place, placed, table_image, look}

@@ -2,7 +2,6 @@
 use Rattle.std.specs.Prelude.{ℕ, zero, suc, ◌<◌, ◌≡◌, refl, length, get_or}
 use Rattle.std.proofs.Common.{sym, ◌∙◌, ap, inl, inr, arith, ext_get_or}
 use mathlib.Core.List.{List, Memᴰ as In}
-use Rattle.basics.specs.Tests.{eq?}
 use Rattle.probing.specs.Way.{PassesOver, at, on}
 
 -- Every slot on the way of a standing key before its own holds a smaller key. (Past the end `get_or` gives 0: no law

@@ -8,7 +8,6 @@ use Rattle.std.proofs.Math.Path.{refl}
 use Rattle.std.proofs.Common.{sym, ◌∙◌, ap, lt-ltb, le-ltb}
 use Rattle.std.proofs.Math.Logic.{inl, inr}
 use native.Mathlib.Omega.{arith}
-use Rattle.basics.specs.Tests.{eq?, le?}
 use Rattle.probing.specs.Rule.{after}
 use Rattle.probing.specs.Moves.{wrap, turn_slot, slot_turn, turn_word, wall}
 use Rattle.probing.specs.Way.{PassesOver, at, on}

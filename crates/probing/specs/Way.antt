@@ -4,7 +4,6 @@ use Rattle.std.proofs.Common.{sym, ◌∙◌, ap, inl, inr, arith, mod-eq_of_lt,
 use Rattle.std.proofs.Math.Bool.{and-false}
 use Rattle.std.proofs.Math.Nat.{mod_self}
 use Rattle.std.proofs.Math.ListN.{get_or-eq_default}
-use Rattle.basics.specs.Tests.{eq?, le?}
 use Rattle.probing.specs.Rule.{after, looks}
 use Rattle.probing.specs.Moves.{stop}
 

@@ -5,7 +5,8 @@ use mathlib.Core.List.Memᴰ.{head as here}
 use mathlib.Core.List.Memᴰ.{tail as there}
 use mathlib.Core.List.{List, [], ◌∷◌, ◌++◌, map, Memᴰ as In}
 use Rattle.basics.specs.Tests.{test}
-use Rattle.basics.specs.Sets.{member, member_in, in_member}
+use Rattle.basics.specs.Sets.{member}
+use Rattle.basics.proofs.Sets.{member_in, in_member}
 use Rattle.refusals.specs.Refusal.{done, wrong_tabulation, wrong_shape, short_scratch, not_canonical, blank_key, key_present, key_absent, stash_full, wrong_tier, other_tier, short_trail, wrong_price, other_issue, not_rising, none_counts, table_full, first_refusal, numbers, None, none, and}
 
 -- The laws. The numbers are those of document 01's table, and after them those of document 02.

@@ -6,7 +6,7 @@ use mathlib.Core.List.Memᴰ.{head as here}
 use mathlib.Core.List.Memᴰ.{tail as there}
 use mathlib.Core.List.{List, [], ◌∷◌, ◌++◌, map, Memᴰ as In}
 use Rattle.basics.specs.Tests.{test}
-use Rattle.basics.specs.Sets.{member, member_in, in_member}
+use Rattle.basics.specs.Sets.{member}
 
 -- 0, "done": accepted
 abbrev pub done : ℕ

@@ -9,7 +9,8 @@ use borrow.Author.Tests.{eq-eqb, ne_eqb, lt-ltb, le-ltb, leb-true}
 use Rattle.std.specs.Int.Signed.{mag, non_neg, lt_z}
 use Rattle.std.specs.Int.{w32}
 use Rattle.std.proofs.lemmas.Int.{to_z-of_z}
-use Rattle.basics.specs.Tests.{test, and_true}
+use Rattle.basics.specs.Tests.{test}
+use Rattle.basics.proofs.Tests.{and_true}
 use Rattle.refusals.specs.Refusal.{done, not_canonical, key_absent, wrong_price, first_refusal}
 use Rattle.layout.specs.Entries.{max_tier}
 use Rattle.layout.specs.Answers.{lookup_refusal, lookup_values}

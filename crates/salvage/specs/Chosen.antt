@@ -4,8 +4,9 @@ use Rattle.std.proofs.Common.{sym, ◌∙◌, inl, inr, append-nil, arith, add-o
 use Rattle.std.proofs.Math.Path.{ap}
 use Rattle.std.proofs.Math.ListN.{length-map, get_or-append}
 use Rattle.std.proofs.Math.Seq.{take-length}
-use Rattle.basics.specs.Tests.{eq?}
-use Rattle.basics.specs.Sets.{keep, length_keep}
+use Rattle.basics.proofs.Tests.{eq?}
+use Rattle.basics.specs.Sets.{keep}
+use Rattle.basics.proofs.Sets.{length_keep}
 use Rattle.basics.proofs.Lists.{keep_append, at_map}
 use Rattle.ordered.specs.Keys.{sorted, distinct}
 use Rattle.ordered.proofs.Sorting.{sorted_length}
@@ -15,7 +16,8 @@ use Rattle.hashing.specs.Slots.{slot_0, slot_1}
 use Rattle.layout.specs.Entries.{Entry}
 use Rattle.layout.specs.Layout.{params_of, family_of, slots_of, places_of, station_of, slot_entry, stash_entries}
 use Rattle.layout.specs.Layout.{Spot, spot_key, looked_at}
-use Rattle.layout.specs.Shape.{Shaped, Sized, shape}
+use Rattle.layout.specs.Shape.{Shaped, Sized}
+use Rattle.layout.proofs.Shape.{shape}
 use Rattle.layout.proofs.Shape.{by_own_family}
 use Rattle.layout.specs.Ready.{Ready}
 use Rattle.edges.specs.Edge.{packed, Packable}

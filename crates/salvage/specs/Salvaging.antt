@@ -6,7 +6,8 @@ use Rattle.std.proofs.Math.Dec.{eqb}
 use borrow.Rule.Slice.PartMut.{mid_of, put_mid, same_len_mid}
 use Rattle.std.proofs.Math.ListN.{length}
 use Rattle.basics.specs.Tests.{test}
-use Rattle.basics.specs.Sets.{keep, any, length_keep}
+use Rattle.basics.specs.Sets.{keep, any}
+use Rattle.basics.proofs.Sets.{length_keep}
 use Rattle.refusals.specs.Refusal.{done, none_counts, first_refusal}
 use Rattle.refusals.proofs.Refusal.{front_none}
 use Rattle.hashing.specs.Hash.{Hashing}
@@ -14,7 +15,7 @@ use Rattle.layout.specs.declared.Header.{Header}
 use Rattle.layout.specs.Entries.{keys_of, tiered}
 use Rattle.layout.specs.Layout.{params_of, header_of, with_keys, family_of, slots_of, places_of, station_of}
 use Rattle.layout.specs.Layout.{fits, image, spots, spot_key}
-use Rattle.layout.specs.Shape.{shape}
+use Rattle.layout.proofs.Shape.{shape}
 use Rattle.layout.proofs.Shape.{same_header}
 use Rattle.ordered.specs.Keys.{sorted, distinct}
 use Rattle.collect.specs.Collect.{collected}
@@ -27,7 +28,8 @@ use Rattle.survivors.specs.Salvage.{values}
 use Rattle.survivors.specs.Salvage.{area_refusals, nothing_counts, salvage_refusal, salvage_outcome}
 use Rattle.survivors.proofs.Spots.{counting_few}
 use Rattle.survivors.proofs.Surviving.{standing_valid, survivors_fit}
-use Rattle.survivors.specs.Laws.{Salvable, salvage_refused}
+use Rattle.survivors.specs.Laws.{Salvable}
+use Rattle.survivors.proofs.Laws.{salvage_refused}
 use Rattle.survivors.proofs.Laws.{none_salvable, salvage_number, salvage_done, salvage_told}
 use Rattle.survivors.proofs.Laws.{salvage_untold, salvage_area, salvage_passed}
 use Rattle.survivors.proofs.Looked.{occupied_split}

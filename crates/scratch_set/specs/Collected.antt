@@ -2,7 +2,8 @@
 use Rattle.std.specs.Prelude.{ℕ, ◌+◌, ◌*◌, ◌≤◌, ◌<◌, ◌≡◌, List, ◌∷◌, length, get_or, set, take}
 use Rattle.std.proofs.Common.{◌∙◌, ap, arith}
 use Rattle.layout.specs.Layout.{params_of, family_of, slots_of, places_of, station_of, keys_in}
-use Rattle.layout.specs.Shape.{Shaped, Sized, shape}
+use Rattle.layout.specs.Shape.{Shaped, Sized}
+use Rattle.layout.proofs.Shape.{shape}
 use Rattle.build.specs.Scratch.{edges_at, used}
 use Rattle.collect.specs.Collect.{keys_in_few}
 use Rattle.layout.specs.Ready.{Ready}

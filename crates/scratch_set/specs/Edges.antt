@@ -6,9 +6,9 @@ use Rattle.std.proofs.Common.{zero-le, ◌∙◌, ap, inl, inr, add-one, arith, 
 use Rattle.std.proofs.Math.Path.{sym}
 use Rattle.std.proofs.lemmas.List.{length-map}
 use Rattle.std.proofs.Math.Seq.{paste, paste-zero}
-use Rattle.basics.specs.Tests.{le?}
+use Rattle.basics.proofs.Tests.{le?}
 use Rattle.basics.proofs.Lists.{at_map}
-use Rattle.basics.specs.Parts.{part_length}
+use Rattle.basics.proofs.Parts.{part_length}
 use Rattle.basics.proofs.Parts.{pasted_more, pasted_length, pasted_front, pasted_all}
 use Rattle.edges.specs.Edge.{second_base, packed, first_of, second_of, tier_of_edge, Packable, Edge, no_edge}
 use Rattle.edges.specs.Edge.{packed_first, packed_second, packed_tier, packed_edge, no_edge_between}

@@ -7,11 +7,13 @@ use mathlib.Core.List.{List, [], ◌∷◌, ◌++◌, map, map-append, Memᴰ as
 use Rattle.std.proofs.Math.Numerals.{add-one}
 use Rattle.std.proofs.Math.ListN.{length, take, drop, length-drop}
 use Rattle.std.proofs.lemmas.List.{take-append-le}
-use Rattle.basics.specs.Tests.{test, eq?}
+use Rattle.basics.specs.Tests.{test}
+use Rattle.basics.proofs.Tests.{eq?}
 use Rattle.basics.proofs.Tests.{zero_one}
-use Rattle.basics.specs.Sets.{member, member_in, first, Asc, without}
+use Rattle.basics.specs.Sets.{member, first, Asc, without}
+use Rattle.basics.proofs.Sets.{member_in}
 use Rattle.basics.proofs.Lists.{at_map, map_same, map_take, map_drop}
-use Rattle.basics.specs.Parts.{part_length}
+use Rattle.basics.proofs.Parts.{part_length}
 use Rattle.ordered.specs.Keys.{lower_bound, with_key}
 use Rattle.ordered.proofs.Place.{bound_le, bound_found, member_at, member_past, with_parts, without_parts, length_with, length_without}
 use Rattle.ordered.specs.Shift.{shifted_in, shifted_out}

@@ -3,10 +3,10 @@ use Rattle.std.specs.Prelude.{ℕ, ◌<◌, ◌≤◌, ◌≡◌, refl, true, fa
 use Rattle.std.proofs.Common.{sym, ◌∙◌, true≢false, inl, inr, arith}
 use mathlib.Core.List.{List, Memᴰ as In}
 use Rattle.std.proofs.lemmas.Bool.{not-true}
-use Rattle.basics.specs.Tests.{test, and_true}
-use Rattle.basics.proofs.Tests.{bool_ext}
-use Rattle.basics.specs.Sets.{member, any, in_member, Asc}
-use Rattle.basics.proofs.Sets.{any_false, false_any}
+use Rattle.basics.specs.Tests.{test}
+use Rattle.basics.proofs.Tests.{and_true, bool_ext}
+use Rattle.basics.specs.Sets.{member, any, Asc}
+use Rattle.basics.proofs.Sets.{any_false, false_any, in_member}
 use Rattle.basics.specs.Lists.{same}
 use Rattle.basics.proofs.Lists.{same_true, true_same}
 use Rattle.ordered.specs.Keys.{with_key}

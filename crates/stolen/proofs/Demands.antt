@@ -7,13 +7,16 @@ use Rattle.std.proofs.Common.{sym, ◌∙◌, ap, true≢false, inl, inr, arith,
 use Rattle.std.proofs.Math.Bool.{false}
 use mathlib.Core.List.{List, [], ◌∷◌, Memᴰ as In}
 use Rattle.std.proofs.lemmas.Bool.{not-false}
-use Rattle.basics.specs.Tests.{eq?, and_true, test}
-use Rattle.basics.specs.Sets.{member, in_member, none}
+use Rattle.basics.proofs.Tests.{eq?, and_true}
+use Rattle.basics.specs.Tests.{test}
+use Rattle.basics.specs.Sets.{member, none}
+use Rattle.basics.proofs.Sets.{in_member}
 use Rattle.ordered.specs.Keys.{with_key}
 use Rattle.ordered.proofs.Place.{asc_with, with_cases, length_with}
 use Rattle.refusals.specs.Refusal.{done, table_full, None, none, and}
 use Rattle.refusals.proofs.Refusal.{front_none, last_turned}
-use Rattle.hashing.specs.Hash.{tabulation_length, slots_in_range, station_in_range, in_range_pos, blank, Family}
+use Rattle.hashing.specs.Hash.{tabulation_length, slots_in_range, station_in_range, blank, Family}
+use Rattle.hashing.proofs.Hash.{in_range_pos}
 use Rattle.hashing.specs.Slots.{slot_0}
 use Rattle.probing.specs.Rule.{table_image, placed, look, table_keys}
 use Rattle.probing.proofs.Canonical.{look_stands}

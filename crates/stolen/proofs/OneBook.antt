@@ -5,14 +5,14 @@ use mathlib.Core.List.Memᴰ.{head as here}
 use mathlib.Core.List.Memᴰ.{tail as there}
 use mathlib.Core.List.{List, [], ◌∷◌, Memᴰ as In}
 use Rattle.std.proofs.lemmas.Bool.{lt-leb}
-use Rattle.basics.specs.Tests.{eq?}
-use Rattle.basics.proofs.Tests.{zero_one}
+use Rattle.basics.proofs.Tests.{eq?, zero_one}
 use Rattle.basics.specs.Sets.{member}
 use Rattle.basics.specs.Lists.{same}
 use Rattle.basics.proofs.Lists.{true_same}
 use Rattle.refusals.specs.Refusal.{done, wrong_tabulation, wrong_shape, blank_key, key_present, table_full}
 use Rattle.refusals.specs.Refusal.{first_refusal}
-use Rattle.hashing.specs.Hash.{tabulation_length, max_station, station_in_range, in_range_pos, blank, Family}
+use Rattle.hashing.specs.Hash.{tabulation_length, max_station, station_in_range, blank, Family}
+use Rattle.hashing.proofs.Hash.{in_range_pos}
 use Rattle.probing.specs.Rule.{table_keys}
 use Rattle.stolen.specs.Answers.{stolen_image}
 use Rattle.stolen.proofs.Canonical.{image_keys}

@@ -5,8 +5,8 @@ use Rattle.std.specs.Prelude.{ℕ, ◌<◌, ◌≤◌, ◌≡◌, refl, true, fa
 use Rattle.std.proofs.Common.{sym, ◌∙◌, true≢false, inl, inr, arith}
 use mathlib.Core.List.{List, Memᴰ as In}
 use Rattle.std.proofs.lemmas.Bool.{not-true}
-use Rattle.basics.specs.Tests.{test, and_true}
-use Rattle.basics.specs.Sets.{member, any, in_member, Asc}
+use Rattle.basics.specs.Tests.{test}
+use Rattle.basics.specs.Sets.{member, any, Asc}
 use Rattle.basics.specs.Lists.{same}
 use Rattle.ordered.specs.Keys.{with_key}
 use Rattle.hashing.specs.Hash.{blank, Family}

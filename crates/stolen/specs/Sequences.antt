@@ -8,12 +8,12 @@ use mathlib.Core.List.Memᴰ.{head as here}
 use mathlib.Core.List.Memᴰ.{tail as there}
 use mathlib.Core.List.{List, [], ◌∷◌, map, Memᴰ as In}
 use Rattle.std.proofs.lemmas.Bool.{lt-leb, not-false}
-use Rattle.basics.specs.Tests.{test, eq?, and_true}
+use Rattle.basics.specs.Tests.{test}
 use Rattle.basics.specs.Sets.{member}
 use Rattle.basics.specs.Lists.{same}
 use Rattle.ordered.specs.Keys.{with_key}
 use Rattle.refusals.specs.Refusal.{done, first_refusal, None, none, and}
-use Rattle.hashing.specs.Hash.{tabulation_length, max_station, slots_in_range, station_in_range, in_range_pos, blank}
+use Rattle.hashing.specs.Hash.{tabulation_length, max_station, slots_in_range, station_in_range, blank}
 use Rattle.hashing.specs.Hash.{Family, tables}
 use Rattle.hashing.specs.Slots.{slot_0}
 use Rattle.probing.specs.Rule.{table_keys, look}

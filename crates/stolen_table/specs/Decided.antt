@@ -4,8 +4,9 @@ use Rattle.std.proofs.Math.Path.{refl}
 use Rattle.std.proofs.Common.{sym, ◌∙◌, inl, inr, arith, ltb-true}
 use mathlib.Core.List.{List, Memᴰ as In}
 use Rattle.std.proofs.lemmas.Bool.{not-false}
-use Rattle.basics.specs.Tests.{and_true}
-use Rattle.basics.specs.Sets.{member, in_member}
+use Rattle.basics.proofs.Tests.{and_true}
+use Rattle.basics.specs.Sets.{member}
+use Rattle.basics.proofs.Sets.{in_member}
 use Rattle.basics.proofs.Sets.{no_member}
 use Rattle.basics.proofs.Lists.{get_or_in}
 use Rattle.ordered.specs.Keys.{with_key}

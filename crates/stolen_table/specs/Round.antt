@@ -5,7 +5,7 @@ use Rattle.std.proofs.Common.{sym, ◌∙◌, inl, inr, eq-eqb, ne_eqb, le-leb, 
 use Rattle.std.proofs.Math.Numerals.{add-one}
 use native.Mathlib.Omega.{arith}
 use Rattle.std.proofs.lemmas.Bool.{lt-leb}
-use Rattle.basics.specs.Tests.{eq?}
+use Rattle.basics.proofs.Tests.{eq?}
 use Rattle.hashing.specs.Hash.{blank}
 use Rattle.hashing.proofs.Issues.{blank_iff}
 use Rattle.probing.specs.Moves.{slot_turn, turn_word, wall, right, settled, all_settled}

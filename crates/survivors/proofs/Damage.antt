@@ -11,9 +11,10 @@ use mathlib.Core.List.Memᴰ.{tail as there}
 use native.Mathlib.Omega.{arith}
 use Rattle.std.proofs.lemmas.Bool.{eqb-false, not-true}
 use Rattle.std.proofs.Math.ListN.{length-map}
-use Rattle.basics.specs.Tests.{test, eq?, and_true}
-use Rattle.basics.specs.Sets.{keep, keep_in, keep_test, in_keep, any, Asc, none, some}
-use Rattle.basics.proofs.Sets.{any_true, true_any}
+use Rattle.basics.specs.Tests.{test}
+use Rattle.basics.proofs.Tests.{eq?, and_true}
+use Rattle.basics.specs.Sets.{keep, any, Asc, none, some}
+use Rattle.basics.proofs.Sets.{keep_in, keep_test, in_keep, any_true, true_any}
 use Rattle.basics.proofs.Lists.{pigeonhole, in_upto, length_split}
 use Rattle.basics.specs.Lists.{upto}
 use Rattle.cuckoo.specs.Placement.{Place, slot, place}
@@ -23,7 +24,7 @@ use Rattle.layout.proofs.Entries.{in_key, key_in, length_keys}
 use Rattle.layout.specs.Layout.{Params, ValidSet, family, params_of, family_of, slots_of, places_of, words_length}
 use Rattle.layout.specs.Layout.{key_at, tier_at, stash_at, place_at, place_width, place_entries, stash_entries}
 use Rattle.layout.specs.Layout.{Spot, slot_spots, place_spots, spots, spot_key}
-use Rattle.layout.specs.Shape.{shape}
+use Rattle.layout.proofs.Shape.{shape}
 use Rattle.layout.proofs.Standing.{not_blank}
 use Rattle.outcome.specs.Held.{Holds}
 use Rattle.outcome.proofs.Held.{held_params, held_shaped}

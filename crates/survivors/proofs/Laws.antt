@@ -8,7 +8,8 @@ use mathlib.Core.List.Memᴰ.{tail as there}
 use mathlib.Core.List.{List, [], ◌∷◌, Memᴰ as In}
 use borrow.Author.Tests.{eqb-true, eq-eqb, ne_eqb, ltb-false, lt-ltb, le-ltb, eqb-false, not-false, not-true}
 use Rattle.std.proofs.Math.ListN.{length}
-use Rattle.basics.specs.Tests.{test, and_true}
+use Rattle.basics.specs.Tests.{test}
+use Rattle.basics.proofs.Tests.{and_true}
 use Rattle.basics.specs.Sets.{any, keep}
 use Rattle.basics.proofs.Sets.{any_true, true_any, any_false, false_any}
 use Rattle.basics.proofs.Lists.{keep_none}
@@ -19,8 +20,7 @@ use Rattle.hashing.specs.Hash.{Family, tabulation_length}
 use Rattle.layout.specs.Entries.{Entry, tiered}
 use Rattle.layout.specs.Layout.{Params, family, params_of, family_of, slots_of, places_of, station_of, words_length}
 use Rattle.layout.specs.Layout.{scratch_length, shaped, image, Spot, spots, spot_key}
-use Rattle.layout.specs.Shape.{shape}
-use Rattle.layout.proofs.Shape.{ranged_true}
+use Rattle.layout.proofs.Shape.{shape, ranged_true}
 use Rattle.layout.specs.Answers.{lookup_values}
 use Rattle.outcome.specs.Demands.{Harmless}
 use Rattle.outcome.specs.Held.{Holds}
@@ -30,7 +30,7 @@ use Rattle.survivors.specs.Salvage.{area_refusals, nothing_counts, salvage_refus
 use Rattle.survivors.specs.Salvage.{SalvageOutcome, salvage_outcome}
 use Rattle.survivors.proofs.Surviving.{survivors_valid, survivors_fit}
 use Rattle.survivors.proofs.Untampered.{image_spot, image_survivors, image_lost}
-use Rattle.survivors.specs.Laws.{salvage_answers, Salvable, o, refusal, salvage_refused}
+use Rattle.survivors.specs.Laws.{salvage_answers, Salvable}
 
 -- The laws.
 
@@ -51,11 +51,17 @@ module _ (tabulation ws : List ℕ) (n m : ℕ) where
 -- the parts of the outcome
 
 module _ (tabulation ws target scratch : List ℕ) where
-  pub salvage_number : (o tabulation ws target scratch).number ≡ (refusal tabulation ws target scratch)
+  abbrev o : SalvageOutcome
+  o = salvage_outcome tabulation ws target scratch
+
+  abbrev refusal : ℕ
+  refusal = salvage_refusal tabulation ws (length target) (length scratch)
+
+  pub salvage_number : o.number ≡ refusal
   unfolding salvage_outcome
   salvage_number = refl
 
-  pub salvage_number_in : In (o tabulation ws target scratch).number salvage_answers
+  pub salvage_number_in : In o.number salvage_answers
   unfolding salvage_outcome salvage_refusal
   salvage_number_in = elim (first_refusal_in (salvage_refusals tabulation ws (length target) (length scratch))) [
     | here q ↦ here q
@@ -66,39 +72,49 @@ module _ (tabulation ws target scratch : List ℕ) where
   ]
 
   -- accepted: their canonical list, and how many are lost,
-  pub salvage_done : (o tabulation ws target scratch).number ≡ done → (o tabulation ws target scratch).target ≡ image (params_of tabulation ws) (survivors tabulation ws)
+  pub salvage_done : o.number ≡ done → o.target ≡ image (params_of tabulation ws) (survivors tabulation ws)
   unfolding salvage_outcome
-  salvage_done e = rw (eq-eqb (refusal tabulation ws target scratch) done e)
+  salvage_done e = rw (eq-eqb refusal done e)
 
-  pub salvage_told : (o tabulation ws target scratch).number ≡ done → (o tabulation ws target scratch).values ≡ lost_in tabulation ws ∷ []
+  pub salvage_told : o.number ≡ done → o.values ≡ lost_in tabulation ws ∷ []
   unfolding salvage_outcome
-  salvage_told e = rw (eq-eqb (refusal tabulation ws target scratch) done e)
+  salvage_told e = rw (eq-eqb refusal done e)
 
-  pub salvage_untold : ((o tabulation ws target scratch).number ≡ done → ⊥) → (o tabulation ws target scratch).values ≡ []
+  -- "every refusal leaves the second area unchanged", and tells nothing.
+  pub salvage_refused : (o.number ≡ done → ⊥) → o.target ≡ target
   unfolding salvage_outcome
-  salvage_untold n = rw (ne_eqb (refusal tabulation ws target scratch) done n)
+  salvage_refused n = rw (ne_eqb refusal done n)
 
-  pub salvage_scratch : (o tabulation ws target scratch).scratch ≡ replicate (length scratch) 0
+  pub salvage_untold : (o.number ≡ done → ⊥) → o.values ≡ []
+  unfolding salvage_outcome
+  salvage_untold n = rw (ne_eqb refusal done n)
+
+  pub salvage_scratch : o.scratch ≡ replicate (length scratch) 0
   unfolding salvage_outcome
   salvage_scratch = refl
 
+  -- The first area is never changed,
+  pub salvage_words : o.words ≡ ws
+  unfolding salvage_outcome
+  salvage_words = refl
+
   -- and of the second demand 1 holds.
   pub salvage_harmless :
-      Harmless salvage_answers target scratch (record { answer = (o tabulation ws target scratch).number; words = (o tabulation ws target scratch).target; scratch = (o tabulation ws target scratch).scratch })
+      Harmless salvage_answers target scratch (record { answer = o.number; words = o.target; scratch = o.scratch })
   salvage_harmless =
-      record { numbered = salvage_number_in; unchanged = (salvage_refused tabulation ws target scratch); cleared = salvage_scratch }
+      record { numbered = salvage_number_in; unchanged = salvage_refused; cleared = salvage_scratch }
 
   -- What target and scratch held has no say, only their lengths.
   module _ (us sheet : List ℕ) (same : length target ≡ length us) (room : length scratch ≡ length sheet) where
-    pub salvage_any_number : (salvage_outcome tabulation ws us sheet).number ≡ (o tabulation ws target scratch).number
+    pub salvage_any_number : (salvage_outcome tabulation ws us sheet).number ≡ o.number
     unfolding salvage_outcome
     salvage_any_number = rw (same, room)
 
-    pub salvage_any_values : (salvage_outcome tabulation ws us sheet).values ≡ (o tabulation ws target scratch).values
+    pub salvage_any_values : (salvage_outcome tabulation ws us sheet).values ≡ o.values
     unfolding salvage_outcome
     salvage_any_values = rw (same, room)
 
-    pub salvage_any_target : (o tabulation ws target scratch).number ≡ done → (salvage_outcome tabulation ws us sheet).target ≡ (o tabulation ws target scratch).target
+    pub salvage_any_target : o.number ≡ done → (salvage_outcome tabulation ws us sheet).target ≡ o.target
     unfolding salvage_outcome
     salvage_any_target e = rw (← same, ← room, e)
 

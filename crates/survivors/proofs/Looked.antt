@@ -10,9 +10,10 @@ use mathlib.Core.List.{List, [], ◌∷◌, ◌++◌, append_assoc, Memᴰ as In
 use mathlib.Core.List.Memᴰ.{tail as there}
 use native.Mathlib.Omega.{arith}
 use borrow.Author.Tests.{eqb-true, eq-eqb, ne_eqb, leb-true}
-use Rattle.basics.specs.Tests.{test, eq?, and_true}
-use Rattle.basics.proofs.Tests.{or_cases}
-use Rattle.basics.specs.Sets.{keep, keep_in, keep_test}
+use Rattle.basics.specs.Tests.{test}
+use Rattle.basics.proofs.Tests.{eq?, and_true, or_cases}
+use Rattle.basics.specs.Sets.{keep}
+use Rattle.basics.proofs.Sets.{keep_in, keep_test}
 use Rattle.basics.proofs.Lists.{keep_append, keep_keep, length_split, keep_ext}
 use Rattle.cuckoo.specs.Placement.{slot}
 use Rattle.hashing.specs.Hash.{Family, first_part, blank}

@@ -8,9 +8,8 @@ use mathlib.Core.List.Memᴰ.{tail as there}
 use mathlib.Core.List.{List, [], ◌∷◌, Memᴰ as In}
 use mathlib.Core.List.Memᴰ
 use native.Mathlib.Omega.{arith}
-use Rattle.basics.specs.Tests.{eq?}
-use Rattle.basics.proofs.Tests.{zero_one}
-use Rattle.basics.specs.Sets.{length_keep}
+use Rattle.basics.proofs.Tests.{eq?, zero_one}
+use Rattle.basics.proofs.Sets.{length_keep}
 use Rattle.cuckoo.specs.Placement.{Place, slot, place}
 use Rattle.layout.specs.Entries.{Entry, no_entry}
 use Rattle.layout.proofs.Entries.{length_keys}

@@ -9,10 +9,10 @@ use mathlib.Core.List.Memᴰ.{tail as there}
 use mathlib.Core.List.{List, [], ◌∷◌, ◌++◌, map, Memᴰ as In}
 use mathlib.Core.List.Memᴰ
 use borrow.Author.Tests.{eqb-true, eq-eqb, ne_eqb, leb-true, not-true}
-use Rattle.basics.specs.Tests.{test, eq?, and_true}
-use Rattle.basics.proofs.Tests.{or_cases}
-use Rattle.basics.specs.Sets.{keep, keep_in, keep_test, in_keep}
-use Rattle.basics.proofs.Sets.{asc_keep}
+use Rattle.basics.specs.Tests.{test}
+use Rattle.basics.proofs.Tests.{eq?, and_true, or_cases}
+use Rattle.basics.specs.Sets.{keep}
+use Rattle.basics.proofs.Sets.{keep_in, keep_test, in_keep, asc_keep}
 use Rattle.ordered.specs.Keys.{sorted, distinct}
 use Rattle.ordered.proofs.Distinct.{distinct_sorted_asc, distinct_sorted_in, in_distinct_sorted}
 use Rattle.cuckoo.specs.Placement.{slot, MaySit, table_0, table_1, aside, Placement}

@@ -10,10 +10,9 @@ use mathlib.Core.List.Memᴰ.{head as here}
 use mathlib.Core.List.Memᴰ.{tail as there}
 use mathlib.Core.List.{List, [], ◌∷◌, Memᴰ as In}
 use Rattle.std.proofs.Math.ListN.{length}
-use Rattle.basics.specs.Tests.{eq?}
-use Rattle.basics.proofs.Tests.{and_false}
-use Rattle.basics.specs.Sets.{keep, keep_in, keep_test, in_keep, Asc}
-use Rattle.basics.proofs.Sets.{asc_ext}
+use Rattle.basics.proofs.Tests.{eq?, and_false}
+use Rattle.basics.specs.Sets.{keep, Asc}
+use Rattle.basics.proofs.Sets.{keep_in, keep_test, in_keep, asc_ext}
 use Rattle.basics.proofs.Lists.{keep_none}
 use Rattle.cuckoo.specs.Graph.{seated, slot_key}
 use Rattle.cuckoo.specs.Placement.{slot}

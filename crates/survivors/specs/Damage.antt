@@ -15,8 +15,8 @@ use mathlib.Core.List.Memᴰ.{tail as there}
 use native.Mathlib.Omega.{arith}
 use Rattle.std.proofs.lemmas.Bool.{eqb-false, not-true}
 use Rattle.std.proofs.Math.ListN.{length-map}
-use Rattle.basics.specs.Tests.{test, eq?, and_true}
-use Rattle.basics.specs.Sets.{keep, keep_in, keep_test, in_keep, any, Asc, none, some}
+use Rattle.basics.specs.Tests.{test}
+use Rattle.basics.specs.Sets.{keep, any, Asc, none, some}
 use Rattle.basics.specs.Lists.{upto}
 use Rattle.cuckoo.specs.Placement.{Place, slot, place}
 use Rattle.hashing.specs.Hash.{Family, first_part}
@@ -24,7 +24,6 @@ use Rattle.layout.specs.Entries.{Entry, keys_of, no_entry}
 use Rattle.layout.specs.Layout.{Params, ValidSet, family, params_of, family_of, slots_of, places_of, words_length}
 use Rattle.layout.specs.Layout.{key_at, tier_at, stash_at, place_at, place_width, place_entries, stash_entries}
 use Rattle.layout.specs.Layout.{Spot, slot_spots, place_spots, spots, spot_key}
-use Rattle.layout.specs.Shape.{shape}
 use Rattle.outcome.specs.Held.{Holds}
 use Rattle.survivors.specs.Salvage.{counts, counting, standing, standing_keys, survivors, occupied, lost_in}
 use Rattle.survivors.specs.Spots.{slot_spot, place_spot, at_slot, at_place}

@@ -10,7 +10,7 @@ use mathlib.Core.List.Memᴰ.{tail as there}
 use mathlib.Core.List.{List, [], ◌∷◌, Memᴰ as In}
 use borrow.Author.Tests.{eqb-true, eq-eqb, ne_eqb, ltb-false, lt-ltb, le-ltb, eqb-false, not-false, not-true}
 use Rattle.std.proofs.Math.ListN.{length}
-use Rattle.basics.specs.Tests.{test, and_true}
+use Rattle.basics.specs.Tests.{test}
 use Rattle.basics.specs.Sets.{any, keep}
 use Rattle.refusals.specs.Refusal.{done, wrong_tabulation, wrong_shape, short_scratch, none_counts, first_refusal}
 use Rattle.refusals.specs.Refusal.{None, none, and}
@@ -18,7 +18,7 @@ use Rattle.hashing.specs.Hash.{Family, tabulation_length}
 use Rattle.layout.specs.Entries.{Entry, tiered}
 use Rattle.layout.specs.Layout.{Params, family, params_of, family_of, slots_of, places_of, station_of, words_length}
 use Rattle.layout.specs.Layout.{scratch_length, shaped, image, Spot, spots, spot_key}
-use Rattle.layout.specs.Shape.{shape}
+use Rattle.layout.proofs.Shape.{shape}
 use Rattle.layout.specs.Answers.{lookup_values}
 use Rattle.outcome.specs.Demands.{Harmless}
 use Rattle.outcome.specs.Held.{Holds}
@@ -36,22 +36,3 @@ pub record Salvable (tabulation ws : List ℕ) (n m : ℕ) : Type 0 where
   pub shape : shaped ws ≡ true
   pub size : n ≡ length ws
   pub room : scratch_length (slots_of ws) (places_of ws) ≤ m
-
--- the parts of the outcome
-
-module _ (tabulation ws target scratch : List ℕ) where
-  abbrev pub o : SalvageOutcome
-  o = salvage_outcome tabulation ws target scratch
-
-  abbrev pub refusal : ℕ
-  refusal = salvage_refusal tabulation ws (length target) (length scratch)
-
-  -- "every refusal leaves the second area unchanged", and tells nothing.
-  pub salvage_refused : (o.number ≡ done → ⊥) → o.target ≡ target
-  unfolding salvage_outcome
-  salvage_refused n = rw (ne_eqb refusal done n)
-
-  -- The first area is never changed,
-  pub salvage_words : o.words ≡ ws
-  unfolding salvage_outcome
-  salvage_words = refl

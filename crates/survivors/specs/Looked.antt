@@ -13,8 +13,8 @@ use mathlib.Core.List.{List, [], ◌∷◌, ◌++◌, append_assoc, Memᴰ as In
 use mathlib.Core.List.Memᴰ.{tail as there}
 use native.Mathlib.Omega.{arith}
 use borrow.Author.Tests.{eqb-true, eq-eqb, ne_eqb, leb-true}
-use Rattle.basics.specs.Tests.{test, eq?, and_true}
-use Rattle.basics.specs.Sets.{keep, keep_in, keep_test}
+use Rattle.basics.specs.Tests.{test}
+use Rattle.basics.specs.Sets.{keep}
 use Rattle.cuckoo.specs.Placement.{slot}
 use Rattle.hashing.specs.Hash.{Family, first_part, blank}
 use Rattle.hashing.specs.Slots.{slot_0, slot_1}

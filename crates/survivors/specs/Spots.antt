@@ -9,8 +9,6 @@ use mathlib.Core.List.Memᴰ.{tail as there}
 use mathlib.Core.List.{List, [], ◌∷◌, Memᴰ as In}
 use mathlib.Core.List.Memᴰ
 use native.Mathlib.Omega.{arith}
-use Rattle.basics.specs.Tests.{eq?}
-use Rattle.basics.specs.Sets.{length_keep}
 use Rattle.cuckoo.specs.Placement.{Place, slot, place}
 use Rattle.layout.specs.Entries.{Entry, no_entry}
 use Rattle.layout.specs.Layout.{family_of, slots_of, places_of, slot_entry, stash_entries, Spot, slot_spots}

@@ -11,8 +11,8 @@ use mathlib.Core.List.Memᴰ.{tail as there}
 use mathlib.Core.List.{List, [], ◌∷◌, ◌++◌, map, Memᴰ as In}
 use mathlib.Core.List.Memᴰ
 use borrow.Author.Tests.{eqb-true, eq-eqb, ne_eqb, leb-true, not-true}
-use Rattle.basics.specs.Tests.{test, eq?, and_true}
-use Rattle.basics.specs.Sets.{keep, keep_in, keep_test, in_keep}
+use Rattle.basics.specs.Tests.{test}
+use Rattle.basics.specs.Sets.{keep}
 use Rattle.ordered.specs.Keys.{sorted, distinct}
 use Rattle.cuckoo.specs.Placement.{slot, MaySit, table_0, table_1, aside, Placement}
 use Rattle.hashing.specs.Hash.{Family, first_part, blank}

@@ -12,7 +12,8 @@ use Rattle.cuckoo.specs.Graph.{seated, occupant, slot_key}
 use Rattle.cuckoo.specs.Settling.{Settled}
 use Rattle.cuckoo.proofs.Settling.{seated_asc, seated_stops}
 use Rattle.cuckoo.specs.Seating.{Ends, from_a, from_b}
-use Rattle.cuckoo.specs.Places.{Seat, seat_ends, seat_occupant}
+use Rattle.cuckoo.specs.Places.{Seat}
+use Rattle.cuckoo.proofs.Places.{seat_ends, seat_occupant}
 use Rattle.cuckoo.proofs.Places.{occupant_seat}
 use Rattle.cuckoo.specs.Trail.{seat}
 use Rattle.cuckoo.proofs.Trail.{seat_holds, trail_none}

@@ -5,7 +5,8 @@ use Rattle.std.specs.Prelude.{ℕ, zero, suc, ◌+◌, ◌*◌, ◌%◌, ◌<◌
 use Rattle.std.proofs.Common.{sym, ◌∙◌, ap, inl, inr, arith, length-set, get_or-set_same, get_or-set_other}
 use borrow.Author.Tests.{eqb-true, eq-eqb, ne_eqb, lt-ltb, le-ltb}
 use Rattle.std.proofs.lemmas.List.{length-replicate, get_or-replicate}
-use Rattle.basics.specs.Tests.{test, eq?, and_true}
+use Rattle.basics.specs.Tests.{test}
+use Rattle.basics.proofs.Tests.{eq?, and_true}
 use Rattle.cuckoo.specs.Round.{path}
 use Rattle.cuckoo.proofs.Round.{path_none, path_step}
 use Rattle.hashing.specs.Hash.{Hashing, tables}

@@ -2,7 +2,7 @@
 use mathlib.Core.Path.{sym, ◌∙◌}
 use borrow.Author.Tests.{le-leb, lt-leb, not-true, not-false}
 use Rattle.layout.specs.Layout.{header_length, shaped}
-use Rattle.layout.specs.Shape.{ranged}
+use Rattle.layout.proofs.Shape.{ranged}
 use borrow.Author.Rules.{rules}
 use Rattle.access.proofs.is_shaped.Goals as goal
 

@@ -1,7 +1,7 @@
 -- `access::is_target` meets its contract: its two tests are the definition's.
 use mathlib.Core.Path.{sym, ◌∙◌}
 use borrow.Author.Tests.{not-true, not-false}
-use Rattle.layout.specs.Shape.{ranged}
+use Rattle.layout.proofs.Shape.{ranged}
 use borrow.Author.Rules.{rules}
 use Rattle.access.proofs.is_target.Goals as goal
 

@@ -4,7 +4,7 @@ use mathlib.Core.Bool.{true, ◌&&◌}
 use borrow.Author.Tests.{eq-eqb, ne_eqb, lt-ltb, le-ltb, not-true, not-false}
 use lib.Dec.{eqb}
 use Rattle.layout.specs.Layout.{params_in_range, words_length}
-use Rattle.layout.specs.Shape.{ranged}
+use Rattle.layout.proofs.Shape.{ranged}
 use Rattle.layout.proofs.Fresh.{target_sizes}
 use borrow.Author.Rules.{rules}
 use Rattle.bulk_load.proofs.target_refusal.Goals as goal

@@ -1,6 +1,6 @@
 -- `console::run_sized` has words enough for all sizes in their ranges.
 use Rattle.std.proofs.Common.{sym, ◌∙◌, arith}
-use Rattle.layout.specs.Shape.{sized}
+use Rattle.layout.proofs.Shape.{sized}
 use Rattle.console.proofs.run_sized.Goals as goal
 
 pub run_part-requires : goal.run_part-requires

@@ -6,7 +6,7 @@ use mathlib.Core.Bool.{true}
 use native.Mathlib.Omega.{arith}
 use borrow.Author.Tests.{not-true, not-false}
 use Rattle.layout.specs.Layout.{one_issue, keys_in}
-use Rattle.layout.specs.Shape.{shape}
+use Rattle.layout.proofs.Shape.{shape}
 use Rattle.layout.proofs.Shape.{same_header}
 use Rattle.scratch_set.specs.Collected.{Collected, collected_room}
 use Rattle.gateway.specs.Building.{built_readable}

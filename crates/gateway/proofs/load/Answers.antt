@@ -1,6 +1,6 @@
 -- `gateway::load` meets its contract: 1 to 3, then whether the words are the image of their keys.
 use native.Mathlib.Omega.{arith}
-use Rattle.layout.specs.Shape.{shape}
+use Rattle.layout.proofs.Shape.{shape}
 use Rattle.layout.specs.Ready.{Ready}
 use Rattle.gateway.specs.Loading.{early_ready, told_early, told_tampered, told_set}
 use borrow.Author.Rules.{rules}

@@ -6,7 +6,7 @@ use native.Mathlib.Omega.{arith}
 use denote.Enum.Declared.{tag_of}
 use borrow.Author.Tests.{eq-eqb, ne_eqb, not-true, not-false}
 use Rattle.layout.specs.Layout.{shaped}
-use Rattle.layout.specs.Shape.{shape}
+use Rattle.layout.proofs.Shape.{shape}
 use Rattle.layout.specs.Answers.{lookup_refusal, lookup_values}
 use Rattle.layout.specs.contracts.Found.{the_type}
 use Rattle.lookup.specs.Found.{slots_first, slots_absent}

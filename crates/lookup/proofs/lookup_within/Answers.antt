@@ -1,7 +1,7 @@
 -- `lookup::lookup_within` meets its contract: each `return` is the first refusal whose test holds, or what is found.
 use mathlib.Core.Path.{sym, ◌∙◌}
 use borrow.Author.Tests.{eq-eqb, ne_eqb, not-true, not-false}
-use Rattle.layout.specs.Shape.{shape}
+use Rattle.layout.proofs.Shape.{shape}
 use Rattle.layout.specs.Answers.{lookup_refusal, lookup_values}
 use borrow.Author.Rules.{rules}
 use Rattle.lookup.proofs.lookup_within.Goals as goal

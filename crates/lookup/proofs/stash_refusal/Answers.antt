@@ -5,7 +5,7 @@ use native.Mathlib.Omega.{arith}
 use borrow.Author.Tests.{lt-ltb, le-ltb, not-true, not-false}
 use Rattle.layout.specs.Layout.{shaped}
 use Rattle.layout.specs.Answers.{view_refusal}
-use Rattle.layout.specs.Shape.{shape}
+use Rattle.layout.proofs.Shape.{shape}
 use Rattle.layout.proofs.Shape.{same_header}
 use borrow.Author.Rules.{rules}
 use Rattle.lookup.proofs.stash_refusal.Goals as goal

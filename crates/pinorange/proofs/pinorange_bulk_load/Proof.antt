@@ -10,7 +10,7 @@ use Rattle.pinorange.proofs.Walk.{machine}
 use Rattle.pinorange.proofs.Walk.{proved, ParameterKind, number_kind, shared_slice, unique_slice, unique_ref}
 use Rattle.pinorange.proofs.Walk.{u16, u32}
 use Rattle.pinorange.proofs.Walk.{rows_of, spells_of, tells_of, vals_of, typed_of, but, with_arg, with_val, Args}
-use Rattle.pinorange.proofs.Walk.{Clauses, Lfts, Shares, refl, List, [], ◌∷◌, id⊢, ◌$◌, ! }
+use Rattle.pinorange.proofs.Walk.{Clauses, Lfts, Shares, refl, List, [], ◌∷◌, id⊢, ◌$◌, !}
 use Rattle.pinorange.proofs.Counting.{counters_moving, counters_val}
 use Rattle.pinorange.specs.contracts.pinorange_bulk_load as self
 use Rattle.pinorange.specs.contracts.pinorange_bulk_load.Key.{name as #self}

@@ -4,7 +4,7 @@ use mathlib.Core.Path.{◌≡◌}
 use mathlib.Core.Logic.{inl, inr}
 use native.Mathlib.Omega.{arith}
 use lib.ListN.{length, get_or}
-use Rattle.basics.specs.Tests.{eq?}
+use Rattle.basics.proofs.Tests.{eq?}
 use Rattle.probing.specs.Walls.{empty, largest as none-larger}
 use borrow.Author.Rules.{rules}
 use Rattle.probe.proofs.barrier.Given as goal

@@ -6,7 +6,7 @@ use mathlib.Core.Logic.{inl, inr}
 use native.Mathlib.Omega.{arith}
 use borrow.Author.Tests.{eq-eqb, ne_eqb}
 use lib.ListN.{length, get_or}
-use Rattle.basics.specs.Tests.{eq?}
+use Rattle.basics.proofs.Tests.{eq?}
 use Rattle.probing.specs.Rule.{looks}
 use Rattle.probe.specs.Turns.{look_here, look_larger, look_empty, look_on, look_round}
 use borrow.Author.Rules.{rules}

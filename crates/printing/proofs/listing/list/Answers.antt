@@ -1,6 +1,6 @@
 -- `printing::listing::list` calls `list_words` on words that passed the shape test.
 use Rattle.std.proofs.Common.{sym, ◌∙◌}
-use Rattle.layout.specs.Shape.{shape}
+use Rattle.layout.proofs.Shape.{shape}
 use borrow.Author.Rules.{rules}
 use Rattle.printing.proofs.listing.list.Goals as goal
 

@@ -3,7 +3,7 @@
 use Prim.Native.Nat.{◌-◌, ◌≤◌}
 use mathlib.Core.Path.{◌≡◌}
 use native.Mathlib.Omega.{arith}
-use Rattle.layout.specs.Shape.{shape}
+use Rattle.layout.proofs.Shape.{shape}
 use Rattle.scratch_set.specs.Edges.{edges_length}
 use Rattle.scratch_set.specs.Collected.{EdgesFound, collected_room, collected_start, collected_turn, collected_listed}
 use borrow.Author.Rules.{rules}
