@@ -27,7 +27,7 @@ use Rattle.outcome.proofs.Held.{issue_absent, held_some, held_undone, insert_kep
 use Rattle.history.specs.Calls.{Lent, own, wrong, lent_of, Other, Call, Answer, Step, step, run, words_left}
 use Rattle.history.specs.Calls.{MayStand, Allowed, none, more, Sequence}
 use Rattle.history.specs.Model.{Request, request, requests, Reply, lookup_tests, reply, model, set_left}
-use Rattle.history.proofs.Reads.{lookup_number, lookup_value}
+use Rattle.history.proofs.ReadsLaws.{lookup_number, lookup_value}
 use Rattle.history.proofs.Starts.{holds_start}
 use Rattle.history.specs.History.{pictured}
 use Rattle.history.proofs.History.{history}

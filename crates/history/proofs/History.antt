@@ -12,7 +12,7 @@ use Rattle.history.specs.Model.{request, requests, Reply, reply, model, set_afte
 use Rattle.history.proofs.Starts.{start_holds}
 use Rattle.history.specs.Agrees.{Agrees}
 use Rattle.history.proofs.Changes.{change_agrees}
-use Rattle.history.proofs.Reads.{lookup_agrees, check_agrees, view_agrees}
+use Rattle.history.proofs.ReadsLaws.{lookup_agrees, check_agrees, view_agrees}
 use Rattle.history.proofs.Others.{other_agrees}
 use Rattle.history.specs.History.{Follows}
 

@@ -6,6 +6,6 @@ pub mod Example
 pub mod History
 pub mod NoTrace
 pub mod Others
-pub mod Reads
+pub mod ReadsLaws
 pub mod Sales
 pub mod Starts

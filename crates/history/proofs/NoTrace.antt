@@ -23,7 +23,7 @@ use Rattle.history.specs.Model.{request, requests, wrong_length, too_short, befo
 use Rattle.history.specs.Model.{set_after, set_left}
 use Rattle.history.proofs.Agrees.{wrong_lent}
 use Rattle.history.proofs.Changes.{change_number, change_like}
-use Rattle.history.proofs.Reads.{lookup_like, check_like}
+use Rattle.history.proofs.ReadsLaws.{lookup_like, check_like}
 use Rattle.history.proofs.Others.{other_like}
 use Rattle.history.specs.History.{Follows}
 use Rattle.history.proofs.History.{history}

@@ -27,6 +27,6 @@ returns c =
     let a = c.args in
     let s = fresh_accepted a.words.now a.r a.s a.station (target) in
     record {
-        numbered = s.0;
-        laid = c.write_header.ensures ∙ (rw (c.fresh_header.ensures, c.fill.ensures) s.1);
+      numbered = s.0;
+      laid = c.write_header.ensures ∙ (rw (c.fresh_header.ensures, c.fill.ensures) s.1);
     }

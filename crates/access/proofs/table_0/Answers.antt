@@ -5,6 +5,6 @@ use Rattle.access.proofs.table_0.Goals as goal
 
 pub returns : goal.returns
 returns c = record {
-        part = rw (c.wide.ensures, add-sub_cancel_left);
-        sized = search rules;
-    }
+  part = rw (c.wide.ensures, add-sub_cancel_left);
+  sized = search rules;
+}

@@ -11,6 +11,6 @@ returns c =
     let r = slots_of c.args.words.now in
     let n : key_at (r + r) - key_at r ≡ slot_width * r = omega arith in
     record {
-        part = rw (c.stash_start-end.ensures, c.wide.ensures, n);
-        sized = search rules;
+      part = rw (c.stash_start-end.ensures, c.wide.ensures, n);
+      sized = search rules;
     }

@@ -16,6 +16,6 @@ returns c =
     let front = take c.args.n c.sort.new.words in
     let e = rw c.sort.ensures at c.drop_doubles.ensures in
     record {
-        front = take-append-le c.drop_doubles.result c.drop_doubles.new.keys _ (omega (arith, distinct_length front)) ∙ e.front;
-        counted = e.counted;
+      front = take-append-le c.drop_doubles.result c.drop_doubles.new.keys _ (omega (arith, distinct_length front)) ∙ e.front;
+      counted = e.counted;
     }

@@ -9,6 +9,6 @@ returns c =
     let e = c.bulk_load-loaded.ensures in
     let d = c.with_counts.ensures in
     record {
-        loaded = rw d.same e;
-        moved = d.moved ∙ ap (counted _) (sym d.same);
+      loaded = rw d.same e;
+      moved = d.moved ∙ ap (counted _) (sym d.same);
     }

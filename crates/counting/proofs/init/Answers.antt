@@ -9,7 +9,7 @@ returns c =
     let e = c.fresh-answer.ensures in
     let d = c.with_counts.ensures in
     record {
-        answered = d.same ∙ e.numbered;
-        laid = e.laid;
-        moved = d.moved ∙ ap (counted _) (sym d.same);
+      answered = d.same ∙ e.numbered;
+      laid = e.laid;
+      moved = d.moved ∙ ap (counted _) (sym d.same);
     }

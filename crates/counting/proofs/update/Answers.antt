@@ -9,6 +9,6 @@ returns c =
     let e = c.update-answer.ensures in
     let d = c.with_counts.ensures in
     record {
-        changed = rw d.same e;
-        moved = d.moved ∙ ap (counted _) (sym d.same);
+      changed = rw d.same e;
+      moved = d.moved ∙ ap (counted _) (sym d.same);
     }

@@ -20,8 +20,7 @@ loop-i-init c = (search rules, search rules, after_none c.requires.1)
 
 pub link_rank-requires : goal.link_rank-requires
 link_rank-requires c =
-    let l = c.loop-i in
-    (
+    let l = c.loop-i in (
       enough_kept c.requires.0 l.invariant.1,
       search rules,
       omega arith,
@@ -30,8 +29,7 @@ link_rank-requires c =
 
 pub loop-i-preserved : goal.loop-i-preserved
 loop-i-preserved c =
-    let l = c.loop-i in
-    (
+    let l = c.loop-i in (
       omega arith,
       search rules,
       c.link_rank.ensures ∙ again c.requires.1 l.invariant.2 (omega (arith, edges_count c.requires.0)),

@@ -43,8 +43,8 @@ returns-then-in_slot c =
     rw (first_is) at c.in_slot.ensures in
     let a = c.args in
     record {
-        numbered = refl;
-        valued = found_first a.tabulation.now a.words.now a.key (sym (first-test) ∙ c.if-in_slot.true) (rw (first_is) at c.slot_tier.ensures);
+      numbered = refl;
+      valued = found_first a.tabulation.now a.words.now a.key (sym (first-test) ∙ c.if-in_slot.true) (rw (first_is) at c.slot_tier.ensures);
     }
 
 pub second_slot-second-requires : goal.second_slot-second-requires
@@ -84,8 +84,8 @@ returns-then-in_slot-2 c =
     by_own_family (λ F. slot_0 F a.key) a.tabulation.now a.words.now h.slots h.station c.first_slot-first.ensures in
     rw (first_is) at c.in_slot.ensures in
     let a = c.args in record {
-        numbered = refl;
-        valued = found_second a.tabulation.now a.words.now a.key (sym (first-test) ∙ c.if-in_slot.false) (sym (second-test) ∙ c.if-in_slot-2.true)
+      numbered = refl;
+      valued = found_second a.tabulation.now a.words.now a.key (sym (first-test) ∙ c.if-in_slot.false) (sym (second-test) ∙ c.if-in_slot-2.true)
           (rw (second_is) at c.slot_tier-then-in_slot-2.ensures);
     }
 
@@ -101,6 +101,6 @@ returns c =
     rw (first_is) at c.in_slot.ensures in
     let a = c.args in
     record {
-        numbered = refl;
-        valued = found_neither a.tabulation.now a.words.now a.key (sym (first-test) ∙ c.if-in_slot.false) (sym (second-test) ∙ c.if-in_slot-2.false);
+      numbered = refl;
+      valued = found_neither a.tabulation.now a.words.now a.key (sym (first-test) ∙ c.if-in_slot.false) (sym (second-test) ∙ c.if-in_slot-2.false);
     }

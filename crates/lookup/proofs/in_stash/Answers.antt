@@ -15,6 +15,6 @@ find_place-requires c = let h = same_header c.read_header-header.ensures in sear
 pub returns : goal.returns
 returns c =
     let h = same_header c.read_header-header.ensures in record {
-        numbered = c.find_place.ensures.numbered;
-        valued = found_stash _ _ (c.stash_start-start.ensures ∙ ap stash_at h.slots) (c.wide-count.ensures ∙ h.places) c.find_place.ensures.valued;
+      numbered = c.find_place.ensures.numbered;
+      valued = found_stash _ _ (c.stash_start-start.ensures ∙ ap stash_at h.slots) (c.wide-count.ensures ∙ h.places) c.find_place.ensures.valued;
     }

@@ -16,9 +16,9 @@ use Rattle.lookup.proofs.lookup.Goals as goal
 pub returns-then-tabulation-ne-TABULATION_LENGTH : goal.returns-then-tabulation-ne-TABULATION_LENGTH
 unfolding lookup_refusal lookup_values
 returns-then-tabulation-ne-TABULATION_LENGTH c = let t = ne_eqb _ _ c.if-tabulation-ne-TABULATION_LENGTH.true in record {
-        numbered = simp t;
-        valued = simp t;
-    }
+  numbered = simp t;
+  valued = simp t;
+}
 
 pub returns-then-not-is_shaped : goal.returns-then-not-is_shaped
 unfolding lookup_refusal lookup_values
@@ -26,8 +26,8 @@ returns-then-not-is_shaped c =
     let t = eq-eqb _ _ c.if-tabulation-ne-TABULATION_LENGTH.false in
     let u = sym c.is_shaped.ensures ∙ c.if-not-is_shaped.true in
     record {
-        numbered = simp (t, u);
-        valued = simp (t, u);
+      numbered = simp (t, u);
+      valued = simp (t, u);
     }
 
 pub returns-then-is_blank : goal.returns-then-is_blank
@@ -37,8 +37,8 @@ returns-then-is_blank c =
     let u = sym c.is_shaped.ensures ∙ c.if-not-is_shaped.false in
     let v = sym c.is_blank.ensures ∙ c.if-is_blank.true in
     record {
-        numbered = simp (t, u, v);
-        valued = simp (t, u, v);
+      numbered = simp (t, u, v);
+      valued = simp (t, u, v);
     }
 
 pub in_slots-found-requires : goal.in_slots-found-requires
@@ -56,8 +56,8 @@ returns-in_default c =
     let f = slots_first a.tabulation.now a.words.now a.key c.in_slots-found.result c.in_slots-found.ensures.valued
     c.in_default.not-Absent in
     record {
-        numbered = c.in_slots-found.ensures.numbered ∙ sym (simp (t, formed, v));
-        valued = f ∙ sym (simp (t, formed, v));
+      numbered = c.in_slots-found.ensures.numbered ∙ sym (simp (t, formed, v));
+      valued = f ∙ sym (simp (t, formed, v));
     }
 
 pub in_stash-requires : goal.in_stash-requires
@@ -74,6 +74,6 @@ returns c =
     let v = sym c.is_blank.ensures ∙ c.if-is_blank.false in
     let f = slots_absent a.tabulation.now a.words.now a.key c.in_slots-found.result c.in_slots-found.ensures.valued c.in-Absent.is in
     record {
-        numbered = c.in_stash.ensures.numbered ∙ sym (simp (t, formed, v));
-        valued = c.in_stash.ensures.valued ∙ f ∙ sym (simp (t, formed, v));
+      numbered = c.in_stash.ensures.numbered ∙ sym (simp (t, formed, v));
+      valued = c.in_stash.ensures.valued ∙ f ∙ sym (simp (t, formed, v));
     }

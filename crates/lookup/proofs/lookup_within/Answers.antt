@@ -9,9 +9,9 @@ use Rattle.lookup.proofs.lookup_within.Goals as goal
 pub returns-then-tabulation-ne-TABULATION_LENGTH : goal.returns-then-tabulation-ne-TABULATION_LENGTH
 unfolding lookup_refusal lookup_values
 returns-then-tabulation-ne-TABULATION_LENGTH c = let t = ne_eqb _ _ c.if-tabulation-ne-TABULATION_LENGTH.true in record {
-        numbered = simp t;
-        valued = simp t;
-    }
+  numbered = simp t;
+  valued = simp t;
+}
 
 pub returns-then-not-is_shaped : goal.returns-then-not-is_shaped
 unfolding lookup_refusal lookup_values
@@ -19,8 +19,8 @@ returns-then-not-is_shaped c =
     let t = eq-eqb _ _ c.if-tabulation-ne-TABULATION_LENGTH.false in
     let u = sym c.is_shaped.ensures ∙ c.if-not-is_shaped.true in
     record {
-        numbered = simp (t, u);
-        valued = simp (t, u);
+      numbered = simp (t, u);
+      valued = simp (t, u);
     }
 
 pub returns-then-is_blank : goal.returns-then-is_blank
@@ -30,8 +30,8 @@ returns-then-is_blank c =
     let u = sym c.is_shaped.ensures ∙ c.if-not-is_shaped.false in
     let v = sym c.is_blank.ensures ∙ c.if-is_blank.true in
     record {
-        numbered = simp (t, u, v);
-        valued = simp (t, u, v);
+      numbered = simp (t, u, v);
+      valued = simp (t, u, v);
     }
 
 pub found_within-requires : goal.found_within-requires
@@ -45,6 +45,6 @@ returns c =
     let u = sym c.is_shaped.ensures ∙ c.if-not-is_shaped.false in
     let v = sym c.is_blank.ensures ∙ c.if-is_blank.false in
     record {
-        numbered = c.found_within.ensures.numbered ∙ sym (simp (t, u, v));
-        valued = c.found_within.ensures.valued ∙ sym (simp (t, u, v));
+      numbered = c.found_within.ensures.numbered ∙ sym (simp (t, u, v));
+      valued = c.found_within.ensures.valued ∙ sym (simp (t, u, v));
     }

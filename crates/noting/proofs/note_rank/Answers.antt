@@ -25,8 +25,8 @@ returns-then-mark-m c =
     let a = c.args in
     let e = rank_on a.r a.rank a.count (before) (rw c.word-mark.ensures at c.if-mark-m.true) in
     record {
-        noted = rw e;
-        counted = rw e;
+      noted = rw e;
+      counted = rw e;
     }
 
 pub note-noted-requires : goal.note-noted-requires
@@ -55,8 +55,8 @@ returns-then-noted-lt-PAIR_BASE c =
     let low = rw c.note-noted.ensures at c.if-noted-lt-PAIR_BASE.true in
     let f = rank_first a.r a.rank a.count (before) _ (split) low in
     record {
-        noted = first (before) _ _ _ a.count c.put_note.ensures c.put_word.ensures c.note-noted.ensures ∙ rw f;
-        counted = rw f;
+      noted = first (before) _ _ _ a.count c.put_note.ensures c.put_word.ensures c.note-noted.ensures ∙ rw f;
+      counted = rw f;
     }
 
 pub returns-then-s-count : goal.returns-then-s-count
@@ -66,8 +66,8 @@ returns-then-s-count c =
     let a = c.args in
     let f = rank_full a.r a.rank a.count (before) _ (split) (rw c.note-noted.ensures at c.if-noted-lt-PAIR_BASE.false) (omega (arith, c.if-s-count.true, (parts_fit c.requires.0).stash_size)) in
     record {
-        noted = rw f;
-        counted = rw f;
+      noted = rw f;
+      counted = rw f;
     }
 
 pub put_stashed-requires : goal.put_stashed-requires
@@ -84,6 +84,6 @@ returns c =
     let a = c.args in
     let f = rank_later a.r a.rank a.count (before) _ (split) (rw c.note-noted.ensures at c.if-noted-lt-PAIR_BASE.false) (omega (arith, c.if-s-count.false, (parts_fit c.requires.0).stash_size)) in
     record {
-        noted = later (before) _ _ _ c.put_stashed.ensures c.put_word-2.ensures ∙ rw f;
-        counted = rw (f, add-one);
+      noted = later (before) _ _ _ c.put_stashed.ensures c.put_word-2.ensures ∙ rw f;
+      counted = rw (f, add-one);
     }

@@ -11,8 +11,8 @@ use Rattle.ordered.proofs.drop_doubles.Goals as goal
 pub returns-then-keys-eq0 : goal.returns-then-keys-eq0
 returns-then-keys-eq0 c =
     let e = distinct_none c.before.before.args.keys.now c.if-keys-eq0.true in record {
-        front = sym e;
-        counted = sym (ap length e);
+      front = sym e;
+      counted = sym (ap length e);
     }
 
 pub loop-i-init : goal.loop-i-init
@@ -35,6 +35,6 @@ returns c =
     let e = l.invariant.3 ∙ keeping_last l.keys l.n l.i (omega arith) (omega arith) in
     let s = set l.keys l.n (get_or l.keys l.i 0) in
     record {
-        front = sym e;
-        counted = omega (arith, ap length e, length-take (l.n + 1) s, length-set l.keys l.n (get_or l.keys l.i 0));
+      front = sym e;
+      counted = omega (arith, ap length e, length-take (l.n + 1) s, length-set l.keys l.n (get_or l.keys l.i 0));
     }

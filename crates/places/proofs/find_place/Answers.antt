@@ -20,8 +20,8 @@ among-requires c = simp (length-take, length-drop) (omega (arith, c.requires.0))
 pub returns-then-not-among : goal.returns-then-not-among
 returns-then-not-among c =
     record {
-        numbered = refl;
-        valued = not_among c.args.places.now c.args.count c.args.key (omega (arith, c.requires.0))
+      numbered = refl;
+      valued = not_among c.args.places.now c.args.count c.args.key (omega (arith, c.requires.0))
           (sym c.among.ensures ∙ c.if-not-among.true);
     }
 
@@ -32,8 +32,8 @@ pub returns-then-key-places : goal.returns-then-key-places
 returns-then-key-places c =
     let a = c.args in
     record {
-        numbered = refl;
-        valued = place_here a.places.now a.count a.key (omega arith) c.if-key-places.true ∙ sym c.loop-i.invariant.1;
+      numbered = refl;
+      valued = place_here a.places.now a.count a.key (omega arith) c.if-key-places.true ∙ sym c.loop-i.invariant.1;
     }
 
 pub loop-i-preserved : goal.loop-i-preserved
@@ -46,6 +46,6 @@ returns c =
     let a = c.args in
     let e : c.loop-i.i ≡ a.count = omega (arith, c.loop-i.invariant.0) in
     record {
-        numbered = refl;
-        valued = no_place a.places.now a.count a.key ∙ sym (rw e at c.loop-i.invariant.1);
+      numbered = refl;
+      valued = no_place a.places.now a.count a.key ∙ sym (rw e at c.loop-i.invariant.1);
     }

@@ -13,9 +13,9 @@ loop-slot-init c = (c.requires, omega arith, λ p l. absurd (omega arith))
 
 pub returns-then-word-eq0 : goal.returns-then-word-eq0
 returns-then-word-eq0 c = record {
-        inside = omega arith;
-        unpassed = empty c.if-word-eq0.true;
-    }
+  inside = omega arith;
+  unpassed = empty c.if-word-eq0.true;
+}
 
 pub loop-slot-preserved : goal.loop-slot-preserved
 loop-slot-preserved c =
@@ -45,6 +45,6 @@ pub returns : goal.returns
 returns c =
     let l = c.loop-slot in
     record {
-        inside = l.invariant.0;
-        unpassed = none-larger (λ p k. l.invariant.2 p (omega arith));
+      inside = l.invariant.0;
+      unpassed = none-larger (λ p k. l.invariant.2 p (omega arith));
     }

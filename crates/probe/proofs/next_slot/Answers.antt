@@ -6,6 +6,6 @@ use Rattle.probe.proofs.next_slot.Goals as goal
 
 pub returns : goal.returns
 returns c = record {
-        at = c.wrapped.ensures.at ∙ wrap_after _ _ c.requires;
-        inside = c.wrapped.ensures.inside;
-    }
+  at = c.wrapped.ensures.at ∙ wrap_after _ _ c.requires;
+  inside = c.wrapped.ensures.inside;
+}

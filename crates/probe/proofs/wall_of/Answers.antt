@@ -14,8 +14,8 @@ returns-then-word-eq0 c =
     let l = c.loop-wall in
     let z = rw c.slot_of.ensures.at at c.if-word-eq0.true in
     record {
-        at = sym (l.invariant.1 ∙ wall_stop _ a.words.now a.base a.key l.wall (omega arith) (λ k. omega (arith, z)));
-        inside = l.invariant.0;
+      at = sym (l.invariant.1 ∙ wall_stop _ a.words.now a.base a.key l.wall (omega arith) (λ k. omega (arith, z)));
+      inside = l.invariant.0;
     }
 
 pub returns-then-word-key : goal.returns-then-word-key
@@ -24,8 +24,8 @@ returns-then-word-key c =
     let l = c.loop-wall in
     let z = rw c.slot_of.ensures.at at c.if-word-key.true in
     record {
-        at = sym (l.invariant.1 ∙ wall_stop _ a.words.now a.base a.key l.wall (omega arith) (λ k. z));
-        inside = l.invariant.0;
+      at = sym (l.invariant.1 ∙ wall_stop _ a.words.now a.base a.key l.wall (omega arith) (λ k. z));
+      inside = l.invariant.0;
     }
 
 pub loop-wall-smaller : goal.loop-wall-smaller
@@ -57,6 +57,6 @@ returns c =
     let a = c.args in
     let l = c.loop-wall in
     record {
-        at = sym (l.invariant.1 ∙ wall_end _ a.words.now a.base a.key l.wall (omega arith));
-        inside = omega arith;
+      at = sym (l.invariant.1 ∙ wall_end _ a.words.now a.base a.key l.wall (omega arith));
+      inside = omega arith;
     }

@@ -6,12 +6,12 @@ use Rattle.probe.proofs.wrapped.Goals as goal
 
 pub returns-then-number-slots : goal.returns-then-number-slots
 returns-then-number-slots c = record {
-        at = sym (wrap_low _ _ c.if-number-slots.true);
-        inside = c.if-number-slots.true;
-    }
+  at = sym (wrap_low _ _ c.if-number-slots.true);
+  inside = c.if-number-slots.true;
+}
 
 pub returns : goal.returns
 returns c = record {
-        at = sym (wrap_high _ _ c.if-number-slots.false);
-        inside = omega arith;
-    }
+  at = sym (wrap_high _ _ c.if-number-slots.false);
+  inside = omega arith;
+}

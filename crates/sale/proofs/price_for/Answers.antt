@@ -19,8 +19,7 @@ returns-then-not-are_steps c = no_step _ _ _ (sym c.are_steps.ensures ∙ c.if-n
 pub litre_price-requires : goal.litre_price-requires
 litre_price-requires c =
     let based : base_in_range c.args.base ≡ true = sym c.is_base.ensures ∙ c.if-not-is_base.false in
-    let all-based : all_in_range c.args.steps.now ≡ true = sym c.are_steps.ensures ∙ c.if-not-are_steps.false in
-    (
+    let all-based : all_in_range c.args.steps.now ≡ true = sym c.are_steps.ensures ∙ c.if-not-are_steps.false in (
       based,
       step_ready c.args.base c.args.steps.now c.args.tier (based) c.if-steps-ne-STEPS.false (all-based) c.requires
           c.wide.result c.wide.ensures c.step-1.given,

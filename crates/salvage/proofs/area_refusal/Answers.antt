@@ -4,8 +4,7 @@ use mathlib.Core.Bool.{true}
 use native.Mathlib.Omega.{arith}
 use borrow.Author.Tests.{eq-eqb, ne_eqb, lt-ltb, le-ltb}
 use Rattle.layout.specs.Layout.{shaped}
-use Rattle.layout.proofs.Shape.{shape}
-use Rattle.layout.proofs.Shape.{same_header}
+use Rattle.layout.proofs.Shape.{shape, same_header}
 use Rattle.salvage.proofs.area_refusal.Goals as goal
 
 pub returns-then-tabulation-ne-TABULATION_LENGTH : goal.returns-then-tabulation-ne-TABULATION_LENGTH

@@ -24,8 +24,8 @@ returns-then-is_issue-2 c =
     let ws = a.words.now in
     let rest = slot_entry ws a.second ∷ stash_entries ws in
     let missed : sound_issue (slot_entry ws a.first ∷ rest) a.key ≡ sound_issue rest a.key =
-        slot_further ws a.first a.key rest c.key_in-c.ensures c.slot_tier-t.ensures c.first_part-part.ensures
-        c.is_issue.ensures c.if-is_issue.false in
+    slot_further ws a.first a.key rest c.key_in-c.ensures c.slot_tier-t.ensures c.first_part-part.ensures
+    c.is_issue.ensures c.if-is_issue.false in
     slot_here ws a.second a.key (stash_entries ws) c.key_in-d.ensures
     c.slot_tier-u.ensures c.first_part-part.ensures c.is_issue-2.ensures c.if-is_issue-2.true
     ∙ sym missed
@@ -42,8 +42,8 @@ returns c =
     let ws = a.words.now in
     let rest = slot_entry ws a.second ∷ stash_entries ws in
     let missed : sound_issue (slot_entry ws a.first ∷ rest) a.key ≡ sound_issue rest a.key =
-        slot_further ws a.first a.key rest c.key_in-c.ensures c.slot_tier-t.ensures c.first_part-part.ensures
-        c.is_issue.ensures c.if-is_issue.false in
+    slot_further ws a.first a.key rest c.key_in-c.ensures c.slot_tier-t.ensures c.first_part-part.ensures
+    c.is_issue.ensures c.if-is_issue.false in
     let h = same_header c.read_header-header.ensures in
     let p = stash_lent ws (c.stash_start-start.ensures ∙ ap stash_at h.slots)
     (c.wide-count.ensures ∙ h.places) in

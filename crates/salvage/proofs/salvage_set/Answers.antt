@@ -1,8 +1,7 @@
 -- `salvage::salvage_set` meets its contract: 15 by how many spots are occupied and how many count, or the survivors.
 use mathlib.Core.Path.{refl, sym, ◌∙◌, ap}
 use native.Mathlib.Omega.{arith}
-use Rattle.layout.specs.Shape.{shape}
-use Rattle.layout.proofs.Shape.{same_header}
+use Rattle.layout.proofs.Shape.{shape, same_header}
 use Rattle.survivors.specs.declared.Salvaged.TheVariants.{Lost}
 use Rattle.salvage.specs.Salvaging.{hopeless, saved, hopeless_test, lost_left, salvable_hashing}
 use borrow.Author.Rules.{rules}

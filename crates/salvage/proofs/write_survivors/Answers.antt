@@ -22,9 +22,9 @@ choose-m-requires c =
     let a = c.args in
     let m = c.make_set-n in
     let stand : CandidatesStand a.tabulation.now a.words.now
-        (put_mid 1 (length a.scratch.now - 1) a.scratch.now m.new.keys) a.header.slots a.header.places a.header.station
-        m.result =
-        gathered_candidates c.requires m.new.keys m.auto.keys m.ensures.counted m.ensures.front in
+    (put_mid 1 (length a.scratch.now - 1) a.scratch.now m.new.keys) a.header.slots a.header.places a.header.station
+    m.result =
+    gathered_candidates c.requires m.new.keys m.auto.keys m.ensures.counted m.ensures.front in
     stand
 
 pub overflow_cast-m : goal.overflow_cast-m
@@ -32,9 +32,9 @@ overflow_cast-m c =
     let a = c.args in
     let m = c.make_set-n in
     let stand : CandidatesStand a.tabulation.now a.words.now
-        (put_mid 1 (length a.scratch.now - 1) a.scratch.now m.new.keys) a.header.slots a.header.places a.header.station
-        m.result =
-        gathered_candidates c.requires m.new.keys m.auto.keys m.ensures.counted m.ensures.front in
+    (put_mid 1 (length a.scratch.now - 1) a.scratch.now m.new.keys) a.header.slots a.header.places a.header.station
+    m.result =
+    gathered_candidates c.requires m.new.keys m.auto.keys m.ensures.counted m.ensures.front in
     omega (arith, chosen_few stand c.choose-m.ensures.0, (choosing_shaped stand).sizes)
 
 pub commit-requires : goal.commit-requires
@@ -42,9 +42,9 @@ commit-requires c =
     let a = c.args in
     let m = c.make_set-n in
     let stand : CandidatesStand a.tabulation.now a.words.now
-        (put_mid 1 (length a.scratch.now - 1) a.scratch.now m.new.keys) a.header.slots a.header.places a.header.station
-        m.result =
-        gathered_candidates c.requires m.new.keys m.auto.keys m.ensures.counted m.ensures.front in
+    (put_mid 1 (length a.scratch.now - 1) a.scratch.now m.new.keys) a.header.slots a.header.places a.header.station
+    m.result =
+    gathered_candidates c.requires m.new.keys m.auto.keys m.ensures.counted m.ensures.front in
     chosen_committable stand a.target.now c.requires.salvable.size c.choose-m.auto.scratch
     c.choose-m.ensures.0 c.choose-m.ensures.1 c.requires.heading c.with_keys-heading.ensures
 
@@ -53,8 +53,8 @@ returns c =
     let a = c.args in
     let m = c.make_set-n in
     let stand : CandidatesStand a.tabulation.now a.words.now
-        (put_mid 1 (length a.scratch.now - 1) a.scratch.now m.new.keys) a.header.slots a.header.places a.header.station
-        m.result =
-        gathered_candidates c.requires m.new.keys m.auto.keys m.ensures.counted m.ensures.front in
+    (put_mid 1 (length a.scratch.now - 1) a.scratch.now m.new.keys) a.header.slots a.header.places a.header.station
+    m.result =
+    gathered_candidates c.requires m.new.keys m.auto.keys m.ensures.counted m.ensures.front in
     chosen_committed stand a.target.now c.requires.salvable.size c.choose-m.auto.scratch
     c.choose-m.ensures.0 c.choose-m.ensures.1 c.requires.heading c.with_keys-heading.ensures c.commit.ensures

@@ -14,12 +14,12 @@ tier_at-requires c =
 pub returns-then-is_at : goal.returns-then-is_at
 returns-then-is_at c =
     record {
-        numbered = refl;
-        valued = rw (sym c.is_at.ensures ∙ c.if-is_at.true, c.tier_at.ensures) refl;
+      numbered = refl;
+      valued = rw (sym c.is_at.ensures ∙ c.if-is_at.true, c.tier_at.ensures) refl;
     }
 
 pub returns : goal.returns
 returns c = record {
-        numbered = refl;
-        valued = rw (sym c.is_at.ensures ∙ c.if-is_at.false) refl;
-    }
+  numbered = refl;
+  valued = rw (sym c.is_at.ensures ∙ c.if-is_at.false) refl;
+}

@@ -10,11 +10,10 @@ returns-in_default c =
     full_built _ c.requires c.prepare-count.ensures.prepared (sym c.in_default.is ∙ c.prepare-count.ensures.counted)
 
 pub seat-requires : goal.seat-requires
-seat-requires c =
-    (
-      enough_kept (enough c.requires) c.prepare-count.auto.scratch,
-      mid_finishable _ c.requires c.prepare-count.ensures.prepared (sym c.in-Ranks.is ∙ c.prepare-count.ensures.counted),
-    )
+seat-requires c = (
+  enough_kept (enough c.requires) c.prepare-count.auto.scratch,
+  mid_finishable _ c.requires c.prepare-count.ensures.prepared (sym c.in-Ranks.is ∙ c.prepare-count.ensures.counted),
+)
 
 pub returns : goal.returns
 returns c =

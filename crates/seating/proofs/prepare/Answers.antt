@@ -36,4 +36,4 @@ returns c =
     after_four a.r a.s a.n (before) c.note_smallest.ensures c.clear_notes.ensures c.label_ranks.ensures c.link_ranks.ensures in
     let before : Parts = let a = c.args in parts a.r a.s a.n a.scratch.now in
     let a = c.args in
- let all = noted_whole a.r a.s a.n (before) (smallest) c.note_closing.ensures.noted c.note_closing.ensures.counted in record { prepared = all.0; counted = all.1 }
+    let all = noted_whole a.r a.s a.n (before) (smallest) c.note_closing.ensures.noted c.note_closing.ensures.counted in record { prepared = all.0; counted = all.1 }

@@ -8,15 +8,15 @@ use Rattle.stolen_table.proofs.init.Goals as goal
 pub returns-then-not-are_slots : goal.returns-then-not-are_slots
 unfolding stolen_init_refusal stolen_init_words
 returns-then-not-are_slots c = let t = sym c.are_slots.ensures ∙ c.if-not-are_slots.true in record {
-        numbered = rw t;
-        laid = rw t;
-    }
+  numbered = rw t;
+  laid = rw t;
+}
 
 pub returns : goal.returns
 unfolding stolen_init_refusal stolen_init_words
 returns c =
     let t = sym c.are_slots.ensures ∙ c.if-not-are_slots.false in
     record {
-        numbered = rw t;
-        laid = rw t c.fill.ensures;
+      numbered = rw t;
+      laid = rw t c.fill.ensures;
     }

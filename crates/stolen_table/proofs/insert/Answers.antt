@@ -145,6 +145,6 @@ returns c =
     ∙ carried a.tabulation.now ws a.station (ready) a.key (image) (named) y z in
     let n : stolen_insert_refusal a.tabulation.now ws a.station a.key ≡ 0 = rw (t, shaped, image, named, y, z) in
     record {
-        numbered = sym n;
-        laid = put ∙ sym (insert_accepted a.tabulation.now ws a.station a.key n);
+      numbered = sym n;
+      laid = put ∙ sym (insert_accepted a.tabulation.now ws a.station a.key n);
     }

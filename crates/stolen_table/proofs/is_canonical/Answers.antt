@@ -65,9 +65,9 @@ loop-turn-preserved c =
     elim c.if-key-ne0.branch [
       | goal.then-key-ne0+else-not-is_right w ↦
           let walled : w.wall_of-wall.result ≡ wall-at (length ws) ws a.base (turn_word (length ws) ws a.base l.turn) l.turn =
-              rw at at w.wall_of-wall.ensures.at in
+          rw at at w.wall_of-wall.ensures.at in
           let judged = (rw (at, walled) at w.is_right.ensures)
-              ∙ sym (settled_key _ ws a.base _ l.turn (rw at at w.if-key-ne0.true)) in
+          ∙ sym (settled_key _ ws a.base _ l.turn (rw at at w.if-key-ne0.true)) in
           let u = sym judged ∙ w.if-not-is_right.false in
           rw w.walls-is (
             omega arith,

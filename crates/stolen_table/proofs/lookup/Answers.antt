@@ -16,9 +16,9 @@ use Rattle.stolen_table.proofs.lookup.Goals as goal
 pub returns-then-tabulation-ne-TABULATION_LENGTH : goal.returns-then-tabulation-ne-TABULATION_LENGTH
 unfolding stolen_lookup_refusal stolen_lookup_values
 returns-then-tabulation-ne-TABULATION_LENGTH c = let t = ne_eqb _ _ c.if-tabulation-ne-TABULATION_LENGTH.true in record {
-        numbered = simp t;
-        valued = simp t;
-    }
+  numbered = simp t;
+  valued = simp t;
+}
 
 pub returns-then-not-in_shape : goal.returns-then-not-in_shape
 unfolding stolen_lookup_refusal stolen_lookup_values
@@ -26,8 +26,8 @@ returns-then-not-in_shape c =
     let t = eq-eqb _ _ c.if-tabulation-ne-TABULATION_LENGTH.false in
     let u = sym c.in_shape.ensures ∙ c.if-not-in_shape.true in
     record {
-        numbered = simp (t, u);
-        valued = simp (t, u);
+      numbered = simp (t, u);
+      valued = simp (t, u);
     }
 
 pub returns-then-is_blank : goal.returns-then-is_blank
@@ -37,8 +37,8 @@ returns-then-is_blank c =
     let t = eq-eqb _ _ c.if-tabulation-ne-TABULATION_LENGTH.false in
     let v = sym c.is_blank.ensures ∙ c.if-is_blank.true in
     record {
-        numbered = simp (t, shaped, v);
-        valued = simp (t, shaped, v);
+      numbered = simp (t, shaped, v);
+      valued = simp (t, shaped, v);
     }
 
 pub start_of-start-requires : goal.start_of-start-requires
@@ -64,8 +64,8 @@ returns-then-is_found c =
     lookup_accepted a.tabulation.now a.words.now a.station a.key (passed)
     ∙ ap says (sym (rw c.start_of-start.ensures.at at c.is_found.ensures)) in
     record {
-        numbered = sym (passed);
-        valued = sym (told ∙ ap says c.if-is_found.true);
+      numbered = sym (passed);
+      valued = sym (told ∙ ap says c.if-is_found.true);
     }
 
 pub returns : goal.returns
@@ -81,6 +81,6 @@ returns c =
     lookup_accepted a.tabulation.now a.words.now a.station a.key (passed)
     ∙ ap says (sym (rw c.start_of-start.ensures.at at c.is_found.ensures)) in
     record {
-        numbered = sym (passed);
-        valued = sym (told ∙ ap says c.if-is_found.false);
+      numbered = sym (passed);
+      valued = sym (told ∙ ap says c.if-is_found.false);
     }

@@ -11,6 +11,6 @@ returns c =
     let a = c.args in
     let e = c.wide.ensures ∙ c.hash_in.ensures in
     record {
-        at = e;
-        inside = omega (arith, e, slot_0_lt (tables a.tabulation.now a.slots a.station) c.requires.has_slots a.key);
+      at = e;
+      inside = omega (arith, e, slot_0_lt (tables a.tabulation.now a.slots a.station) c.requires.has_slots a.key);
     }

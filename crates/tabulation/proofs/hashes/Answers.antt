@@ -13,9 +13,9 @@ use Rattle.tabulation.proofs.hashes.Goals as goal
 pub returns-then-tabulation-ne-TABULATION_LENGTH : goal.returns-then-tabulation-ne-TABULATION_LENGTH
 unfolding hashes_refusal hashes_values
 returns-then-tabulation-ne-TABULATION_LENGTH c = let t = ne_eqb _ _ c.if-tabulation-ne-TABULATION_LENGTH.true in record {
-        numbered = simp t;
-        valued = simp t;
-    }
+  numbered = simp t;
+  valued = simp t;
+}
 
 pub returns-then-not-in_range : goal.returns-then-not-in_range
 unfolding hashes_refusal hashes_values
@@ -23,8 +23,8 @@ returns-then-not-in_range c =
     let t = eq-eqb _ _ c.if-tabulation-ne-TABULATION_LENGTH.false in
     let u = sym c.in_range.ensures ∙ c.if-not-in_range.true in
     record {
-        numbered = simp (t, u);
-        valued = simp (t, u);
+      numbered = simp (t, u);
+      valued = simp (t, u);
     }
 
 pub returns-then-not-is_station : goal.returns-then-not-is_station
@@ -34,8 +34,8 @@ returns-then-not-is_station c =
     let u = sym c.in_range.ensures ∙ c.if-not-in_range.false in
     let v = sym c.is_station.ensures ∙ c.if-not-is_station.true in
     record {
-        numbered = simp (t, u, v);
-        valued = simp (t, u, v);
+      numbered = simp (t, u, v);
+      valued = simp (t, u, v);
     }
 
 pub returns-then-is_blank : goal.returns-then-is_blank
@@ -47,8 +47,8 @@ returns-then-is_blank c =
     let t = eq-eqb _ _ (full) in
     let v = sym c.is_blank.ensures ∙ c.if-is_blank.true in
     record {
-        numbered = simp (t, ranged, placed, v);
-        valued = simp (t, ranged, placed, v);
+      numbered = simp (t, ranged, placed, v);
+      valued = simp (t, ranged, placed, v);
     }
 
 pub hash_in-requires : goal.hash_in-requires
@@ -76,6 +76,6 @@ returns c =
     let t = eq-eqb _ _ (full) in
     let v = sym c.is_blank.ensures ∙ c.if-is_blank.false in
     record {
-        numbered = simp (t, ranged, placed, v);
-        valued = simp (t, ranged, placed, v, c.hash_in.ensures, c.hash_in-2.ensures);
+      numbered = simp (t, ranged, placed, v);
+      valued = simp (t, ranged, placed, v, c.hash_in.ensures, c.hash_in-2.ensures);
     }

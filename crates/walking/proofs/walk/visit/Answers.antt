@@ -11,6 +11,6 @@ bounds-scratch-wide-2 c = let n = c.requires.1 in simp length-set (omega (arith,
 pub returns : goal.returns
 returns c =
     record {
-        held = c.key_in-key.ensures;
-        marked = noted_as c.key_in-key.result c.args.scratch.now c.wide.ensures c.wide-2.ensures c.wide-3.ensures;
+      held = c.key_in-key.ensures;
+      marked = noted_as c.key_in-key.result c.args.scratch.now c.wide.ensures c.wide-2.ensures c.wide-3.ensures;
     }
