@@ -17,7 +17,7 @@ use Rattle.hashing.specs.Hash.{blank}
 use Rattle.hashing.proofs.Issues.{not_blank_iff}
 use Rattle.layout.specs.Entries.{Entry, max_tier, keys_of, tier_of}
 use Rattle.layout.specs.Layout.{ValidKeys, ValidSet, OneIssue}
-use Rattle.layout.proofs.Issues.{one_issue_iff}
+use Rattle.layout.proofs.IssuesAfter.{one_issue_iff}
 use Rattle.bulk.specs.Bulk.{input_keys, input_tiers, input_set, odd_length, rising, input_refusals}
 use Rattle.bulk.specs.Input.{SoundInput, input_of}
 

@@ -20,7 +20,7 @@ use Rattle.layout.specs.Layout.{image, keys_in, set_in}
 use Rattle.layout.proofs.Canonical.{canonical_true}
 use Rattle.layout.proofs.Shape.{same_header}
 use Rattle.layout.proofs.Standing.{keys_in_valid}
-use Rattle.layout.proofs.Issues.{listed_alone}
+use Rattle.layout.proofs.IssuesAfter.{listed_alone}
 use Rattle.layout.proofs.Fitting.{without_fits}
 use Rattle.build.specs.Scratch.{used}
 use Rattle.outcome.specs.declared.Change.{Change}

@@ -45,7 +45,7 @@ set_of_same {xs} {ys} p q =
     (λ u i. in_set_of xs u (q u (set_of_in ys u i)))
 
 -- a part of a set has no more keys
-sub_length : {K S : List ℕ} → Asc K → Sub K S → length K ≤ length S
+pub sub_length : {K S : List ℕ} → Asc K → Sub K S → length K ≤ length S
 sub_length {K} {S} h s = pigeonhole (λ c. c) S h s (λ c d i j e. e)
 
 module _ (a b : ℕ → ℕ) (s : ℕ) where
@@ -151,7 +151,7 @@ module _ (a b : ℕ → ℕ) (s : ℕ) where
   empty_good = record { asc = none; nonzero = λ i. elim i [ ]; fits = omega (arith, seated_stash_length a b [] none) }
 
   module _ (xs : List ℕ) (z : In 0 xs → ⊥) where
-    set_nonzero : In 0 (set_of xs) → ⊥
+    pub set_nonzero : In 0 (set_of xs) → ⊥
     set_nonzero i = z (set_of_in xs 0 i)
 
     -- A set of keys of the list that fits, and to which no other of them can be added, has a number of keys that
@@ -221,14 +221,6 @@ module _ (a b : ℕ → ℕ) (s : ℕ) where
     pub feed_length : length (feed a b s xs) ≡ min (length (set_of xs)) (length (seated a b (set_of xs)) + s)
     feed_length = maximal_length feed_asc feed_sub feed_fits refused_still
 
-    -- No choice lists more: a part of the list that fits has at most as many keys.
-    pub feed_most : {K : List ℕ} → Asc K → Sub K xs → length (stash a b K) ≤ s → length K ≤ length (feed a b s xs)
-    feed_most {K} h k l =
-        let up : Sub K (set_of xs) = λ u i. in_set_of xs u (k u i) in
-        let r = rank_most a b (seated_asc a b K h) (seated_stops a b K h) (set_of_asc xs) set_nonzero
-        (λ u i. up u (seated_sub a b K h u i)) in
-        omega (arith, feed_length, seated_stash_length a b K h, sub_length h up)
-
     -- Where all fit, all are listed, in whatever order they were fed.
     pub feed_all : length (stash a b (set_of xs)) ≤ s → feed a b s xs ≡ set_of xs
     feed_all l = asc_ext (feed a b s xs) (set_of xs) feed_asc (set_of_asc xs) feed_set (λ u i.
@@ -240,9 +232,3 @@ module _ (a b : ℕ → ℕ) (s : ℕ) where
               (λ v j. elim (with_cases u (feed a b s xs) j) [ inl q ↦ rw q i | inr k ↦ feed_set v k ]) in
               absurd (omega arith)
         ])
-
-  -- The number does not depend on the order: two lists with the same members, whatever their order and however often
-  -- each comes, list equally many.
-  pub any_order : (xs ys : List ℕ) → (In 0 xs → ⊥) → Sub xs ys → Sub ys xs
-      → length (feed a b s xs) ≡ length (feed a b s ys)
-  any_order xs ys z p q = feed_length xs z ∙ rw (set_of_same p q) (sym (feed_length ys (λ i. z (q 0 i))))

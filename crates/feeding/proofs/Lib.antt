@@ -1,3 +1,5 @@
 -- The laws of the crate `feeding`.
 pub mod Feeding
+pub mod FeedingAfter
 pub mod Rank
+pub mod RankAfter

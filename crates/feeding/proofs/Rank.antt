@@ -274,31 +274,3 @@ module _ (a b : ℕ → ℕ) {X : List ℕ} {c : ℕ} (h : Asc X) (z : In 0 X �
       ]) in
       let m = subset_fits a b h (asc_with c h) with_nonzero (λ d. with_there c X) in
       omega (arith, lengths.0, lengths.1, length_with c T (seated_asc a b X h) fresh)
-
-  -- A new key enlarges the stash exactly if both its slots lie in components with a cycle.
-  pub stash_with : (length (stash a b (with_key c X)) ≡ suc (length (stash a b X))) ↔ BothCyclic a b X c
-  stash_with = (
-    λ e. elim (both_cyclic? a b X c) [ inl k ↦ k | inr n ↦ absurd (omega (arith, other_keeps n)) ],
-    cyclic_grows,
-  )
-
--- Diminishing returns: a key that enlarges the stash of a set enlarges that of every larger one.
-pub diminishing : (a b : ℕ → ℕ) {A B : List ℕ} {c : ℕ} → Asc A → Asc B → Sub A B
-    → (In 0 B → ⊥) → (0 ≡ c → ⊥) → (In c B → ⊥)
-    → length (stash a b (with_key c A)) ≡ suc (length (stash a b A))
-    → length (stash a b (with_key c B)) ≡ suc (length (stash a b B))
-diminishing a b {c = c} hA hB s z nz new e =
-    cyclic_grows a b hB z nz new (both_mono s ((stash_with a b hA (λ i. z (s 0 i)) nz (λ i. new (s c i))).0 e))
-
--- Keys that enlarge the stash of X one by one enlarge it all together, each by one: no more are seated.
-pub together : (a b : ℕ → ℕ) {X S : List ℕ} → Asc X → Asc S → Sub X S → (In 0 S → ⊥)
-    → ((c : ℕ) → In c S → In c X ⊎ (length (stash a b (with_key c X)) ≡ suc (length (stash a b X))))
-    → length (seated a b S) ≡ length (seated a b X)
-together a b {X} {S} h k s z each =
-    let zX : In 0 X → ⊥ = λ i. z (s 0 i) in
-    let up = rank_most a b (seated_asc a b X h) (seated_stops a b X h) k z (λ c i. s c (seated_sub a b X h c i)) in
-    let down = rank_least a b h zX k (λ c i. elim (in? c X) [
-      | inl m ↦ inl m
-      | inr n ↦ elim (each c i) [ inl m ↦ inl m | inr e ↦ inr ((stash_with a b h zX (λ q. z (rw q i)) n).0 e) ]
-    ]) in
-    omega arith

@@ -20,7 +20,7 @@ use Rattle.layout.specs.Canonical.{canonical}
 use Rattle.layout.proofs.Canonical.{canonical_tier, canonical_true, image_of_canonical}
 use Rattle.layout.specs.Ready.{early_refusals, first_refusals, Ready}
 use Rattle.layout.proofs.Ready.{none_ready, head_ready}
-use Rattle.layout.proofs.Issues.{one_issue_iff}
+use Rattle.layout.proofs.IssuesAfter.{one_issue_iff}
 use Rattle.layout.proofs.Standing.{keys_in_valid}
 use Rattle.build.specs.Scratch.{used}
 use Rattle.build.specs.Build.{Built, Buildable}

@@ -28,7 +28,8 @@ use Rattle.counters.specs.declared.Counters.{Counters}
 use Rattle.outcome.specs.Outcome.{changed, set_refusals, change_outcome}
 use Rattle.outcome.proofs.Laws.{change_answer, change_refused, change_tabulation, change_any_scratch}
 use Rattle.outcome.specs.Held.{Holds}
-use Rattle.outcome.proofs.Held.{held_refusal, held_changed}
+use Rattle.outcome.proofs.Held.{held_refusal}
+use Rattle.outcome.proofs.HeldAfter.{held_changed}
 use Rattle.history.specs.Calls.{Lent, own, wrong, lent_of, Call, step}
 use Rattle.history.specs.Model.{Request, put_in, take_out, new_set, wrong_length, too_short, change_tests, reply}
 use Rattle.history.specs.Agrees.{Agrees}

@@ -22,8 +22,9 @@ use Rattle.outcome.proofs.Laws.{change_tabulation}
 use Rattle.outcome.specs.Trail.{trail_of, trail_outcome}
 use Rattle.outcome.proofs.TrailLaws.{trail_done, held_asked, held_trail}
 use Rattle.survivors.specs.Salvage.{salvage_outcome}
-use Rattle.survivors.proofs.Laws.{untampered_number, untampered_target, untampered_values}
-use Rattle.outcome.proofs.Held.{issue_absent, held_some, held_undone, insert_kept, held_reissued}
+use Rattle.survivors.proofs.LawsAfter.{untampered_number, untampered_target, untampered_values}
+use Rattle.outcome.proofs.Held.{issue_absent, held_some}
+use Rattle.outcome.proofs.HeldAfter.{held_undone, insert_kept, held_reissued}
 use Rattle.history.specs.Calls.{Lent, own, wrong, lent_of, Other, Call, Answer, Step, step, run, words_left}
 use Rattle.history.specs.Calls.{MayStand, Allowed, none, more, Sequence}
 use Rattle.history.specs.Model.{Request, request, requests, Reply, lookup_tests, reply, model, set_left}

@@ -31,13 +31,15 @@ use Rattle.bulk.specs.Bulk.{params_for, input_set, bulk_refusal, bulk_outcome}
 use Rattle.bulk.specs.Input.{input_of}
 use Rattle.bulk.proofs.Laws.{bulk_holds}
 use Rattle.survivors.specs.Salvage.{salvage_outcome}
-use Rattle.survivors.proofs.Laws.{alike_survivors, salvage_by_spots, held_survivors, untampered_number, untampered_target}
+use Rattle.survivors.proofs.Laws.{alike_survivors, held_survivors}
+use Rattle.survivors.proofs.LawsAfter.{salvage_by_spots, untampered_number, untampered_target}
 use Rattle.history.specs.Calls.{own, wrong, Call, Answer, Step, step, run, words_after, words_left}
 use Rattle.history.specs.Calls.{refused, unchanged, Allowed, none, more, laid, loaded, salvaged, Sequence}
 use Rattle.history.specs.Model.{Request, requests, Reply, reply, model, set_after, set_left}
 use Rattle.history.proofs.History.{history}
 use Rattle.history.specs.NoTrace.{ComesToFull, step_after, NoTrace}
-use Rattle.history.proofs.NoTrace.{part, alike_self, no_trace}
+use Rattle.history.proofs.NoTrace.{part}
+use Rattle.history.proofs.NoTraceAfter.{alike_self, no_trace}
 use Rattle.history.specs.Sales.{opening, closing}
 use Rattle.history.proofs.Sales.{sale_stays}
 use Rattle.history.proofs.Corollaries.{same_answers}

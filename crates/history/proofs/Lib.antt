@@ -5,6 +5,7 @@ pub mod Corollaries
 pub mod Example
 pub mod History
 pub mod NoTrace
+pub mod NoTraceAfter
 pub mod Others
 pub mod ReadsLaws
 pub mod Sales

@@ -75,16 +75,16 @@ one_set h h' e = (image_one (rw e at h.is) h'.is refl (held_some h)).1
 
 module _ {P : Params} {L₀ L₀' : List Entry} {ws ws' : List ℕ} {cs cs' : List Call}
     (q : Sequence P L₀ ws cs) (q' : Sequence P L₀' ws' cs') where
-  words_say_set : words_left P ws cs ≡ words_left P ws' cs' → set_left P L₀ ws cs ≡ set_left P L₀' ws' cs'
+  pub words_say_set : words_left P ws cs ≡ words_left P ws' cs' → set_left P L₀ ws cs ≡ set_left P L₀' ws' cs'
   words_say_set e = one_set (history q).final (history q').final e
 
-  set_says_words : set_left P L₀ ws cs ≡ set_left P L₀' ws' cs' → words_left P ws cs ≡ words_left P ws' cs'
+  pub set_says_words : set_left P L₀ ws cs ≡ set_left P L₀' ws' cs' → words_left P ws cs ≡ words_left P ws' cs'
   set_says_words e = one_image (history q).final (history q').final e
 
 -- later calls
 
 -- Like calls answer and leave the same on the same words, one line for each kind of call, with its lemma;
-like_step : (t ws : List ℕ) {c c' : Call} → Like t c c' → step t ws c ≡ step t ws c'
+pub like_step : (t ws : List ℕ) {c c' : Call} → Like t c c' → step t ws c ≡ step t ws c'
 like_step t ws (Like.change kind {l} {l'} {scratch} {scratch'} counters counters' key e f) =
     change_like t ws kind l l' scratch scratch' counters counters' key e f
 like_step t ws (Like.lookup {l} {l'} key e) = lookup_like t ws l l' e key
@@ -92,23 +92,13 @@ like_step t ws (Like.check {l} {l'} {scratch} {scratch'} e f) = check_like t ws 
 like_step t ws Like.view = refl
 like_step t ws (Like.other x x' f g) = other_like t ws x x' (f ws) (g ws)
 
--- and so do sequences of them.
-alike_run : (t ws : List ℕ) {cs cs' : List Call} → Alike t cs cs' → run t ws cs ≡ run t ws cs'
-unfolding run
-alike_run t ws end = refl
-alike_run t ws (then {c} {c'} {cs} {cs'} l a) = rw (like_step t ws l, alike_run t (step t ws c').words a)
-
 -- Every call is like itself, one line for each kind again, and so is every sequence of calls.
-like_self : (t : List ℕ) (c : Call) → Like t c c
+pub like_self : (t : List ℕ) (c : Call) → Like t c c
 like_self t (Call.change kind l scratch counters key) = Like.change kind counters counters key refl refl
 like_self t (Call.lookup l key) = Like.lookup key refl
 like_self t (Call.check l scratch) = Like.check refl refl
 like_self t Call.view = Like.view
 like_self t (Call.other x) = Like.other x x (λ ws. refl) (λ ws. refl)
-
-pub alike_self : (t : List ℕ) (cs : List Call) → Alike t cs cs
-alike_self t [] = end
-alike_self t (c ∷ cs) = then (like_self t c) (alike_self t cs)
 
 -- each of seven refusals of which none applies
 none_seven : {p q r s t u v : ℕ × Bool} → None (p ∷ q ∷ r ∷ s ∷ t ∷ u ∷ v ∷ [])
@@ -164,13 +154,3 @@ full_insert {P} q own scratch counters key tier h =
     let room : scratch_length P.slots P.places ≤ length scratch = ltb-false (length scratch) _ h.long_enough in
     held_full (history q).final q.full_length scratch room key h.not_blank tier h.small_tier h.no_other h.absent
 full_insert {P} q (wrong t n) scratch counters key tier h = absurd (true≢false (sym (wrong_lent P t n) ∙ h.right_length))
-
--- THE theorem of demand 3: no past leaves a trace.
-pub no_trace : {P : Params} {L₀ : List Entry} {ws : List ℕ} {cs : List Call} → Sequence P L₀ ws cs → NoTrace P L₀ ws cs
-no_trace {P} q = record {
-  follows = history q;
-  same_words = λ q'. (words_say_set q q', set_says_words q q');
-  same_later = λ {L₀'} {ws'} {cs'} q' e {t} a. rw (set_says_words q q' e) (alike_run t (words_left P ws' cs') a);
-  full = λ cs₁ cs₂ l scratch counters key tier e h.
-      full_insert (part cs₁ (Call.change (Insert tier) l scratch counters key ∷ cs₂) (rw e at q)) l scratch counters key tier h;
-}

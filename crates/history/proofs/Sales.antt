@@ -17,7 +17,7 @@ use Rattle.history.specs.Others.{reads}
 use Rattle.history.proofs.Others.{reads_stands}
 use Rattle.history.proofs.History.{history}
 use Rattle.history.specs.NoTrace.{step_after}
-use Rattle.history.proofs.NoTrace.{no_trace}
+use Rattle.history.proofs.NoTraceAfter.{no_trace}
 use Rattle.history.specs.Sales.{opening, closing, Act, all_calls, without_sales, others, SaleOf, call, opens, closes}
 
 -- The laws

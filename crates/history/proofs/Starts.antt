@@ -12,7 +12,7 @@ use Rattle.outcome.specs.Held.{Holds}
 use Rattle.bulk.specs.Input.{input_of}
 use Rattle.bulk.proofs.Input.{input_of_set}
 use Rattle.bulk.proofs.Laws.{bulk_accepted, bulk_holds}
-use Rattle.survivors.proofs.Laws.{salvage_accepted}
+use Rattle.survivors.proofs.LawsAfter.{salvage_accepted}
 use Rattle.history.specs.Calls.{Start, laid, loaded, salvaged}
 
 pub start_holds : {P : Params} {L : List Entry} {ws : List ℕ} → Start P L ws → Holds P L ws

@@ -16,7 +16,7 @@ use Rattle.hashing.specs.Stations.{Moved}
 use Rattle.hashing.specs.Slots.{slot_0, slot_1}
 use Rattle.layout.specs.Entries.{Entry, max_tier, keys_of, tier_of, tiered}
 use Rattle.layout.specs.Layout.{Params, family, ValidSet, another_issue, one_issue, fits, image, fits_by, slot_words_by, image_by}
-use Rattle.layout.proofs.Issues.{one_issue_iff}
+use Rattle.layout.proofs.IssuesAfter.{one_issue_iff}
 use Rattle.layout.specs.Ends.{Known}
 use Rattle.layout.proofs.Ends.{fits_known, image_known}
 use Rattle.layout.specs.Board.{board_entry, entries, board_tabulation, old_board, board, plain_0, plain_1, Row, RowHolds, rows, shows, full}

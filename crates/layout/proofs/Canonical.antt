@@ -18,9 +18,10 @@ use Rattle.hashing.proofs.Issues.{not_blank_iff}
 use Rattle.layout.specs.Layout.{Params, ValidKeys, ValidSet, OneIssue, one_issue, key_at, slots_of, params_of, params_in_range, shaped, fits, image, keys_in, tier_in, set_in}
 use Rattle.layout.proofs.Shape.{shape}
 use Rattle.layout.proofs.Image.{image_shaped, image_params}
-use Rattle.layout.proofs.Issues.{one_issue_iff}
+use Rattle.layout.proofs.IssuesAfter.{one_issue_iff}
 use Rattle.layout.specs.Standing.{KeyWord}
-use Rattle.layout.proofs.Standing.{keys_in_valid, keys_in_words, keys_in_image, set_in_image, image_key_in, image_next_in}
+use Rattle.layout.proofs.Standing.{keys_in_valid, keys_in_words, image_key_in, image_next_in}
+use Rattle.layout.proofs.StandingAfter.{keys_in_image, set_in_image}
 use Rattle.layout.specs.Canonical.{canonical, ImageOf, P}
 
 -- an image has one set

@@ -9,9 +9,11 @@ pub mod Fitting
 pub mod Fresh
 pub mod Image
 pub mod Issues
+pub mod IssuesAfter
 pub mod Look
 pub mod Ready
 pub mod Reissued
 pub mod Shape
 pub mod Smallest
 pub mod Standing
+pub mod StandingAfter

@@ -95,7 +95,7 @@ module _ (ws : List ℕ) where
       let l : w.0 < places_of ws = omega (arith, w.1, places_count) in
       in_stash w.0 l (sym (places_at w.0 l) ∙ w.2)
 
-  in_key_words : {c : ℕ} → In c (key_words ws) → KeyWord ws c
+  pub in_key_words : {c : ℕ} → In c (key_words ws) → KeyWord ws c
   in_key_words {c} h =
       let n = slots_of ws + slots_of ws in
       elim (Memᴰ.append_cases (map spot_key (slot_spots ws 0 n)) (rw (key_words_parts ws) at h)) [
@@ -103,7 +103,7 @@ module _ (ws : List ℕ) where
         | inr i ↦ stash_key_in i
       ]
 
-  key_word_in : {c : ℕ} → KeyWord ws c → In c (key_words ws)
+  pub key_word_in : {c : ℕ} → KeyWord ws c → In c (key_words ws)
   key_word_in (at_slot v l e) =
       rw (key_words_parts ws) (Memᴰ.append_left (keys_of (stash_entries ws))
       (at_slot_key ws 0 (slots_of ws + slots_of ws) v (omega arith) (omega arith) e))
@@ -129,11 +129,11 @@ stash_lent ws {start} {count} a n =
 -- the set of the keys that stand in given words
 
 module _ (ws : List ℕ) where
-  keys_in_asc : Asc (keys_in ws)
+  pub keys_in_asc : Asc (keys_in ws)
   unfolding keys_in
   keys_in_asc = distinct_sorted_asc (keep (λ w. not (blank w)) (key_words ws))
 
-  keys_in_key : {c : ℕ} → In c (keys_in ws) → In c (key_words ws) × (blank c ≡ false)
+  pub keys_in_key : {c : ℕ} → In c (keys_in ws) → In c (key_words ws) × (blank c ≡ false)
   unfolding keys_in
   keys_in_key {c} i =
       let k = distinct_sorted_in (keep (λ w. not (blank w)) (key_words ws)) c i in (
@@ -141,7 +141,7 @@ module _ (ws : List ℕ) where
         not-true (blank c) (keep_test (λ w. not (blank w)) (key_words ws) k),
       )
 
-  key_keys_in : {c : ℕ} → In c (key_words ws) → blank c ≡ false → In c (keys_in ws)
+  pub key_keys_in : {c : ℕ} → In c (key_words ws) → blank c ≡ false → In c (keys_in ws)
   unfolding keys_in
   key_keys_in {c} i b =
       in_distinct_sorted (keep (λ w. not (blank w)) (key_words ws)) c (in_keep (λ w. not (blank w)) (key_words ws) (ap not b) i)
@@ -275,14 +275,6 @@ module _ (P : Params) (L : List Entry) (e : fits P (keys_of L) ≡ true) where
           there (there m)
     ]
 
-    -- So a set is read back from its image: its keys,
-    pub keys_in_image : 0 < P.slots → keys_in (image P L) ≡ (S P L e)
-    keys_in_image some =
-        let ws = image P L in
-        asc_ext (keys_in ws) (S P L e) (keys_in_asc ws) valid.asc
-        (λ c i. let k = keys_in_key ws i in image_key_in (in_key_words ws k.0) (not_blank c k.1))
-        (λ c i. key_keys_in ws (key_word_in ws (looked_key_word P.tabulation ws (rw (image_slots P L) some) c (image_in_looked some i))) (valid.none_blank c i))
-
     -- the tiers at which they are found,
     pub tier_in_image : 0 < P.slots → {c : ℕ} → In c (S P L e) → tier_in P.tabulation (image P L) c ≡ tier_of L c
     unfolding tier_in image image_by
@@ -293,8 +285,3 @@ module _ (P : Params) (L : List Entry) (e : fits P (keys_of L) ≡ true) where
         looked_tier x (here q) = rw q (slot_tier (slot_0 (family P) c) (omega (arith, slot_0_lt (family P) some c)))
         looked_tier x (there (here q)) = rw q (slot_tier (slot_1 (family P) c) (slot_1_lt (family P) some c))
         looked_tier x (there (there k)) = place_tier x k
-
-    -- and so the set.
-    pub set_in_image : 0 < P.slots → set_in P.tabulation (image P L) ≡ L
-    set_in_image some =
-        rw (keys_in_image some) (tiered_agree (S P L e) (λ c i. tier_in_image some i) ∙ tiered_self L valid.asc)

@@ -21,7 +21,8 @@ use Rattle.ordered.specs.Keys.{with_key}
 use Rattle.ordered.proofs.Place.{with_cases, with_here, with_there, asc_with, with_same}
 use Rattle.cuckoo.specs.Graph.{seated}
 use Rattle.feeding.specs.Feed.{fed, feed_on, feed, set_of}
-use Rattle.feeding.proofs.Feeding.{feed_length, feed_most, any_order}
+use Rattle.feeding.proofs.Feeding.{feed_length}
+use Rattle.feeding.proofs.FeedingAfter.{feed_most, any_order}
 use Rattle.refusals.specs.Refusal.{done, first_refusal, and}
 use Rattle.refusals.proofs.Refusal.{front_none}
 use Rattle.refusals.specs.Refusal as Refusal
@@ -32,7 +33,8 @@ use Rattle.layout.specs.Entries.{Entry, max_tier, keys_of}
 use Rattle.layout.proofs.Entries.{length_keys}
 use Rattle.layout.specs.Layout.{Params, OneIssue, another_issue, family, scratch_length, fits, key_count}
 use Rattle.layout.proofs.Image.{fits_le, image_keys}
-use Rattle.layout.proofs.Issues.{no_other, one_issue_with, order_parts}
+use Rattle.layout.proofs.Issues.{order_parts}
+use Rattle.layout.proofs.IssuesAfter.{no_other, one_issue_with}
 use Rattle.layout.specs.Reissued.{Reissues}
 use Rattle.layout.proofs.Reissued.{reissued_fits}
 use Rattle.outcome.specs.declared.Change.TheVariants.{Insert}

@@ -19,7 +19,7 @@ use Rattle.layout.proofs.Entries.{key_in, in_key}
 use Rattle.layout.specs.Entries.{tiered}
 use Rattle.layout.proofs.Entries.{tiered_self, tiered_agree, tiered_in}
 use Rattle.layout.specs.Layout.{Params, ValidSet, another_issue, family, scratch_length, fits, fits_by, image}
-use Rattle.layout.proofs.Issues.{no_other}
+use Rattle.layout.proofs.IssuesAfter.{no_other}
 use Rattle.layout.proofs.Fitting.{part_fits}
 use Rattle.counters.specs.declared.Counters.{Counters}
 use Rattle.outcome.specs.declared.Change.TheVariants.{Insert}

@@ -7,7 +7,8 @@ use Rattle.basics.proofs.Sets.{asc_ext}
 use Rattle.ordered.specs.Keys.{with_key, above}
 use Rattle.cuckoo.specs.Graph.{label, joined, component, is_on_cycle, cyclic, spare, settle, seated, stash}
 use Rattle.feeding.specs.Feed.{fed, feed_on, feed, set_of}
-use Rattle.feeding.proofs.Feeding.{set_of_asc, set_of_in, in_set_of, feed_length, feed_most}
+use Rattle.feeding.proofs.Feeding.{set_of_asc, set_of_in, in_set_of, feed_length}
+use Rattle.feeding.proofs.FeedingAfter.{feed_most}
 use Rattle.hashing.specs.Hash.{hash}
 use Rattle.hashing.specs.Slots.{slot_0, slot_1}
 use Rattle.layout.specs.Entries.{Entry, keys_of}

@@ -24,7 +24,8 @@ use Rattle.layout.proofs.Smallest.{two_image, two_fit}
 use Rattle.outcome.specs.declared.Change.TheVariants.{Insert, Remove}
 use Rattle.outcome.specs.Outcome.{changed, change_outcome}
 use Rattle.outcome.specs.Held.{Holds}
-use Rattle.outcome.proofs.Held.{one_too_many, held_issue, held_new, held_absent, held_remove, held_changed}
+use Rattle.outcome.proofs.Held.{one_too_many, held_issue, held_new, held_absent, held_remove}
+use Rattle.outcome.proofs.HeldAfter.{held_changed}
 use Rattle.outcome.specs.Trail.{trail_of, trail_in, trail_refusal, trail_outcome}
 use Rattle.outcome.proofs.TrailLaws.{held_asked, held_trail}
 

@@ -13,7 +13,7 @@ use Rattle.outcome.specs.declared.Change.{Change}
 use Rattle.outcome.specs.Outcome.{Outcome, changed, change_outcome, check_outcome}
 use Rattle.outcome.specs.Laws.{change_answers, check_answers}
 use Rattle.outcome.proofs.Laws.{change_answer_in, check_answer_in, change_passed, change_refused, change_scratch, check_words, check_scratch}
-use Rattle.outcome.proofs.Held.{change_accepted, change_lookup}
+use Rattle.outcome.proofs.HeldAfter.{change_accepted, change_lookup}
 use Rattle.outcome.specs.Demands.{Harmless, Renewed}
 
 -- The laws: every call is harmless, and an accepted change renews the words.

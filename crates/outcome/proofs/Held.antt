@@ -22,7 +22,8 @@ use Rattle.layout.proofs.Entries.{key_in, keys_tiered, tiered_agree, tier_tiered
 use Rattle.layout.specs.Layout.{Params, ValidKeys, another_issue, OneIssue, ValidSet, family, params_of, slots_of, places_of, scratch_length, params_in_range, station_of, shaped, fits, image, keys_in, tier_in, set_in}
 use Rattle.layout.proofs.Shape.{ranged, ranged_true, shape}
 use Rattle.layout.proofs.Image.{image_shaped}
-use Rattle.layout.proofs.Issues.{no_other, listed_alone, one_issue_part, one_issue_with}
+use Rattle.layout.proofs.Issues.{one_issue_part}
+use Rattle.layout.proofs.IssuesAfter.{no_other, listed_alone, one_issue_with}
 use Rattle.layout.proofs.Reissued.{reissued_fits, instead_reissues, instead_is}
 use Rattle.layout.specs.Canonical.{canonical, ImageOf}
 use Rattle.layout.proofs.Canonical.{canonical_true, image_canonical, image_of_params, image_of_set}
@@ -53,7 +54,7 @@ module _ {P : Params} {L : List Entry} {ws : List ℕ} (h : Holds P L ws) where
   held_canonical : canonical P.tabulation ws ≡ true
   held_canonical = rw h.is.is (image_canonical P L h.range h.is.valid h.is.fit)
 
-  held_scratch : scratch_length (slots_of ws) (places_of ws) ≡ scratch_length P.slots P.places
+  pub held_scratch : scratch_length (slots_of ws) (places_of ws) ≡ scratch_length P.slots P.places
   held_scratch = ap (λ (Q : Params). scratch_length Q.slots Q.places) held_params
 
   -- "13 .. never together with 10 or 6": a set that has the exact issue has no other, and one that has another does not have it
@@ -64,7 +65,7 @@ module _ {P : Params} {L : List Entry} {ws : List ℕ} (h : Holds P L ws) where
   issue_absent key a = elim (test (member key (keys_of L))) [ inl m ↦ absurd (true≢false (sym a ∙ listed_only key m)) | inr m ↦ m ]
 
 -- Words that pass hold the set of the keys that stand in them.
-passed_holds : (tabulation ws : List ℕ) → shaped ws ≡ true → canonical tabulation ws ≡ true → Holds (params_of tabulation ws) (set_in tabulation ws) ws
+pub passed_holds : (tabulation ws : List ℕ) → shaped ws ≡ true → canonical tabulation ws ≡ true → Holds (params_of tabulation ws) (set_in tabulation ws) ws
 passed_holds tabulation ws formed c = record { range = ranged_true (slots_of ws) (places_of ws) (station_of ws) (shape ws formed).sizes (shape ws formed).station; is = canonical_true tabulation ws c }
 
 -- the new set
@@ -129,7 +130,7 @@ pub present_fits : (P : Params) (key : ℕ) {S : List ℕ} → ValidKeys S → f
 present_fits P key {S} valid e m = rw (with_same key S valid.asc (member_in key S m)) e
 
 -- a key that comes in and goes again leaves the set as it was
-changed_back : (tier key : ℕ) (L : List Entry) → Asc (keys_of L) → member key (keys_of L) ≡ false → changed Remove key (changed (Insert tier) key L) ≡ L
+pub changed_back : (tier key : ℕ) (L : List Entry) → Asc (keys_of L) → member key (keys_of L) ≡ false → changed Remove key (changed (Insert tier) key L) ≡ L
 changed_back tier key L asc m =
     let out : In key (keys_of L) → ⊥ = λ i. true≢false (sym (in_member i) ∙ m) in
     let back : keys_changed Remove key (keys_of (changed (Insert tier) key L)) ≡ keys_of L =
@@ -157,7 +158,7 @@ none_six (and b (and c (and d (and e (and f (and g none)))))) = (b, c, d, e, f, 
 
 -- what is known where no refusal of the set is given, or 8
 module _ (P : Params) (key : ℕ) (L : List Entry) where
-  insert_tried : (tier : ℕ) {n : ℕ} → first_refusal ((blank_key, blank key) ∷ set_refusals (Insert tier) P key L) ≡ n → (n ≡ done) ⊎ (n ≡ stash_full)
+  pub insert_tried : (tier : ℕ) {n : ℕ} → first_refusal ((blank_key, blank key) ∷ set_refusals (Insert tier) P key L) ≡ n → (n ≡ done) ⊎ (n ≡ stash_full)
       → (blank key ≡ false) × (tier ≤ max_tier) × (another_issue key (keys_of L) ≡ false) × (member key (keys_of L) ≡ false)
   insert_tried tier e d =
       let tried = none_five (front_none
@@ -167,22 +168,15 @@ module _ (P : Params) (key : ℕ) (L : List Entry) where
       (elim d [ inl z ↦ rw z | inr z ↦ rw z ])) in
       (tried.0, ltb-false max_tier tier tried.1, tried.2, tried.4)
 
-  insert_accepts : (tier : ℕ) → first_refusal ((blank_key, blank key) ∷ set_refusals (Insert tier) P key L) ≡ done
+  pub insert_accepts : (tier : ℕ) → first_refusal ((blank_key, blank key) ∷ set_refusals (Insert tier) P key L) ≡ done
       → (blank key ≡ false) × (tier ≤ max_tier) × (another_issue key (keys_of L) ≡ false) × (fits P (with_key key (keys_of L)) ≡ true)
   insert_accepts tier e =
       let tried = none_six (front_none ((blank_key, blank key) ∷ set_refusals (Insert tier) P key L) [] e refl) in
       (tried.0, ltb-false max_tier tier tried.1, tried.2, not-false _ tried.5)
 
-  remove_accepts : first_refusal ((blank_key, blank key) ∷ set_refusals Remove P key L) ≡ done
+  pub remove_accepts : first_refusal ((blank_key, blank key) ∷ set_refusals Remove P key L) ≡ done
       → (blank key ≡ false) × (member key (keys_of L) ≡ true)
   remove_accepts e = elim (front_none ((blank_key, blank key) ∷ set_refusals Remove P key L) [] e refl) [ and b (and m none) ↦ (b, not-false _ m) ]
-
--- A change that is not refused leads to a set that fits: an insert since 8 was tried, a removal in any case.
-accepts_fits : (kind : Change) (P : Params) (key : ℕ) (L : List Entry) → ValidKeys (keys_of L) → fits P (keys_of L) ≡ true
-    → first_refusal ((blank_key, blank key) ∷ set_refusals kind P key L) ≡ done
-    → (blank key ≡ false) × SmallTier kind × NewIssue kind key (keys_of L) × (fits P (keys_changed kind key (keys_of L)) ≡ true)
-accepts_fits (Insert tier) P key L valid e a = insert_accepts P key L tier a
-accepts_fits Remove P key L valid e a = let p = remove_accepts P key L a in (p.0, tt, tt, without_fits P valid key e)
 
 module _ {P : Params} {L : List Entry} {ws : List ℕ} (h : Holds P L ws) (full_length : length P.tabulation ≡ tabulation_length) where
   -- what a call on a dictionary that holds L answers: 1, 2 and 4 never, and the rest comes after 3
@@ -275,33 +269,6 @@ module _ {P : Params} {L : List Entry} {ws : List ℕ} (h : Holds P L ws) (full_
       unfolding change_outcome
       held_remove m = held_set Remove ∙ (rw (b, m))
 
--- the same for all inputs: the set is that of the keys that stand in the words, with their tiers
-
--- After an accepted change the words are a dictionary that holds the new set.
-pub change_accepted : (kind : Change) (tabulation ws scratch : List ℕ) (key : ℕ) → (change_outcome kind tabulation ws scratch key).answer ≡ done
-    → Holds (params_of tabulation ws) (changed kind key (set_in tabulation ws)) (change_outcome kind tabulation ws scratch key).words
-change_accepted kind tabulation ws scratch key e =
-    let P = params_of tabulation ws in
-    let L = set_in tabulation ws in
-    let p = change_passed tabulation ws scratch kind key (inl e) in
-    let held = passed_holds tabulation ws p.0.shape p.1 in
-    let passed = sym (change_set tabulation ws scratch kind key p.0 p.1) ∙ e in
-    let a = accepts_fits kind P key L held.is.valid.keys held.is.fit passed in
-    record {
-      range = held.range;
-      is = record {
-        valid = changed_valid kind key a.0 a.1 a.2 held.is.valid;
-        fit = rw (changed_keys kind key L) a.3;
-        is = change_done tabulation ws scratch kind key e;
-      };
-    }
-
--- so, where they held L, L with the key or without it
-pub held_changed : {P : Params} {L : List Entry} {ws : List ℕ} → Holds P L ws → (kind : Change) (scratch : List ℕ) (key : ℕ)
-    → (change_outcome kind P.tabulation ws scratch key).answer ≡ done
-    → Holds P (changed kind key L) (change_outcome kind P.tabulation ws scratch key).words
-held_changed {P} {L} {ws} h kind scratch key e = rw (held_params h, held_set_in h) at (change_accepted kind P.tabulation ws scratch key e)
-
 -- lookup
 
 -- On words that hold L a lookup with the same tabulation says what L says, but for a blank key, which is refused: so it finds exactly the entries of L.
@@ -322,89 +289,13 @@ held_entry {P} {L} {ws} h full_length c t =
       λ i. e ∙ (rw (h.is.valid.keys.none_blank c (key_in L i)) (found.1 i)),
     )
 
--- Demand 2, "On such a list, with the same book, a look-up says yes exactly for the cards in the set.", with their
--- tiers: after an accepted insert or remove, for the new set.
-pub change_lookup : (kind : Change) (tabulation ws scratch : List ℕ) (key : ℕ) → (change_outcome kind tabulation ws scratch key).answer ≡ done → (c t : ℕ)
-    → (lookup_values tabulation (change_outcome kind tabulation ws scratch key).words c ≡ 1 ∷ t ∷ [])
-    ↔ In (record { key = c; tier = t }) (changed kind key (set_in tabulation ws))
-change_lookup kind tabulation ws scratch key e c t =
-    held_entry (change_accepted kind tabulation ws scratch key e) (change_passed tabulation ws scratch kind key (inl e)).0.full_length c t
-
--- placement
-
--- An insert that comes to the test of 8 is one of a new key, of which there is no other issue,
-held_tried : {P : Params} {L : List Entry} {ws : List ℕ} → Holds P L ws → (scratch : List ℕ) (tier key : ℕ)
-    → ((change_outcome (Insert tier) P.tabulation ws scratch key).answer ≡ done)
-    ⊎ ((change_outcome (Insert tier) P.tabulation ws scratch key).answer ≡ stash_full)
-    → Ready P.tabulation ws scratch × (blank key ≡ false) × (tier ≤ max_tier) × (another_issue key (keys_of L) ≡ false) × (member key (keys_of L) ≡ false)
-held_tried {P} {L} {ws} h scratch tier key d =
-    let t = P.tabulation in
-    let p = change_passed t ws scratch (Insert tier) key (elim d [ inl e ↦ inl e | inr e ↦ inr (omega arith) ]) in
-    let e = sym (change_set t ws scratch (Insert tier) key p.0 p.1) in
-    let q = insert_tried (params_of t ws) key (set_in t ws) tier e d in
-    (p.0, q.0, q.1, rw (held_set_in h) at q.2, rw (held_set_in h) at q.3)
-
--- and is refused by it exactly when no placement of the new set exists;
-pub held_eight : {P : Params} {L : List Entry} {ws : List ℕ} → Holds P L ws → (scratch : List ℕ) (tier key : ℕ)
-    → ((change_outcome (Insert tier) P.tabulation ws scratch key).answer ≡ done)
-    ⊎ ((change_outcome (Insert tier) P.tabulation ws scratch key).answer ≡ stash_full)
-    → ((change_outcome (Insert tier) P.tabulation ws scratch key).answer ≡ stash_full)
-    ↔ (Placement (slot_0 (family P)) (slot_1 (family P)) P.places (with_key key (keys_of L)) → ⊥)
-held_eight h scratch tier key d =
-    let p = held_tried h scratch tier key d in
-    held_full h p.0.full_length scratch (rw (held_scratch h) at p.0.room) key p.1 tier p.2 p.3 p.4
-
--- on whatever words.
-pub insert_eight : (tabulation ws scratch : List ℕ) (tier key : ℕ)
-    → ((change_outcome (Insert tier) tabulation ws scratch key).answer ≡ done) ⊎ ((change_outcome (Insert tier) tabulation ws scratch key).answer ≡ stash_full)
-    → ((change_outcome (Insert tier) tabulation ws scratch key).answer ≡ stash_full)
-    ↔ (Placement (slot_0 (family (params_of tabulation ws))) (slot_1 (family (params_of tabulation ws))) (places_of ws) (with_key key (keys_in ws)) → ⊥)
-insert_eight tabulation ws scratch tier key d =
-    let p = change_passed tabulation ws scratch (Insert tier) key (elim d [ inl e ↦ inl e | inr e ↦ inr (omega arith) ]) in
-    rw (keys_tiered (tier_in tabulation ws) (keys_in ws)) at (held_eight (passed_holds tabulation ws p.0.shape p.1) scratch tier key d)
-
--- An insert of a key that stands in the words, with whatever tier, leaves them: so it never changes a tier.
-pub insert_kept : (tabulation ws scratch : List ℕ) (tier key : ℕ) → In key (keys_in ws)
-    → (change_outcome (Insert tier) tabulation ws scratch key).words ≡ ws
-insert_kept tabulation ws scratch tier key i =
-    change_refused tabulation ws scratch (Insert tier) key (λ e.
-    let p = change_passed tabulation ws scratch (Insert tier) key (inl e) in
-    let f = sym (change_set tabulation ws scratch (Insert tier) key p.0 p.1) in
-    let m = (insert_tried (params_of tabulation ws) key (set_in tabulation ws) tier f (inl e)).3 in
-    true≢false (sym (in_member i) ∙ (rw (keys_tiered (tier_in tabulation ws) (keys_in ws)) at m)))
-
--- A removal straight after the accepted insert of the same key is accepted, and brings back every word.
-pub held_undone : {P : Params} {L : List Entry} {ws : List ℕ} → Holds P L ws → length P.tabulation ≡ tabulation_length
-    → (scratch scratch' : List ℕ) (tier key : ℕ)
-    → (change_outcome (Insert tier) P.tabulation ws scratch key).answer ≡ done → scratch_length P.slots P.places ≤ length scratch'
-    → ((change_outcome Remove P.tabulation (change_outcome (Insert tier) P.tabulation ws scratch key).words scratch' key).answer ≡ done)
-    × ((change_outcome Remove P.tabulation (change_outcome (Insert tier) P.tabulation ws scratch key).words scratch' key).words ≡ ws)
-held_undone {P} {L} {ws} h full_length scratch scratch' tier key e room =
-    let n = held_tried h scratch tier key (inl e) in
-    let g = held_changed h (Insert tier) scratch key e in
-    let m : member key (keys_of (changed (Insert tier) key L)) ≡ true = rw (changed_keys (Insert tier) key L) (in_member (with_here key (keys_of L))) in
-    let d = held_remove g full_length scratch' room key n.1 m in
-    (d, (held_changed g Remove scratch' key d).is.is ∙ ap (image P) (changed_back tier key L h.is.valid.keys.asc n.4) ∙ sym h.is.is)
-
 -- A card that is issued anew: the old issue goes, and the new one comes in, with whatever tier. That is never refused with 8: the set fits as it did.
 module _ {P : Params} {L : List Entry} {ws : List ℕ} (h : Holds P L ws) (full_length : length P.tabulation ≡ tabulation_length)
     {old : ℕ} (key tier : ℕ) (i : In old (keys_of L)) (q : first_part key ≡ first_part old) (small : tier ≤ 7)
     (scratch scratch' : List ℕ) (room : scratch_length P.slots P.places ≤ length scratch) (room' : scratch_length P.slots P.places ≤ length scratch') where
-  abbrev valid : ValidSet L
+  abbrev pub valid : ValidSet L
   valid = h.is.valid
 
   -- what is left has no issue of it
-  left_ne : (d : ℕ) → In d (without old (S h full_length key tier i q small scratch scratch' room room')) → first_part d ≡ first_part key → ⊥
+  pub left_ne : (d : ℕ) → In d (without old (S h full_length key tier i q small scratch scratch' room room')) → first_part d ≡ first_part key → ⊥
   left_ne d j e = out_ne old (S h full_length key tier i q small scratch scratch' room room') j (valid.issues old d i (out_in old (S h full_length key tier i q small scratch scratch' room room') j) (sym (e ∙ q)))
-
-  pub held_reissued : (change_outcome (Insert tier) P.tabulation (change_outcome Remove P.tabulation ws scratch old).words scratch' key).answer ≡ done
-  held_reissued =
-      let b : blank old ≡ false = valid.keys.none_blank old i in
-      let gone = held_changed h Remove scratch old (held_remove h full_length scratch room old b (in_member i)) in
-      let b' : blank key ≡ false = (not_blank_iff key).1 (rw q ((not_blank_iff old).0 b)) in
-      let new : another_issue key (without old (S h full_length key tier i q small scratch scratch' room room')) ≡ false = no_other key (without old (S h full_length key tier i q small scratch scratch' room room')) (λ a. left_ne a.0 a.1.0 a.1.1.0) in
-      let out : member key (without old (S h full_length key tier i q small scratch scratch' room room')) ≡ false = no_member key (without old (S h full_length key tier i q small scratch scratch' room room')) (λ j. left_ne key j refl) in
-      let fit : fits P (with_key key (without old (S h full_length key tier i q small scratch scratch' room room'))) ≡ true = rw (instead_is valid.keys valid.issues key i q)
-      (reissued_fits P valid.keys valid.issues (instead_reissues valid.keys valid.issues key i q) ∙ h.is.fit) in
-      held_new gone full_length scratch' room' key b' tier small (rw (changed_keys Remove old L) new) (rw (changed_keys Remove old L) out)
-      ∙ (rw (changed_keys Remove old L, fit))

@@ -2,6 +2,7 @@
 pub mod Board
 pub mod Demands
 pub mod Held
+pub mod HeldAfter
 pub mod Laws
 pub mod SaleLaws
 pub mod TrailLaws

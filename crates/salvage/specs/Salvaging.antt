@@ -31,7 +31,8 @@ use Rattle.survivors.proofs.Surviving.{standing_valid, survivors_fit}
 use Rattle.survivors.specs.Laws.{Salvable}
 use Rattle.survivors.proofs.Laws.{salvage_refused}
 use Rattle.survivors.proofs.Laws.{none_salvable, salvage_number, salvage_done, salvage_told}
-use Rattle.survivors.proofs.Laws.{salvage_untold, salvage_area, salvage_passed}
+use Rattle.survivors.proofs.Laws.{salvage_untold, salvage_area}
+use Rattle.survivors.proofs.LawsAfter.{salvage_passed}
 use Rattle.survivors.proofs.Looked.{occupied_split}
 use Rattle.salvage.specs.Chosen.{candidates, standing_tier, CandidatesStand, candidates_few}
 

@@ -22,7 +22,7 @@ use Rattle.edges.specs.Edge.{tier_of_edge}
 use Rattle.hashing.specs.Hash.{first_part, blank}
 use Rattle.hashing.proofs.Issues.{not_blank_iff}
 use Rattle.layout.specs.Layout.{Params, another_issue, OneIssue, family}
-use Rattle.layout.proofs.Issues.{issue_before, issue_at, issue_nowhere}
+use Rattle.layout.proofs.IssuesAfter.{issue_before, issue_at, issue_nowhere}
 use Rattle.layout.specs.Shape.{Sized}
 use Rattle.layout.specs.Answers.{values}
 use Rattle.layout.specs.declared.Found.{Found}

@@ -51,7 +51,7 @@ module _ (tabulation ws : List ℕ) (n m : ℕ) where
 -- the parts of the outcome
 
 module _ (tabulation ws target scratch : List ℕ) where
-  abbrev o : SalvageOutcome
+  abbrev pub o : SalvageOutcome
   o = salvage_outcome tabulation ws target scratch
 
   abbrev refusal : ℕ
@@ -98,12 +98,6 @@ module _ (tabulation ws target scratch : List ℕ) where
   unfolding salvage_outcome
   salvage_words = refl
 
-  -- and of the second demand 1 holds.
-  pub salvage_harmless :
-      Harmless salvage_answers target scratch (record { answer = o.number; words = o.target; scratch = o.scratch })
-  salvage_harmless =
-      record { numbered = salvage_number_in; unchanged = salvage_refused; cleared = salvage_scratch }
-
   -- What target and scratch held has no say, only their lengths.
   module _ (us sheet : List ℕ) (same : length target ≡ length us) (room : length scratch ≡ length sheet) where
     pub salvage_any_number : (salvage_outcome tabulation ws us sheet).number ≡ o.number
@@ -127,10 +121,10 @@ salvage_any_scratch tabulation ws target scratch sheet e = rw e
 -- next numbers may be anything.
 module _ (tabulation ws vs : List ℕ) (long : length ws ≡ length vs)
     (params : params_of tabulation ws ≡ params_of tabulation vs) (same : spots ws ≡ spots vs) where
-  slots : slots_of ws ≡ slots_of vs
+  pub slots : slots_of ws ≡ slots_of vs
   slots = ap (λ (P : Params). P.slots) params
 
-  places : places_of ws ≡ places_of vs
+  pub places : places_of ws ≡ places_of vs
   places = ap (λ (P : Params). P.places) params
 
   family_same : family_of tabulation ws ≡ family_of tabulation vs
@@ -156,27 +150,17 @@ module _ (tabulation ws vs : List ℕ) (long : length ws ≡ length vs)
       let d : station_of ws ≡ station_of vs = ap (λ (P : Params). P.station) params in
       rw (long, slots, places, d)
 
-  alike_refusal : (n m : ℕ) → salvage_refusal tabulation ws n m ≡ salvage_refusal tabulation vs n m
+  pub alike_refusal : (n m : ℕ) → salvage_refusal tabulation ws n m ≡ salvage_refusal tabulation vs n m
   unfolding salvage_refusal
   alike_refusal n m =
       let e : nothing_counts tabulation ws ≡ nothing_counts tabulation vs =
       by_both (λ G Y. any occupied Y && not (any (counts G) Y)) in
       rw (e, alike_shaped, long, slots, places)
 
-  module _ (target scratch : List ℕ) where
-    pub salvage_by_spots :
-        let o = salvage_outcome tabulation ws target scratch in
-        let p = salvage_outcome tabulation vs target scratch in
-        (o.number ≡ p.number) × (o.values ≡ p.values) × (o.target ≡ p.target)
-    unfolding salvage_outcome
-    salvage_by_spots =
-        let e = alike_refusal (length target) (length scratch) in
-        (e, rw (e, alike_lost), rw (e, params, alike_survivors))
-
 -- the rows
 
 module _ (tabulation ws : List ℕ) (n m : ℕ) where
-  abbrev given : ℕ
+  abbrev pub given : ℕ
   given = salvage_refusal tabulation ws n m
 
   pub salvage_tabulation : (length tabulation ≡ tabulation_length → ⊥) → given ≡ wrong_tabulation
@@ -204,74 +188,10 @@ module _ (tabulation ws : List ℕ) (n m : ℕ) where
   salvage_area t =
       front_applies (area_refusals tabulation ws n m) ((none_counts, nothing_counts tabulation ws) ∷ []) t
 
-  pub salvage_passed : Salvable tabulation ws n m → given ≡ cond (nothing_counts tabulation ws) none_counts done
-  unfolding salvage_refusal
-  salvage_passed h =
-      front_passes (area_refusals tabulation ws n m) ((none_counts, nothing_counts tabulation ws) ∷ [])
-      (salvable_none tabulation ws n m h)
-
-  -- 15: "some pocket or drawer place holds a card number other than zero, yet no card counts"
-  pub salvage_none : Salvable tabulation ws n m
-      → (given ≡ none_counts)
-      ↔ (((x : Spot) × (In x (spots ws) × (spot_key x ≡ 0 → ⊥)))
-      × ((x : Spot) → In x (spots ws) → counts (family_of tabulation ws) x ≡ false))
-  salvage_none h = (
-    λ e. elim (test (nothing_counts tabulation ws)) [
-      | inl t ↦
-          let p = and_true (any occupied (spots ws)) (not (any (counts (family_of tabulation ws)) (spots ws))) t in
-          let r = any_true occupied (spots ws) p.0 in (
-            (r.0, (r.1, eqb-false _ _ (not-true _ r.2))),
-            any_false (counts (family_of tabulation ws)) (spots ws) (not-true _ p.1),
-          )
-      | inr t ↦ absurd (let z = sym (rw t at (salvage_passed h)) ∙ e in omega arith)
-    ],
-    λ p.
-        let f : any occupied (spots ws) ≡ true = true_any occupied p.0.1.0 (ap not (ne_eqb _ _ p.0.1.1)) in
-        let c : any (counts (family_of tabulation ws)) (spots ws) ≡ false =
-        false_any (counts (family_of tabulation ws)) (spots ws) p.1 in
-        salvage_passed h ∙ (rw (f, c)),
-  )
-
-  -- An answer of 0: none of the refusals applies.
-  pub accepted_salvable : given ≡ done → Salvable tabulation ws n m
-  unfolding salvage_refusal
-  accepted_salvable e =
-      none_salvable tabulation ws n m (front_none (area_refusals tabulation ws n m)
-      ((none_counts, nothing_counts tabulation ws) ∷ []) e refl)
-
--- Accepted, the target holds the survivors, with the same r, s and station: demand 2 of this call.
-module _ (tabulation ws target scratch : List ℕ) (e : (salvage_outcome tabulation ws target scratch).number ≡ done) where
-  why : Salvable tabulation ws (length target) (length scratch)
-  why =
-      accepted_salvable tabulation ws (length target) (length scratch)
-      (sym (salvage_number tabulation ws target scratch) ∙ e)
-
-  pub salvage_accepted :
-      Holds (params_of tabulation ws) (survivors tabulation ws) (salvage_outcome tabulation ws target scratch).target
-  salvage_accepted =
-      let s = shape ws why.shape in
-      record {
-        range = ranged_true (slots_of ws) (places_of ws) (station_of ws) s.sizes s.station;
-        is = record {
-          valid = survivors_valid tabulation ws;
-          fit = survivors_fit tabulation ws;
-          is = salvage_done tabulation ws target scratch e;
-        };
-      }
-
-  -- A lookup then finds exactly the survivors, each with its tier.
-  pub salvage_lookup : (c t : ℕ)
-      → (lookup_values tabulation (salvage_outcome tabulation ws target scratch).target c ≡ 1 ∷ t ∷ [])
-      ↔ In (record { key = c; tier = t }) (survivors tabulation ws)
-  salvage_lookup = held_entry salvage_accepted why.full_length
-
 -- Words in which no number stands are accepted: the survivors are the empty set, and nothing is lost.
 module _ (tabulation ws : List ℕ) (empty : (x : Spot) → In x (spots ws) → spot_key x ≡ 0) where
-  none_occupied : (x : Spot) → In x (spots ws) → occupied x ≡ false
+  pub none_occupied : (x : Spot) → In x (spots ws) → occupied x ≡ false
   none_occupied x i = ap not (eq-eqb _ _ (empty x i))
-
-  pub empty_accepted : (n m : ℕ) → Salvable tabulation ws n m → salvage_refusal tabulation ws n m ≡ done
-  empty_accepted n m h = salvage_passed tabulation ws n m h ∙ (rw (false_any occupied (spots ws) none_occupied))
 
   pub empty_lost : lost_in tabulation ws ≡ 0
   unfolding lost_in
@@ -299,16 +219,16 @@ held_survivors {P} {L} h =
 module _ {P : Params} {L : List Entry} {ws : List ℕ} (h : Holds P L ws)
     (full_length : length P.tabulation ≡ tabulation_length) (target scratch : List ℕ)
     (size : length target ≡ length ws) (room : scratch_length P.slots P.places ≤ length scratch) where
-  abbrev t : List ℕ
+  abbrev pub t : List ℕ
   t = P.tabulation
 
-  held_salvable : Salvable t ws (length target) (length scratch)
+  pub held_salvable : Salvable t ws (length target) (length scratch)
   held_salvable =
       let q : scratch_length (slots_of ws) (places_of ws) ≡ scratch_length P.slots P.places =
       ap (λ (Q : Params). scratch_length Q.slots Q.places) (held_params h) in
       record { full_length = full_length; shape = held_shaped h; size = size; room = rw q room }
 
-  some_counts : nothing_counts t ws ≡ false
+  pub some_counts : nothing_counts t ws ≡ false
   some_counts = elim (test (any occupied (spots ws))) [
     | inr f ↦ rw f
     | inl f ↦
@@ -319,45 +239,9 @@ module _ {P : Params} {L : List Entry} {ws : List ℕ} (h : Holds P L ws)
         ]
   ]
 
-  pub untampered_number : (salvage_outcome t ws target scratch).number ≡ done
-  untampered_number =
-      salvage_number t ws target scratch
-      ∙ salvage_passed t ws (length target) (length scratch) held_salvable ∙ (rw some_counts)
-
-  pub untampered_target : (salvage_outcome t ws target scratch).target ≡ ws
-  untampered_target =
-      salvage_done t ws target scratch untampered_number ∙ (rw (held_params h, held_survivors h) (sym h.is.is))
-
-  pub untampered_values : (salvage_outcome t ws target scratch).values ≡ 0 ∷ []
-  untampered_values =
-      salvage_told t ws target scratch untampered_number
-      ∙ ap (λ (n : ℕ). n ∷ []) (ap (lost_in t) h.is.is
-      ∙ image_lost P L h.is.fit h.is.valid (held_some h))
-
 -- A list that was salvaged gives itself and 0, whatever it is written to.
 module _ (tabulation ws target scratch : List ℕ) (e : (salvage_outcome tabulation ws target scratch).number ≡ done)
     (target' scratch' : List ℕ) (size : length target' ≡ length ws)
     (room : scratch_length (slots_of ws) (places_of ws) ≤ length scratch') where
-  abbrev us : List ℕ
+  abbrev pub us : List ℕ
   us = (salvage_outcome tabulation ws target scratch).target
-
-  again_size : length target' ≡ length us
-  again_size =
-      let w = why tabulation ws target scratch e in
-      let a = (shape ws w.shape).size in
-      let H = salvage_accepted tabulation ws target scratch e in
-      let b = (shape us (held_shaped H)).size in
-      let q : words_length (slots_of us) (places_of us) ≡ words_length (slots_of ws) (places_of ws) =
-      ap (λ (P : Params). words_length P.slots P.places) (held_params H) in
-      size ∙ a ∙ sym q ∙ sym b
-
-  pub salvaged_again :
-      let o = salvage_outcome tabulation us target' scratch' in
-      (o.number ≡ done) × (o.target ≡ us) × (o.values ≡ 0 ∷ [])
-  salvaged_again =
-      let H = salvage_accepted tabulation ws target scratch e in
-      let f = (why tabulation ws target scratch e).full_length in (
-        untampered_number H f target' scratch' again_size room,
-        untampered_target H f target' scratch' again_size room,
-        untampered_values H f target' scratch' again_size room,
-      )

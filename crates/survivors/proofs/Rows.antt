@@ -15,7 +15,7 @@ use Rattle.layout.specs.Board as Board
 use Rattle.outcome.specs.Held.{Holds}
 use Rattle.survivors.specs.Salvage.{counting, standing, survivors, lost_in, salvage_refusal}
 use Rattle.survivors.specs.Salvage.{salvage_outcome}
-use Rattle.survivors.proofs.Laws.{untampered_number, untampered_target, untampered_values}
+use Rattle.survivors.proofs.LawsAfter.{untampered_number, untampered_target, untampered_values}
 use Rattle.survivors.specs.Damage.{changed_words, entry_listed, part_listed}
 use Rattle.survivors.specs.Rows.{RowSalvages}
 

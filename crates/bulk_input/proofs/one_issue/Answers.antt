@@ -8,7 +8,8 @@ use borrow.Author.Tests.{eq-eqb, ne_eqb}
 use lib.Dec.{eqb}
 use Rattle.hashing.specs.Hash.{first_part}
 use Rattle.layout.specs.Issues.{parts_apart}
-use Rattle.layout.proofs.Issues.{apart_next, apart_end, apart_one_issue}
+use Rattle.layout.proofs.Issues.{apart_next, apart_end}
+use Rattle.layout.proofs.IssuesAfter.{apart_one_issue}
 use Rattle.bulk.specs.Bulk.{input_keys}
 use Rattle.bulk.proofs.Input.{input_count, input_key}
 use Rattle.bulk_input.proofs.one_issue.Goals as goal

@@ -9,7 +9,8 @@ use lib.Dec.{eqb}
 use lib.ListN.{drop}
 use Rattle.hashing.specs.Hash.{first_part}
 use Rattle.layout.specs.Issues.{parts_apart}
-use Rattle.layout.proofs.Issues.{apart_next, apart_end, apart_one_issue}
+use Rattle.layout.proofs.Issues.{apart_next, apart_end}
+use Rattle.layout.proofs.IssuesAfter.{apart_one_issue}
 use Rattle.scratch_set.specs.Members.{keys_at, key_read, keys_length}
 use Rattle.scratch_set.proofs.one_issue.Given as goal
 
