@@ -88,7 +88,7 @@ module _ (key : ℕ) {S : List ℕ} (asc : Asc S) where
             let x = get_or S (at key asc) 0 in
             let part : first_part x ≡ first_part key = part_between key x d (at_rank key asc p.0) p.1 (sym q) ∙ q in
             elim (eq? x key) [
-              | inl e ↦ a.1.1.1 (one d key a.1.0 (rw e (at key asc) (get_or_in S (at key asc) p.0)) q)
+              | inl e ↦ a.1.1.1 (one d key a.1.0 (rw e at (get_or_in S (at key asc) p.0)) q)
               | inr n ↦ here-not p.0 n part
             ]
       ])
