@@ -1,6 +1,6 @@
 // The lines after the first: each is answered by a row when its newline, or the end of the input, is read. Byte by byte
-// this is a `Run` of grammar/specs/Stream.antt, whose law says that these are the lines of the input, and all of them,
-// unless a row cannot be written.
+// this is a `Run` of grammar/specs/Stream.antt, whose law (grammar/proofs/Stream.antt) says that these are the lines of
+// the input, and all of them, unless a row cannot be written.
 ghost use Rattle.std.specs.Prelude.{◌≤◌};
 ghost use Rattle.printing.specs.Room.{room};
 

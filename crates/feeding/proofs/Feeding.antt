@@ -21,8 +21,9 @@ use Rattle.cuckoo.proofs.Filled.{seated_stash_length}
 use Rattle.cuckoo.proofs.Placement.{subset_fits}
 use Rattle.feeding.specs.Feed.{fed, feed_on, feed, set_of}
 use Rattle.feeding.specs.Rank.{BothCyclic}
-use Rattle.feeding.proofs.Rank.{both_cyclic?, both_mono, rank_most, rank_least}
-use Rattle.feeding.proofs.Rank.{cyclic_grows, other_keeps}
+use Rattle.feeding.proofs.Rank.{both_cyclic?, both_mono}
+use Rattle.feeding.proofs.RankBound.{rank_most, rank_least}
+use Rattle.feeding.proofs.RankBound.{cyclic_grows, other_keeps}
 
 -- the set of all keys of a list
 pub set_of_asc : (xs : List ℕ) → Asc (set_of xs)

@@ -19,8 +19,9 @@ use Rattle.cuckoo.proofs.Filled.{seated_stash_length}
 use Rattle.cuckoo.proofs.Placement.{subset_fits}
 use Rattle.feeding.specs.Feed.{fed, feed_on, feed, set_of}
 use Rattle.feeding.specs.Rank.{BothCyclic}
-use Rattle.feeding.proofs.Rank.{both_cyclic?, both_mono, rank_most, rank_least}
-use Rattle.feeding.proofs.Rank.{cyclic_grows, other_keeps}
+use Rattle.feeding.proofs.Rank.{both_cyclic?, both_mono}
+use Rattle.feeding.proofs.RankBound.{rank_most, rank_least}
+use Rattle.feeding.proofs.RankBound.{cyclic_grows, other_keeps}
 use Rattle.feeding.proofs.Feeding.{set_of_asc, in_set_of, set_of_same, sub_length, set_nonzero, feed_length}
 
 module _ (a b : ℕ → ℕ) (s : ℕ) where

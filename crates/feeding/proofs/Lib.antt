@@ -2,4 +2,5 @@
 pub mod Feeding
 pub mod FeedingAfter
 pub mod Rank
+pub mod RankBound
 pub mod RankAfter

@@ -42,7 +42,7 @@ module _ (a b : ℕ → ℕ) where
   -- more keys than T: each key goes to the one that T has in its slot; in a component without a cycle to itself.
   module _ {K T : List ℕ} (stop : Settled a b K) (stopT : Settled a b T) (asc : Asc T) (nonzero : In 0 T → ⊥)
       (covered : (c : ℕ) → In c K → In c T ⊎ (BothCyclic a b) T c) where
-    counterpart : ℕ → ℕ
+    pub counterpart : ℕ → ℕ
     counterpart c = cond (cyclic a b T (a c)) (occupant a b T (cond (eqb (occupant a b K (a c)) c) (a c) (b c))) c
 
     data Counterpart (c : ℕ) : Type 0 where
@@ -50,7 +50,7 @@ module _ (a b : ℕ → ℕ) where
           → Cyclic a b T (a d) → Counterpart c
       itself : counterpart c ≡ c → In c T → (Cyclic a b T (a c) → ⊥) → Counterpart c
 
-    counterpart_is : (c : ℕ) → In c K → Counterpart c
+    pub counterpart_is : (c : ℕ) → In c K → Counterpart c
     unfolding counterpart
     counterpart_is c i = elim (test (cyclic a b T (a c))) [
       | inl e ↦
@@ -77,11 +77,11 @@ module _ (a b : ℕ → ℕ) where
             let o = seat_occupant a b r.1 in
             holder u r.0 q (e ∙ o) L o r.1.c_in (cyclic_near (jsym (seat_near a b r.1)) L)
 
-    into : {c : ℕ} → Counterpart c → In (counterpart c) T
+    pub into : {c : ℕ} → Counterpart c → In (counterpart c) T
     into (holder u d q e L o i M) = rw e i
     into (itself e i n) = rw e i
 
-    apart : {c d : ℕ} → Counterpart c → Counterpart d → counterpart c ≡ counterpart d → c ≡ d
+    pub apart : {c d : ℕ} → Counterpart c → Counterpart d → counterpart c ≡ counterpart d → c ≡ d
     apart {c} {d} (holder u x q e L o k M) (holder w y r f L' p l M') m =
         let eq = occupant_injective a b stopT asc nonzero {w = w} L (cc) in
         cc
@@ -89,18 +89,13 @@ module _ (a b : ℕ → ℕ) where
     apart {c} {d} (itself e k n) (holder w y r f L p l M) m = let z : y ≡ c = cc in absurd (n (rw z at M))
     apart (itself e k n) (itself f l o) m = cc
 
-    bound : Asc K → length K ≤ length T
-    bound h =
-        pigeonhole counterpart T h (λ c i. into (counterpart_is c i))
-        (λ c d i j. apart (counterpart_is c i) (counterpart_is d j))
-
 module _ {a b : ℕ → ℕ} where
   pub both_mono : {R R' : List ℕ} {c : ℕ} → Sub R R' → BothCyclic a b R c → BothCyclic a b R' c
   both_mono s k = record { left = cyclic_mono s k.left; right = cyclic_mono s k.right }
 
 module _ (a b : ℕ → ℕ) where
   -- a key of a set is seated, or both its slots are in components with a cycle of the seated keys
-  seated_both : {S : List ℕ} {c : ℕ} → Asc S → In c S → In c (seated a b S) ⊎ BothCyclic a b (seated a b S) c
+  pub seated_both : {S : List ℕ} {c : ℕ} → Asc S → In c S → In c (seated a b S) ⊎ BothCyclic a b (seated a b S) c
   seated_both {S} {c} h i =
       elim (in? c (seated a b S)) [
         | inl k ↦ inl k
@@ -108,23 +103,6 @@ module _ (a b : ℕ → ℕ) where
             let l = stashed_cyclic a b h c i n in
             inr (record { left = l; right = cyclic_near ((seated_joined a b S h).1 (jsym (edge i))) l })
       ]
-
-  -- Of the settled parts of a set none has more keys than are seated.
-  pub rank_most : {K S : List ℕ} → Asc K → Settled a b K → Asc S → (In 0 S → ⊥) → Sub K S
-      → length K ≤ length (seated a b S)
-  rank_most {K} {S} hK stop h z s =
-      bound a b stop (seated_stops a b S h) (seated_asc a b S h) (λ i. z (seated_sub a b S h 0 i))
-      (λ c i. seated_both h (s c i)) hK
-
-  -- More keys, each with both slots in components of X with a cycle, seat no more.
-  pub rank_least : {X S : List ℕ} → Asc X → (In 0 X → ⊥) → Asc S → ((c : ℕ) → In c S → In c X ⊎ BothCyclic a b X c)
-      → length (seated a b S) ≤ length (seated a b X)
-  rank_least {X} {S} hX z h covered =
-      bound a b (seated_stops a b S h) (seated_stops a b X hX) (seated_asc a b X hX) (λ i. z (seated_sub a b X hX 0 i))
-      (λ c i. elim (covered c (seated_sub a b S h c i)) [
-        | inl k ↦ seated_both hX k
-        | inr k ↦ inr (record { left = seated_cyclic a b X hX k.left; right = seated_cyclic a b X hX k.right })
-      ]) (seated_asc a b S h)
 
 module _ {a b : ℕ → ℕ} where
   -- A settled set T, and T', the same with one key c more. If a key is spare then, both slots of c are in components of
@@ -221,7 +199,7 @@ module _ {a b : ℕ → ℕ} where
           }
         ]
 
-    spare_both : {d : ℕ} → Spare a b T' d → BothCyclic a b T c
+    pub spare_both : {d : ℕ} → Spare a b T' d → BothCyclic a b T c
     spare_both {d} s =
         elim (joined? a b T (a c) (b c)) [
           | inl k ↦ elim (joined? a b T' (a d) (a c)) [
@@ -239,38 +217,9 @@ module _ {a b : ℕ → ℕ} where
         ]
 
 module _ (a b : ℕ → ℕ) {X : List ℕ} {c : ℕ} (h : Asc X) (z : In 0 X → ⊥) (nz : 0 ≡ c → ⊥) (new : In c X → ⊥) where
-  with_nonzero : In 0 (with_key c X) → ⊥
+  pub with_nonzero : In 0 (with_key c X) → ⊥
   with_nonzero i = elim (with_cases c X i) [ inl q ↦ nz q | inr k ↦ z k ]
 
-  lengths : (length (seated a b X) + length (stash a b X) ≡ length X)
+  pub lengths : (length (seated a b X) + length (stash a b X) ≡ length X)
       × (length (seated a b (with_key c X)) + length (stash a b (with_key c X)) ≡ suc (length X))
   lengths = (seated_stash_length a b X h, seated_stash_length a b (with_key c X) (asc_with c h) ∙ length_with c X h new)
-
-  more_seated : length (seated a b X) ≤ length (seated a b (with_key c X))
-  more_seated =
-      rank_most a b (seated_asc a b X h) (seated_stops a b X h) (asc_with c h) with_nonzero
-      (λ d i. with_there c X (seated_sub a b X h d i))
-
-  -- A key both whose slots lie in components with a cycle goes to the stash, or another does in its place: the stash is
-  -- one larger.
-  pub cyclic_grows : BothCyclic a b X c → length (stash a b (with_key c X)) ≡ suc (length (stash a b X))
-  cyclic_grows k =
-      let l = rank_least a b h z (asc_with c h)
-      (λ d i. elim (with_cases c X i) [ inl q ↦ inr (rw q k) | inr m ↦ inl m ]) in
-      omega (arith, lengths.0, lengths.1, more_seated)
-
-  -- Any other key leaves its length.
-  pub other_keeps : (BothCyclic a b X c → ⊥) → length (stash a b (with_key c X)) ≡ length (stash a b X)
-  other_keeps n =
-      let T = seated a b X in
-      let fresh : In c T → ⊥ = λ i. new (seated_sub a b X h c i) in
-      let stop : Settled a b (with_key c T) = λ d s.
-      n (both_mono (seated_sub a b X h) (spare_both (with_here c T) fresh (λ x. with_there c T)
-      (λ x i. elim (with_cases c T i) [ inl q ↦ here q | inr k ↦ there k ]) (seated_stops a b X h) s)) in
-      let l = rank_most a b (asc_with c (seated_asc a b X h)) stop (asc_with c h) with_nonzero
-      (λ d i. elim (with_cases c T i) [
-        | inl q ↦ rw q (with_here c X)
-        | inr k ↦ with_there c X (seated_sub a b X h d k)
-      ]) in
-      let m = subset_fits a b h (asc_with c h) with_nonzero (λ d. with_there c X) in
-      omega (arith, lengths.0, lengths.1, length_with c T (seated_asc a b X h) fresh)

@@ -26,7 +26,8 @@ use Rattle.cuckoo.proofs.Kruskal.{stashed_cyclic}
 use Rattle.cuckoo.proofs.Cycles.{seated_cyclic}
 use Rattle.cuckoo.proofs.Placement.{subset_fits}
 use Rattle.feeding.specs.Rank.{BothCyclic}
-use Rattle.feeding.proofs.Rank.{both_cyclic?, both_mono, rank_most, rank_least, cyclic_grows, other_keeps}
+use Rattle.feeding.proofs.Rank.{both_cyclic?, both_mono}
+use Rattle.feeding.proofs.RankBound.{rank_most, rank_least, cyclic_grows, other_keeps}
 
 module _ (a b : ℕ → ℕ) {X : List ℕ} {c : ℕ} (h : Asc X) (z : In 0 X → ⊥) (nz : 0 ≡ c → ⊥) (new : In c X → ⊥) where
   -- A new key enlarges the stash exactly if both its slots lie in components with a cycle.

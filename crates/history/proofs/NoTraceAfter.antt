@@ -16,7 +16,8 @@ use Rattle.layout.proofs.Canonical.{image_one}
 use Rattle.outcome.specs.declared.Change.TheVariants.{Insert}
 use Rattle.counters.specs.declared.Counters.{Counters}
 use Rattle.outcome.specs.Held.{Holds}
-use Rattle.outcome.proofs.Held.{held_some, held_full}
+use Rattle.outcome.proofs.Held.{held_some}
+use Rattle.outcome.proofs.HeldNew.{held_full}
 use Rattle.history.specs.Calls.{Lent, own, wrong, Call, Step, step, run, words_after, words_left}
 use Rattle.history.specs.Calls.{Allowed, none, more, Sequence, Like, Alike, end, then}
 use Rattle.history.specs.Model.{request, requests, wrong_length, too_short, before_full, full_test, change_tests, reply, model}

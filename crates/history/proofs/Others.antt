@@ -19,7 +19,7 @@ use Rattle.survivors.proofs.Laws.{salvage_words, salvage_refused, salvage_any_sc
 use Rattle.history.specs.Calls.{Answer, Other, Call, step, OtherStands, refused, unchanged, Like}
 use Rattle.history.specs.Model.{Request, reply}
 use Rattle.history.specs.Agrees.{Agrees}
-use Rattle.history.specs.Others.{init, loading, reads, tracing}
+use Rattle.history.specs.Others.{init, loading, salvaging_over, reads, tracing, salvaging}
 
 -- Where it may stand, it leaves the words: refused, by its own law, and otherwise because just that is asked.
 pub stands_leaves : {ws : List ℕ} {x : Other} → OtherStands ws x → x.words ws ≡ ws
@@ -56,18 +56,6 @@ loading_like t tabulation r s station input scratch scratch' e =
     (λ ws. rw (bulk_any_scratch P input ws scratch scratch' e))
     (λ ws. rw (bulk_any_scratch P input ws scratch scratch' e))
 
--- a salvage of other words, over those of the sequence: "every refusal leaves the second area unchanged", and then it
--- may stand there; accepted, it starts another sequence (`Start`)
-
-abbrev pub salvaging_over : (tabulation damaged scratch : List ℕ) → Other
-salvaging_over tabulation damaged scratch = record {
-  answer = λ ws.
-      let o = salvage_outcome tabulation damaged ws scratch in
-      record { number = o.number; values = o.values };
-  words = λ ws. (salvage_outcome tabulation damaged ws scratch).target;
-  leaves = λ ws n. salvage_refused tabulation damaged ws scratch n;
-}
-
 pub salvaging_over_like : (t tabulation damaged scratch scratch' : List ℕ) → length scratch ≡ length scratch'
     → Like t (Call.other (salvaging_over tabulation damaged scratch))
     (Call.other (salvaging_over tabulation damaged scratch'))
@@ -91,17 +79,6 @@ trail_like t tabulation scratch scratch' key sheet e =
     Like.other (tracing tabulation scratch key sheet) (tracing tabulation scratch' key sheet)
     (λ ws. rw (trail_any_scratch tabulation ws scratch scratch' key sheet e))
     (λ ws. rw (trail_any_scratch tabulation ws scratch scratch' key sheet e))
-
--- A salvage of the words of the sequence, with any tabulation, target and scratch. Its values are how many are lost, none
--- if it is refused, and the target, as it is afterwards.
-abbrev pub salvaging : (tabulation target scratch : List ℕ) → Other
-salvaging tabulation target scratch = record {
-  answer = λ ws.
-      let o = salvage_outcome tabulation ws target scratch in
-      record { number = o.number; values = o.values ++ o.target };
-  words = λ ws. (salvage_outcome tabulation ws target scratch).words;
-  leaves = λ ws n. salvage_words tabulation ws target scratch;
-}
 
 -- It may stand on any words, too,
 pub salvage_stands : (tabulation ws target scratch : List ℕ) → OtherStands ws (salvaging tabulation target scratch)

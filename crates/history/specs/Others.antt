@@ -16,6 +16,7 @@ use Rattle.outcome.specs.TrailLaws.{trail_words}
 use Rattle.bulk.specs.Bulk.{params_for, bulk_outcome}
 use Rattle.bulk.specs.Laws.{bulk_refused}
 use Rattle.survivors.specs.Salvage.{salvage_outcome}
+use Rattle.survivors.proofs.Laws.{salvage_refused, salvage_words}
 use Rattle.history.specs.Calls.{Answer, Other, Call, step, OtherStands, refused, unchanged, Like}
 use Rattle.history.specs.Model.{Request, reply}
 use Rattle.history.specs.Agrees.{Agrees}
@@ -44,6 +45,18 @@ loading tabulation r s station input scratch = record {
   leaves = λ ws n. bulk_refused (params_for tabulation r s station) input ws scratch n;
 }
 
+-- a salvage of other words, over those of the sequence: "every refusal leaves the second area unchanged", and then it
+-- may stand there; accepted, it starts another sequence (`Start`)
+
+abbrev pub salvaging_over : (tabulation damaged scratch : List ℕ) → Other
+salvaging_over tabulation damaged scratch = record {
+  answer = λ ws.
+      let o = salvage_outcome tabulation damaged ws scratch in
+      record { number = o.number; values = o.values };
+  words = λ ws. (salvage_outcome tabulation damaged ws scratch).target;
+  leaves = λ ws n. salvage_refused tabulation damaged ws scratch n;
+}
+
 -- calls that only read the words
 
 abbrev pub reads : (List ℕ → Answer) → Other
@@ -62,4 +75,15 @@ tracing tabulation scratch key sheet = record {
       record { number = o.number; values = o.values ++ o.trail };
   words = λ ws. (trail_outcome tabulation ws scratch key sheet).words;
   leaves = λ ws n. trail_words tabulation ws scratch key sheet;
+}
+
+-- A salvage of the words of the sequence, with any tabulation, target and scratch. Its values are how many are lost, none
+-- if it is refused, and the target, as it is afterwards.
+abbrev pub salvaging : (tabulation target scratch : List ℕ) → Other
+salvaging tabulation target scratch = record {
+  answer = λ ws.
+      let o = salvage_outcome tabulation ws target scratch in
+      record { number = o.number; values = o.values ++ o.target };
+  words = λ ws. (salvage_outcome tabulation ws target scratch).words;
+  leaves = λ ws n. salvage_words tabulation ws target scratch;
 }

@@ -90,7 +90,7 @@ pub changed_tier : (kind : Change) (key : ℕ) (L : List Entry) {c : ℕ} → In
     → tier_of (changed kind key L) c ≡ tier_changed kind key (tier_of L) c
 changed_tier kind key L i = tier_tiered (tier_changed kind key (tier_of L)) (keys_changed kind key (keys_of L)) (rw (changed_keys kind key L) at i)
 
-with_valid : (key : ℕ) {S : List ℕ} → blank key ≡ false → ValidKeys S → ValidKeys (with_key key S)
+pub with_valid : (key : ℕ) {S : List ℕ} → blank key ≡ false → ValidKeys S → ValidKeys (with_key key S)
 with_valid key {S} b valid = record {
   asc = asc_with key valid.asc;
   none_blank = λ d i. elim (with_cases key S i) [ inl e ↦ rw e b | inr k ↦ valid.none_blank d k ];
@@ -240,24 +240,6 @@ module _ {P : Params} {L : List Entry} {ws : List ℕ} (h : Holds P L ws) (full_
           pub held_new : (change_outcome (Insert tier) P.tabulation ws scratch key).answer ≡ cond (not (fits P (with_key key (keys_of L)))) stash_full done
           unfolding change_outcome
           held_new = held_set (Insert tier) ∙ (rw (b, le-ltb max_tier tier small, new, m))
-
-          pub held_full : ((change_outcome (Insert tier) P.tabulation ws scratch key).answer ≡ stash_full)
-              ↔ (Placement (slot_0 (family P)) (slot_1 (family P)) P.places (with_key key (keys_of L)) → ⊥)
-          held_full =
-              full_answer P (with_valid key b h.is.valid.keys)
-              (held_new ∙ last_turned stash_full (fits P (with_key key (keys_of L))))
-
-          -- and accepted exactly when there is one.
-          pub held_insert : ((change_outcome (Insert tier) P.tabulation ws scratch key).answer ≡ done)
-              ↔ Placement (slot_0 (family P)) (slot_1 (family P)) P.places (with_key key (keys_of L))
-          held_insert =
-              let F = fits_placement P (with_valid key b h.is.valid.keys) in (
-                λ e. F.0 (elim (test (fits P (with_key key (keys_of L)))) [
-                  | inl f ↦ f
-                  | inr f ↦ absurd (let z = rw f at (sym held_new ∙ e) in omega arith)
-                ]),
-                λ p. let f = F.1 p in held_new ∙ (rw f),
-              )
 
       -- row 7
       pub held_absent : member key (keys_of L) ≡ false → (change_outcome Remove P.tabulation ws scratch key).answer ≡ key_absent

@@ -36,7 +36,8 @@ use Rattle.layout.specs.Ready.{first_refusals, Ready}
 use Rattle.outcome.specs.Outcome.{keys_changed, tier_changed, changed, set_refusals, change_refusal, change_outcome, check_outcome}
 use Rattle.outcome.proofs.Laws.{change_done, change_refused, change_set, change_passed}
 use Rattle.outcome.specs.Held.{Holds, SmallTier, NewIssue, S}
-use Rattle.outcome.proofs.Held.{held_params, held_set_in, held_scratch, passed_holds, changed_keys, changed_valid, changed_back, insert_tried, insert_accepts, remove_accepts, held_new, held_full, held_remove, held_entry, valid, left_ne}
+use Rattle.outcome.proofs.Held.{held_params, held_set_in, held_scratch, passed_holds, changed_keys, changed_valid, changed_back, insert_tried, insert_accepts, remove_accepts, held_new, held_remove, held_entry, valid, left_ne}
+use Rattle.outcome.proofs.HeldNew.{held_full}
 
 -- A change that is not refused leads to a set that fits: an insert since 8 was tried, a removal in any case.
 accepts_fits : (kind : Change) (P : Params) (key : ℕ) (L : List Entry) → ValidKeys (keys_of L) → fits P (keys_of L) ≡ true

@@ -2,6 +2,7 @@
 pub mod Board
 pub mod Demands
 pub mod Held
+pub mod HeldNew
 pub mod HeldAfter
 pub mod Laws
 pub mod SaleLaws

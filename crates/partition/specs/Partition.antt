@@ -1,5 +1,5 @@
 -- What the words mean: their sets are the components of the cuckoo graph. The invariant, what a caller has from it, that it holds at the start,
--- and that a key inside a component keeps it; a key between two is specs/United.antt. Assumes nothing.
+-- and that a key inside a component keeps it; a key between two is proofs/United.antt. Assumes nothing.
 use Rattle.std.specs.Prelude.{ℕ, ◌+◌, ◌^◌, ◌≤◌, ◌<◌, ◌≡◌, ◌↔◌, List, [], ◌∷◌, length, get_or}
 use Rattle.std.proofs.Math.Path.{sym, ap}
 use Rattle.std.proofs.Common.{◌∙◌, inl, inr, arith, pow_mono}

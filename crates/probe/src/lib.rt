@@ -127,7 +127,7 @@ fn wide_wall(wall: u16) -> usize
 
 // The wall of a key that comes at a turn, by the walls of the turns before: a smaller key is passed, and with it all
 // that it has passed. In all turns of a round together the loop goes on at most once for each slot (`few_jumps`,
-// probing/specs/Linear.antt).
+// probing/proofs/Linear.antt).
 pub fn wall_of(words: &[u32], walls: &[u16; MAX_SLOTS], base: usize, turn: usize, key: u32) -> usize
     requires { (base < length words.now) × (turn < length words.now) × (length words.now ≤ 1024)
         × Walled (length words.now) words.now base walls.now turn }

@@ -2,7 +2,7 @@
 
 use std::collections::BTreeMap;
 use std::fs::{self, File};
-use std::io::{BufRead, BufReader, ErrorKind, Read, Write};
+use std::io::{self, BufRead, BufReader, ErrorKind, Read, Write};
 use std::os::fd::OwnedFd;
 use std::os::unix::net::UnixStream;
 use std::path::{Path, PathBuf};
@@ -475,6 +475,9 @@ const DISK_FULL: &str = "standard output: No space left on device\n";
 /// The same where it is a socket that is full for now.
 const FULL_FOR_NOW: &str = "standard output: Resource temporarily unavailable\n";
 
+/// The same where nobody reads it any more.
+const NOBODY_READS: &str = "standard output: Broken pipe\n";
+
 /// A program that does not end is taken for one that never will.
 const LIMIT: Duration = Duration::from_secs(20);
 
@@ -510,6 +513,20 @@ fn output_that_cannot_be_written() {
     // nothing to be written, so nothing is lost
     let output = run(&folder, Some(&book), b"2,1,0\n", full_disk());
     assert_eq!(String::from_utf8_lossy(&output.stderr), "", "no line");
+}
+
+/// As in `console | head -1`: no signal ends the program, which says what happened and ends as always.
+#[test]
+fn a_pipe_that_nobody_reads() {
+    let folder = Folder::new("pipe");
+    let book = book_of(&test_tabulation());
+    for input in ["2,1,0\nA,650,0\n", "4,1\n", &long_session(5_000)] {
+        let (reading, writing) = io::pipe().expect("a pipe");
+        drop(reading);
+        let output = run(&folder, Some(&book), input.as_bytes(), writing.into());
+        let told = String::from_utf8_lossy(&output.stderr);
+        assert_eq!(told, NOBODY_READS, "{}", &input[..input.len().min(30)]);
+    }
 }
 
 /// The program ends after the line whose row it could not write, though the input goes on.
