@@ -45,7 +45,7 @@ module _ (a b : ℕ → ℕ) where
     pub counterpart : ℕ → ℕ
     counterpart c = cond (cyclic a b T (a c)) (occupant a b T (cond (eqb (occupant a b K (a c)) c) (a c) (b c))) c
 
-    data Counterpart (c : ℕ) : Type 0 where
+    pub data Counterpart (c : ℕ) : Type 0 where
       holder : (u d : ℕ) → occupant a b K u ≡ c → counterpart c ≡ d → Cyclic a b T u → occupant a b T u ≡ d → In d T
           → Cyclic a b T (a d) → Counterpart c
       itself : counterpart c ≡ c → In c T → (Cyclic a b T (a c) → ⊥) → Counterpart c
