@@ -45,7 +45,8 @@ use Rattle.history.proofs.Sales.{sale_stays}
 use Rattle.history.proofs.Corollaries.{same_answers}
 use Rattle.history.specs.Others.{init, loading, reads, hashes, tracing}
 use Rattle.history.proofs.Others.{trail_stands}
-use Rattle.history.specs.Example.{P, scratch, counters, insert, remove, says, input, script, calls, answers, fresh, one, two, set_K5, words, other_calls, loaded_calls, wet_words, steps, sale}
+use Rattle.history.proofs.ExampleCalls.{script, calls, answers}
+use Rattle.history.specs.Example.{P, scratch, counters, insert, remove, says, input, fresh, one, two, set_K5, words, other_calls, loaded_calls, wet_words, steps, sale}
 
 -- Init with station 256 is refused on any words, so it may stand in a sequence.
 init_refused : (ws : List ℕ) → fresh_refusal (length ws) 4 1 256 ≡ done → ⊥

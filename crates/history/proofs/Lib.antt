@@ -2,6 +2,7 @@
 pub mod Agrees
 pub mod Changes
 pub mod Corollaries
+pub mod ExampleCalls
 pub mod Example
 pub mod History
 pub mod NoTrace

@@ -18,7 +18,12 @@ use Rattle.history.proofs.Others.{reads_stands}
 use Rattle.history.proofs.History.{history}
 use Rattle.history.specs.NoTrace.{step_after}
 use Rattle.history.proofs.NoTraceAfter.{no_trace}
-use Rattle.history.specs.Sales.{opening, closing, Act, all_calls, without_sales, others, SaleOf, call, opens, closes}
+use Rattle.history.specs.Sales.{opening, closing, Act, as_call, without_sales, others, SaleOf, call, opens, closes}
+
+-- a sequence in which sales are opened and closed, as a sequence of calls
+unfoldable pub all_calls : List Act → List Call
+all_calls [] = []
+all_calls (a ∷ acts) = as_call a ∷ all_calls acts
 
 -- The laws
 

@@ -33,15 +33,11 @@ pub data Act : Type 0 where
   opens : (tabulation : List ℕ) (key base : ℕ) (steps : List ℤ) → Act
   closes : Sale → Act
 
--- a sequence in which sales are opened and closed, as a sequence of calls,
+-- An act of a sequence in which sales are opened and closed, as a call; `all_calls` of proofs/Sales.antt is the sequence,
 abbrev pub as_call : Act → Call
 as_call (call c) = c
 as_call (opens tabulation key base steps) = Call.other (opening tabulation key base steps)
 as_call (closes s) = Call.other (closing s)
-
-unfoldable pub all_calls : List Act → List Call
-all_calls [] = []
-all_calls (a ∷ acts) = as_call a ∷ all_calls acts
 
 -- and the calls of it that are no opening and no closing
 unfoldable pub without_sales : List Act → List Call

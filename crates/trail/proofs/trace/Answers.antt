@@ -4,7 +4,7 @@ use Prim.Native.Nat.{◌≤◌}
 use mathlib.Core.Path.{◌≡◌, sym, ◌∙◌, ap}
 use lib.ListN.{length}
 use Rattle.walking.specs.Walk.{key_of}
-use Rattle.walking.specs.Cut.{closed_met, met_length, few}
+use Rattle.walking.proofs.CutLaws.{closed_met, met_length, few}
 use Rattle.trail.specs.Traced.{slot_readable, seated_lt, not_seated, cleared, trail_count, trail_found, told_empty, told_short, told_found}
 use borrow.Author.Rules.{rules}
 use Rattle.trail.proofs.trace.Goals as goal

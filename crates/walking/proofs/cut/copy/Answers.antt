@@ -3,7 +3,7 @@ use mathlib.Core.Path.{◌≡◌, ◌∙◌, ap}
 use native.Mathlib.Omega.{arith}
 use lib.ListN.{length}
 use lib.Seq.{paste, paste-zero, length-paste}
-use Rattle.walking.specs.Cut.{copied_more, copied_all}
+use Rattle.walking.proofs.CutLaws.{copied_more, copied_all}
 use borrow.Author.Rules.{rules}
 use Rattle.walking.proofs.cut.copy.Goals as goal
 

@@ -2,7 +2,8 @@
 use native.Mathlib.Omega.{arith}
 use Prim.Native.Nat.{◌+◌}
 use mathlib.Core.Path.{◌≡◌}
-use Rattle.walking.specs.Cut.{met_keys, first_visit, visited_at, behind, rest_some, root_stands, cut_of}
+use Rattle.walking.specs.Cut.{met_keys, first_visit}
+use Rattle.walking.proofs.CutLaws.{visited_at, behind, rest_some, root_stands, cut_of}
 use borrow.Author.Rules.{rules}
 use Rattle.walking.proofs.cut.cut.Goals as goal
 

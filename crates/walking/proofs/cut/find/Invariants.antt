@@ -2,7 +2,8 @@
 use Prim.Native.Nat.{◌-◌}
 use lib.ListN.{length}
 use native.Mathlib.Omega.{arith}
-use Rattle.walking.specs.Cut.{Sought, sought_here, sought_start, sought_turn, sought_end}
+use Rattle.walking.specs.Cut.{Sought}
+use Rattle.walking.proofs.CutLaws.{sought_here, sought_start, sought_turn, sought_end}
 use borrow.Author.Rules.{rules}
 use Rattle.walking.proofs.cut.find.Given as goal
 

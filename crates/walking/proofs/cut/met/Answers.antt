@@ -1,5 +1,5 @@
 -- `cut::met` meets its contract: the words behind the first 2r, as many as steps.
-use Rattle.walking.specs.Cut.{met_lent}
+use Rattle.walking.proofs.CutLaws.{met_lent}
 use borrow.Author.Rules.{rules}
 use Rattle.walking.proofs.cut.met.Goals as goal
 

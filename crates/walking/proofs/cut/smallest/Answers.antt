@@ -1,7 +1,8 @@
 use Prim.Native.Nat.{◌-◌, ◌≤◌}
 use lib.ListN.{length}
 use native.Mathlib.Omega.{arith}
-use Rattle.walking.specs.Cut.{SmallestTo, smallest_one, smallest_more, smallest_all}
+use Rattle.walking.specs.Cut.{SmallestTo}
+use Rattle.walking.proofs.CutLaws.{smallest_one, smallest_more, smallest_all}
 use borrow.Author.Rules.{rules}
 use Rattle.walking.proofs.cut.smallest.Goals as goal
 

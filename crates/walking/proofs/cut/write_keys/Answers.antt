@@ -4,7 +4,7 @@ use Prim.Native.Nat.{ℕ}
 use mathlib.Core.Path.{◌∙◌, ap}
 use mathlib.Core.List.{List, ◌++◌}
 use lib.ListN.{length, drop}
-use Rattle.walking.specs.Cut.{copied_zeros}
+use Rattle.walking.proofs.CutLaws.{copied_zeros}
 use borrow.Author.Rules.{rules}
 use Rattle.walking.proofs.cut.write_keys.Goals as goal
 

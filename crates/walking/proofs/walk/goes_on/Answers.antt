@@ -1,5 +1,5 @@
 -- `walk::goes_on` meets its contract.
-use Rattle.walking.specs.Walk.{on_here, not_here}
+use Rattle.walking.proofs.WalkLaws.{on_here, not_here}
 use borrow.Author.Rules.{rules}
 use Rattle.walking.proofs.walk.goes_on.Goals as goal
 

@@ -1,7 +1,7 @@
 -- `walk::visit` meets its contract: the two words that it writes.
 use native.Mathlib.Omega.{arith}
 use lib.ListN.{length-set}
-use Rattle.walking.specs.Walk.{noted_as, noted_fits}
+use Rattle.walking.proofs.WalkLaws.{noted_as, noted_fits}
 use borrow.Author.Rules.{rules}
 use Rattle.walking.proofs.walk.visit.Goals as goal
 

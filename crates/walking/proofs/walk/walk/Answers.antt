@@ -1,7 +1,8 @@
 use Prim.Native.Nat.{◌+◌, ◌-◌}
 use mathlib.Core.Path.{◌≡◌, refl, ◌∙◌}
 use lib.ListN.{length}
-use Rattle.walking.specs.Walk.{key_of, across, WalkRoom, Walked, walk_start, new_here, closed_here}
+use Rattle.walking.specs.Walk.{key_of, across, WalkRoom, Walked}
+use Rattle.walking.proofs.WalkLaws.{walk_start, new_here, closed_here}
 use borrow.Author.Rules.{rules}
 use Rattle.walking.proofs.walk.walk.Goals as goal
 

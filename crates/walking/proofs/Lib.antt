@@ -1,0 +1,3 @@
+-- The laws of the crate `walking`.
+pub mod CutLaws
+pub mod WalkLaws
