@@ -32,7 +32,7 @@ use Rattle.history.specs.Model.{Request, requests, Reply, reply, model, set_afte
 use Rattle.history.specs.NoTrace.{ComesToFull, step_after, NoTrace}
 use Rattle.history.specs.Sales.{opening, closing}
 use Rattle.history.specs.Others.{init, loading, reads, hashes, tracing}
-use Rattle.history.specs.Example.{scratch, insert, remove, says, count_keys, input}
+use Rattle.history.specs.Example.{P, scratch, counters, insert, remove, says, count_keys, input}
 
 -- each call with its answer
 abbrev pub script : List (Call × Answer)

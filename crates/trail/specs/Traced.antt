@@ -10,28 +10,28 @@ use Rattle.basics.specs.Tests.{test}
 use Rattle.basics.specs.Sets.{member, Asc}
 use Rattle.cuckoo.specs.Graph.{seated, occupant, slot_key}
 use Rattle.cuckoo.specs.Settling.{Settled}
-use Rattle.cuckoo.specs.Settling.{seated_asc, seated_stops}
+use Rattle.cuckoo.proofs.Settling.{seated_asc, seated_stops}
 use Rattle.cuckoo.specs.Seating.{Ends, from_a, from_b}
 use Rattle.cuckoo.specs.Places.{Seat}
-use Rattle.cuckoo.specs.Places.{seat_ends, seat_occupant}
-use Rattle.cuckoo.specs.Places.{occupant_seat}
+use Rattle.cuckoo.proofs.Places.{seat_ends, seat_occupant}
+use Rattle.cuckoo.proofs.Places.{occupant_seat}
 use Rattle.cuckoo.specs.Trail.{seat}
-use Rattle.cuckoo.specs.Trail.{seat_holds, trail_none}
+use Rattle.cuckoo.proofs.Trail.{seat_holds, trail_none}
 use Rattle.cuckoo.specs.Round.{path}
-use Rattle.cuckoo.specs.Round.{path_none, path_step}
+use Rattle.cuckoo.proofs.Round.{path_none, path_step}
 use Rattle.refusals.specs.Refusal.{done, blank_key, key_absent, short_trail, first_refusal}
 use Rattle.hashing.specs.Hash.{tables, blank}
 use Rattle.hashing.specs.Slots.{slot_0, slot_1}
-use Rattle.hashing.specs.Slots.{slot_0_lt, slot_1_le, slot_1_lt}
+use Rattle.hashing.proofs.Slots.{slot_0_lt, slot_1_le, slot_1_lt}
 use Rattle.layout.specs.Entries.{keys_of}
-use Rattle.layout.specs.Entries.{keys_tiered}
+use Rattle.layout.proofs.Entries.{keys_tiered}
 use Rattle.layout.specs.Layout.{Params, family, family_of, header_of, params_of, slots_of, image, keys_in, tier_in, set_in, key_at}
 use Rattle.layout.specs.Canonical.{canonical}
-use Rattle.layout.specs.Canonical.{canonical_true}
-use Rattle.layout.specs.Image.{image_key}
+use Rattle.layout.proofs.Canonical.{canonical_true}
+use Rattle.layout.proofs.Image.{image_key}
 use Rattle.layout.specs.declared.Header.{Header}
-use Rattle.layout.specs.Shape.{same_header, by_own_family}
-use Rattle.layout.specs.Standing.{keys_in_valid, not_blank}
+use Rattle.layout.proofs.Shape.{same_header, by_own_family}
+use Rattle.layout.proofs.Standing.{keys_in_valid, not_blank}
 use Rattle.outcome.specs.declared.Traced.{Traced}
 use Rattle.outcome.specs.declared.Traced.TheVariants.{Length, Refused}
 use Rattle.outcome.specs.Trail.{number, values, trail_of, trail_in, trail_refusals, trail_refusal, trail_outcome}

@@ -5,19 +5,19 @@ use Rattle.std.proofs.Math.Path.{refl, ap}
 use Rattle.std.proofs.Common.{sym, ◌∙◌, inl, inr, arith, length-drop, get_or-take, get_or-drop, length-take-le, ext_get_or}
 use borrow.Rule.Slice.PartMut.{mid_of}
 use Rattle.std.proofs.Math.Seq.{take-length, paste}
-use Rattle.basics.specs.Tests.{eq?}
+use Rattle.basics.proofs.Tests.{eq?}
 use Rattle.basics.specs.Sets.{Asc}
-use Rattle.basics.specs.Lists.{drop_zeros}
-use Rattle.basics.specs.Parts.{part_lent, to_end, pasted_more}
-use Rattle.basics.specs.Parts.{part_length}
+use Rattle.basics.proofs.Lists.{drop_zeros}
+use Rattle.basics.proofs.Parts.{part_lent, to_end, pasted_more}
+use Rattle.basics.proofs.Parts.{part_length}
 use Rattle.cuckoo.specs.Graph.{root, occupant}
 use Rattle.cuckoo.specs.Settling.{Settled}
 use Rattle.cuckoo.specs.Seating.{Ends}
 use Rattle.cuckoo.specs.Places.{Seat}
-use Rattle.cuckoo.specs.Places.{seat_occupant}
+use Rattle.cuckoo.proofs.Places.{seat_occupant}
 use Rattle.cuckoo.specs.Trail.{trail}
 use Rattle.cuckoo.specs.Round.{path, along}
-use Rattle.cuckoo.specs.Round.{path_shift, under, under_path, trail_along, root_met, root_least_met}
+use Rattle.cuckoo.proofs.Round.{path_shift, under, under_path, trail_along, root_met, root_least_met}
 use Rattle.walking.specs.Walk.{Closed}
 use Rattle.walking.specs.Cut.{SmallestTo, SmallestIn, Lesser, Stands, First, Cut, met_keys, first_visit, Met, Sought, K, j}
 
