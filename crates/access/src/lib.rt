@@ -4,6 +4,7 @@
 #![tactic(auto)]
 
 ghost use Rattle.std.specs.Prelude.{◌≡◌, ◌&&◌, ◌++◌, ◌+◌, ◌*◌, ◌≤◌, ◌<◌, eqb, length, get_or, take, drop};
+ghost use Rattle.refusals.specs.Answer.{number};
 ghost use Rattle.hashing.specs.Hash.{max_slots};
 ghost use Rattle.layout.specs.Layout.{header_of, header_words, header_length, with_keys, with_stashed};
 ghost use Rattle.layout.specs.Layout.{slot_width, slots_of};
@@ -13,7 +14,7 @@ ghost use Rattle.layout.specs.Shape.{Sized, Shaped};
 ghost use Rattle.layout.specs.Answers.{fresh_refusal, fresh_header, fresh_words};
 
 use layout::{HEADER_LENGTH, Header, MAX_PLACES, PLACE_WIDTH, SLOT_WIDTH, Slot};
-use refusals::WRONG_SHAPE;
+use refusals::Refusal;
 use words::{fill, wide};
 
 // Whether r and s are in their ranges.
@@ -34,10 +35,7 @@ pub fn are_params(r: u32, s: u32, station: u32) -> bool
 pub fn is_target(len: usize, r: u32, s: u32, station: u32) -> bool
     ensures { result ≡ (params_in_range r s station && eqb len (words_length r s)) }
 {
-    if !are_params(r, s, station) {
-        return false;
-    }
-    len == length_for(r, s)
+    are_params(r, s, station) && len == length_for(r, s)
 }
 
 // The heading of words that are long enough to have one.
@@ -75,7 +73,7 @@ pub fn fresh_header(r: u32, s: u32, station: u32) -> Header
         places: s,
         keys: 0,
         stashed: 0,
-        station: station,
+        station,
     }
 }
 
@@ -83,26 +81,14 @@ pub fn fresh_header(r: u32, s: u32, station: u32) -> Header
 pub fn with_keys(header: Header, keys: u32) -> Header
     ensures { result ≡ with_keys header keys }
 {
-    Header {
-        slots: header.slots,
-        places: header.places,
-        keys: keys,
-        stashed: header.stashed,
-        station: header.station,
-    }
+    Header { keys, ..header }
 }
 
 // A heading with another number of stashed keys.
 pub fn with_stashed(header: Header, stashed: u32) -> Header
     ensures { result ≡ with_stashed header stashed }
 {
-    Header {
-        slots: header.slots,
-        places: header.places,
-        keys: header.keys,
-        stashed: stashed,
-        station: header.station,
-    }
+    Header { stashed, ..header }
 }
 
 // Slot v of a stretch of slots.
@@ -197,14 +183,14 @@ pub fn slot_tier(words: &[u32], slot: u32) -> u32
 }
 
 // Lays fresh words: r, s, no keys, the station number and zeros, whatever they were; or 2, and the words stay.
-pub fn fresh(words: &mut [u32], r: u32, s: u32, station: u32) -> u32
-    ensures numbered { result ≡ fresh_refusal (length words.old) r s station }
+pub fn fresh(words: &mut [u32], r: u32, s: u32, station: u32) -> Result<(), Refusal>
+    ensures numbered { number result ≡ fresh_refusal (length words.old) r s station }
     ensures laid { words.new ≡ fresh_words words.old r s station }
 {
     if !is_target(words.len(), r, s, station) {
-        return WRONG_SHAPE;
+        return Err(Refusal::WrongShape);
     }
-    fill(&mut *words, 0);
+    fill(words, 0);
     write_header(words, fresh_header(r, s, station));
-    0
+    Ok(())
 }

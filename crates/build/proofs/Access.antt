@@ -2,7 +2,6 @@
 use Rattle.std.specs.Prelude.{ℕ, suc, ◌+◌, ◌*◌, ◌-◌, ◌≤◌, ◌<◌, ◌≡◌, List, ◌++◌, length, get_or, set, drop}
 use Rattle.std.proofs.Common.{◌∙◌, ap, append_assoc, arith, length-set, length-append, length-take, length-drop, take-append-drop}
 use borrow.Rule.Slice.PartMut.{mid_of, put_mid}
-use Rattle.basics.specs.Parts.{PartAt}
 use Rattle.basics.proofs.Parts.{place_word, place_part, place_put, place_set}
 use Rattle.forest.specs.Edges.{edge_at}
 use Rattle.forest.specs.Graph.{held_in, edges_in, with_held}

@@ -1,8 +1,8 @@
 -- The laws of what specs/Built.antt defines.
-use Rattle.std.specs.Prelude.{ℕ, zero, suc, ◌+◌, ◌-◌, ◌*◌, ◌%◌, ◌/◌, ◌<◌, ◌≤◌, ◌≡◌, Bool, true, false, cond, drop, replicate}
+use Rattle.std.specs.Prelude.{ℕ, ◌+◌, ◌*◌, ◌%◌, ◌/◌, ◌<◌, ◌≤◌, ◌≡◌, Bool, false, cond, replicate}
 use Rattle.std.proofs.Common.{sym, ◌∙◌, inl, inr}
 use Rattle.std.proofs.Math.Path.{ap}
-use mathlib.Core.List.{List, [], ◌++◌, Memᴰ as In}
+use mathlib.Core.List.{List, [], Memᴰ as In}
 use native.Mathlib.Omega.{arith}
 use Rattle.std.proofs.Math.ListN.{length, get_or, length-replicate}
 use Rattle.basics.proofs.Tests.{zero_one}
@@ -17,19 +17,18 @@ use Rattle.cuckoo.specs.Renaming.{ranks}
 use Rattle.partition.specs.Words.{rep_of, max_points}
 use Rattle.forest.specs.Edges.{Edges, end_0, end_1, other_end}
 use Rattle.forest.proofs.Edges.{ends_fit, ends_apart, ends_turn}
-use Rattle.build.specs.EachSlot.{listed}
 use Rattle.build.proofs.EachSlot.{is_listed}
-use Rattle.build.specs.Link.{Linking, unlinked, link_keys, Linked, Marked}
+use Rattle.build.specs.Link.{unlinked, Linked, Marked}
 use Rattle.build.proofs.Link.{link_length, link_all, forest_few}
-use Rattle.build.specs.Labels.{Labels, Words, labelled}
+use Rattle.build.specs.Labels.{Labels, Words}
 use Rattle.build.proofs.Labels.{labelled_length, labels_all, words_all, label_fit}
-use Rattle.build.specs.Notes.{pair_base, lows, Lows, found, none_of, Noting, Going, none_yet, one_seen, nothing_noted, noted, Stashed, over, fit, Smallest}
+use Rattle.build.specs.Notes.{pair_base, Lows, found, none_of, Noting, Going, none_yet, one_seen, Stashed, over, fit, Smallest}
 use Rattle.build.proofs.Notes.{split_pair, lows_all, stashed}
-use Rattle.build.specs.Finish.{finish_ranks, Occupied}
+use Rattle.build.specs.Finish.{Occupied}
 use Rattle.build.proofs.Finish.{note_smallest, finish_all}
-use Rattle.build.specs.Next.{Chaining, nexts}
+use Rattle.build.specs.Next.{Chaining}
 use Rattle.build.proofs.Next.{next_all, next_held}
-use Rattle.build.specs.Built.{linking, labels, low, noting, held, chain, built, Right, S, overflow, full, right}
+use Rattle.build.specs.Built.{linking, labels, low, noting, held, chain, built, Right, S, full, right}
 
 module _ {a b : ℕ → ℕ} {other : ℕ → ℕ → ℕ} (turn : (c v w : ℕ) → Ends a b c v w → other v c ≡ w) {m : ℕ} (few : m ≤ max_points)
     (fits : (c : ℕ) → (a c < m) × (b c < m)) (two : (c : ℕ) → a c ≡ b c → ⊥) (n : ℕ) (small : n < pair_base) (words : List ℕ) (long : n < length words) where

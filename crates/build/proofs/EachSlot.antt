@@ -1,5 +1,5 @@
 -- The laws of what specs/EachSlot.antt defines.
-use Rattle.std.specs.Prelude.{ℕ, zero, suc, ◌+◌, ◌≤◌, ◌<◌, ◌≡◌, refl, List, [], ◌∷◌, length, get_or, set}
+use Rattle.std.specs.Prelude.{ℕ, zero, suc, ◌+◌, ◌≤◌, ◌<◌, ◌≡◌, refl, List, length, get_or, set}
 use Rattle.std.proofs.Common.{sym, ◌∙◌, ap, inl, inr, arith, length-set, get_or-set_same, get_or-set_other, ext_get_or}
 use Rattle.basics.proofs.Tests.{eq?}
 use Rattle.build.specs.EachSlot.{each_slot, listed}

@@ -1,5 +1,5 @@
 -- The laws of what specs/Finish.antt defines.
-use Rattle.std.specs.Prelude.{ℕ, suc, ◌%◌, ◌/◌, ◌<◌, ◌≤◌, ◌≡◌, cond, eqb, ltb, length}
+use Rattle.std.specs.Prelude.{ℕ, suc, ◌%◌, ◌/◌, ◌<◌, ◌≤◌, ◌≡◌, ltb, length}
 use Rattle.std.proofs.Math.Path.{refl}
 use Rattle.std.proofs.Common.{sym, ◌∙◌, ap, arith}
 use Rattle.std.proofs.Math.Logic.{inl, inr}
@@ -22,7 +22,7 @@ use Rattle.cuckoo.specs.Seating.{Ends}
 use Rattle.cuckoo.proofs.Seating.{occupant_from}
 use Rattle.forest.specs.Oriented.{OrientedForest, Oriented}
 use Rattle.forest.proofs.Oriented.{end_near, recast}
-use Rattle.forest.specs.Finish.{Finished, Spanned, TreeComponent, CycleComponent, finish_tree, finish_cycle}
+use Rattle.forest.specs.Finish.{Finished, Spanned, TreeComponent, CycleComponent}
 use Rattle.forest.proofs.Finish.{finishes_tree, finishes_cycle}
 use Rattle.build.specs.Labels.{Labels, Words}
 use Rattle.build.proofs.Labels.{label_fit, same_label}

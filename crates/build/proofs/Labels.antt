@@ -8,7 +8,6 @@ use Rattle.cuckoo.specs.Forest.{forest}
 use Rattle.cuckoo.proofs.Forest.{forest_in, spans}
 use Rattle.partition.specs.Words.{rep_of}
 use Rattle.partition.proofs.Partition.{rep_lt}
-use Rattle.build.specs.EachSlot.{each_slot}
 use Rattle.build.proofs.EachSlot.{each_slot_at, each_slot_length}
 use Rattle.build.specs.Link.{Linking, Linked, Marked}
 use Rattle.build.specs.Labels.{Labels, Words, add_label, labelled}

@@ -1,5 +1,5 @@
 -- The laws of what specs/Link.antt defines.
-use Rattle.std.specs.Prelude.{ℕ, suc, ◌<◌, ◌≤◌, ◌≡◌, cond, eqb, ltb, length, get_or, set, replicate}
+use Rattle.std.specs.Prelude.{ℕ, suc, ◌<◌, ◌≤◌, ◌≡◌, eqb, ltb, length, set}
 use Rattle.std.proofs.Math.Path.{refl}
 use Rattle.std.proofs.Common.{◌∙◌, arith, get_or-set_same, get_or-set_other, eq-eqb, ne_eqb}
 use Rattle.std.proofs.Math.Logic.{inl, inr}
@@ -14,13 +14,12 @@ use Rattle.cuckoo.specs.Joined.{Joined}
 use Rattle.cuckoo.proofs.Joined.{joined?, jrefl, edge, mono}
 use Rattle.cuckoo.specs.Seating.{Ends, from_a, from_b}
 use Rattle.cuckoo.specs.Forest.{forest}
-use Rattle.forest.specs.Oriented.{OrientedForest}
 use Rattle.forest.proofs.Oriented.{forest_sub, recast}
 use Rattle.forest.specs.Reroot.{reroot}
 use Rattle.forest.proofs.RerootLaws.{length_reroot}
 use Rattle.forest.proofs.Link.{forest_none, grow_none, grow_pass, grow_link, grow_is, links, forest_fits, keys_fit}
 use Rattle.forest.specs.Link.{grow, Once, no_key, one_more}
-use Rattle.partition.specs.Words.{max_points, singletons_of, rep_of, size_of, united}
+use Rattle.partition.specs.Words.{max_points, rep_of, size_of, united}
 use Rattle.partition.specs.Partition.{Partition}
 use Rattle.partition.proofs.Partition.{start}
 use Rattle.partition.proofs.United.{add_between}

@@ -15,13 +15,12 @@ use Rattle.cuckoo.specs.Renaming.{from, ranks}
 use Rattle.cuckoo.proofs.Renaming.{ranks_more, from_in}
 use Rattle.forest.specs.Edges.{Edges, end_0, end_1, other_end}
 use Rattle.forest.proofs.Edges.{ends_fit, ends_turn}
-use Rattle.forest.specs.Graph.{Graph, Fit, held_in, edges_in, with_held, rerooted}
+use Rattle.forest.specs.Graph.{Graph, held_in, edges_in, with_held, rerooted}
 use Rattle.forest.proofs.Graph.{fit_reroot, held_with, drop_with, edges_with, edges_length, graph_with, with_own}
 use Rattle.partition.specs.Words.{Representative, Mergeable, rep_of, size_of, united, singletons_of}
 use Rattle.partition.proofs.Partition.{rep_marked, mergeable}
-use Rattle.build.specs.EachSlot.{each_slot}
 use Rattle.build.proofs.EachSlot.{each_slot_none, each_slot_step}
-use Rattle.build.specs.Link.{Linking, smaller_end, link_key, link_keys, unlinked, Sound}
+use Rattle.build.specs.Link.{Linking, smaller_end, link_key, link_keys, unlinked}
 use Rattle.build.proofs.Link.{sound_start, sound_key}
 use Rattle.build.specs.Labels.{add_label, labelled}
 use Rattle.build.specs.Built.{linking}

@@ -1,5 +1,5 @@
 -- The laws of what specs/Next.antt defines.
-use Rattle.std.specs.Prelude.{ℕ, ◌%◌, ◌<◌, ◌≤◌, ◌≡◌, cond, ltb, length, get_or, set}
+use Rattle.std.specs.Prelude.{ℕ, ◌%◌, ◌<◌, ◌≤◌, ◌≡◌, length, get_or, set}
 use Rattle.std.proofs.Math.Path.{refl}
 use Rattle.std.proofs.Common.{sym, ◌∙◌, ap, arith, length-set}
 use Rattle.std.proofs.Math.Logic.{inl, inr}

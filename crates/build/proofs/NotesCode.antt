@@ -1,6 +1,6 @@
 -- The laws of what specs/NotesCode.antt defines.
 use Prim.Native.Nat.{ℕ, suc, ◌*◌, ◌+◌, ◌-◌, ◌<◌, ◌≤◌}
-use Rattle.std.specs.Prelude.{◌≡◌, Bool, ltb, length, get_or, replicate, set}
+use Rattle.std.specs.Prelude.{◌≡◌, Bool, ltb, length, get_or, replicate, set, Option, Some, None}
 use Rattle.std.proofs.Math.Path.{refl}
 use Rattle.std.proofs.Common.{sym, ◌∙◌, ap, inl, inr, get_or-set_same, get_or-set_other}
 use mathlib.Core.List.{List, [], ◌∷◌, ◌++◌}
@@ -15,10 +15,8 @@ use Rattle.cuckoo.proofs.Renaming.{ranks_more}
 use Rattle.build.specs.Notes.{lows, pair_base, Noting, note_at, stash_rank, overflowed, noted}
 use Rattle.build.proofs.Notes.{noted_on, noted_first, noted_later, noted_full}
 use Rattle.build.specs.Access.{Enough}
-use Rattle.build.specs.Scratch.{Parts, parts, with_stash, with_sets, with_next}
+use Rattle.build.specs.Scratch.{Parts, parts, with_stash, with_sets}
 use Rattle.build.specs.Build.{number, values}
-use Rattle.build.specs.declared.StashCount.{StashCount}
-use Rattle.build.specs.declared.StashCount.TheVariants.{Ranks, Overflow}
 use Rattle.build.specs.NotesCode.{cleared_parts, smallest_parts, noting_in, with_noting, answer, rank_noted, ranks_noted, Labelled, Lowing, Closing}
 
 pub labelled_set : {r n : ℕ} {next : List ℕ} (v x : ℕ) → x < 4 * r → Labelled r n next → Labelled r n (set next v x)
@@ -158,13 +156,13 @@ pub cleared_done : {r s n : ℕ} {xs : List ℕ} {Q R : Parts} → Enough r s n 
 cleared_done E e f h k = f ∙ (rw (k, e, h))
 
 -- what an answer tells
-pub ranks_told : (N : Noting) {k : ℕ} → Ranks k ≡ answer N → (N.overflow ≡ false) × (N.count ≡ k)
+pub ranks_told : (N : Noting) {k : ℕ} → Some k ≡ answer N → (N.overflow ≡ false) × (N.count ≡ k)
 ranks_told N {k} e = elim (test N.overflow) [
   | inl t ↦ absurd (let z : ◌≡◌ {A = ℕ} 0 8 = ap number (rw t at e) in omega arith)
   | inr t ↦ (t, let v = ap values (rw t at e) in cc)
 ]
 
-pub overflow_told : (N : Noting) → Overflow ≡ answer N → N.overflow ≡ true
+pub overflow_told : (N : Noting) → None ≡ answer N → N.overflow ≡ true
 overflow_told N e = elim (test N.overflow) [
   | inl t ↦ t
   | inr t ↦ absurd (let z : ◌≡◌ {A = ℕ} 8 0 = ap number (rw t at e) in omega arith)
@@ -179,10 +177,10 @@ module _ {r n : ℕ} {P₀ : Parts} where
 
   module _ {i count : ℕ} {P : Parts} (C : Closing r n P₀ i count P) where
     -- what a pass makes of it
-    abbrev Told : Parts → StashCount → Type 0
+    abbrev Told : Parts → Option ℕ → Type 0
     Told Q k = (Q ≡ with_noting P₀ (ranks_noted r n 0 0 P₀)) × (k ≡ answer (ranks_noted r n 0 0 P₀))
 
-    pub closing_done : n ≤ i → Told P (Ranks count)
+    pub closing_done : n ≤ i → Told P (Some count)
     unfolding noted from
     closing_done l =
         let z : n - i ≡ 0 = omega arith in
@@ -194,7 +192,7 @@ module _ {r n : ℕ} {P₀ : Parts} where
       unfolding from
       one_more = let z : n - i ≡ suc (n - suc i) = omega arith in rw z
 
-      pub closing_more : {k : ℕ} → Ranks k ≡ answer (rank_noted r (suc i) count P) → Closing r n P₀ (suc i) k Q
+      pub closing_more : {k : ℕ} → Some k ≡ answer (rank_noted r (suc i) count P) → Closing r n P₀ (suc i) k Q
       closing_more {k} e =
           let N = rank_noted r (suc i) count P in
           let t = ranks_told N e in
@@ -206,7 +204,7 @@ module _ {r n : ℕ} {P₀ : Parts} where
             labelled = rw is (rank_labelled (suc i) count P (omega arith) l C.labelled);
           }
 
-      pub closing_over : Overflow ≡ answer (rank_noted r (suc i) count P) → Told Q Overflow
+      pub closing_over : None ≡ answer (rank_noted r (suc i) count P) → Told Q None
       closing_over e =
           let N = rank_noted r (suc i) count P in
           let all : ranks_noted r n 0 0 P₀ ≡ N =

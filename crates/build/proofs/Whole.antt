@@ -1,5 +1,5 @@
 -- The laws of what specs/Whole.antt defines.
-use Rattle.std.specs.Prelude.{ℕ, suc, ◌*◌, ◌-◌, ◌<◌, ◌≤◌, ◌≡◌, refl, List, [], ◌∷◌, ◌++◌, false, length, get_or, replicate}
+use Rattle.std.specs.Prelude.{ℕ, suc, ◌*◌, ◌-◌, ◌<◌, ◌≤◌, ◌≡◌, refl, List, [], ◌∷◌, ◌++◌, false, length, get_or, replicate, Option, Some, None}
 use Rattle.std.proofs.Common.{sym, ◌∙◌, subst}
 use Rattle.std.proofs.Math.Path.{ap}
 use Rattle.std.proofs.Math.Bool.{true, cond}
@@ -28,8 +28,6 @@ use Rattle.build.proofs.FinishCode.{finished_edges, finished_held}
 use Rattle.build.specs.NextCode.{chained_parts}
 use Rattle.build.specs.Build.{edges_of, Buildable, full, made}
 use Rattle.build.specs.Build as Promise
-use Rattle.build.specs.declared.StashCount.{StashCount}
-use Rattle.build.specs.declared.StashCount.TheVariants.{Ranks, Overflow}
 use Rattle.build.specs.Whole.{labelled_from, smallest_from, whole_noting, noted_from, seated_from}
 
 -- pass after pass
@@ -38,7 +36,7 @@ module _ (r s n : ℕ) (P : Parts) where
       → P₄ ≡ smallest_from r s n P
   after_four e f g h = e ∙ (rw (f, g, h))
 
-  pub noted_whole : {Q R : Parts} {k : StashCount} → Q ≡ smallest_from r s n P → R ≡ with_noting Q (ranks_noted r n 0 0 Q)
+  pub noted_whole : {Q R : Parts} {k : Option ℕ} → Q ≡ smallest_from r s n P → R ≡ with_noting Q (ranks_noted r n 0 0 Q)
       → k ≡ answer (ranks_noted r n 0 0 Q) → (R ≡ noted_from r s n P) × (k ≡ answer (whole_noting r s n P))
   noted_whole e f g = (f ∙ (rw e), g ∙ (rw e))
 
@@ -180,10 +178,10 @@ module _ {r s n : ℕ} {before : List ℕ} (mid : List ℕ) (B : Buildable r s n
   abbrev P₀ : Parts
   P₀ = parts r s n before
 
-  pub mid_finishable : {k : ℕ} → Ranks k ≡ answer (whole_noting r s n P₀) → Finishable r n (parts r s n mid)
+  pub mid_finishable : {k : ℕ} → Some k ≡ answer (whole_noting r s n P₀) → Finishable r n (parts r s n mid)
   mid_finishable e = rw prepared (noted_finishable P₀ B.edges (parts_fit (enough B)) (ranks_small B) (ranks_told (whole_noting r s n P₀) e).0)
 
-  pub full_built : Overflow ≡ answer (whole_noting r s n P₀) → Promise.Built r s n before mid Overflow
+  pub full_built : None ≡ answer (whole_noting r s n P₀) → Promise.Built r s n before mid None
   full_built e = record {
     keys = ap (λ (Z : Parts). Z.keys) prepared;
     edges = noted_edges;
@@ -193,8 +191,8 @@ module _ {r s n : ℕ} {before : List ℕ} (mid : List ℕ) (B : Buildable r s n
       noted_edges : edges_of r s n mid ≡ edges_of r s n before
       noted_edges = rw prepared (linked_edges P₀ B.edges (parts_fit (enough B)) (ranks_small B))
 
-  pub made_built : {k : ℕ} {after : List ℕ} → Ranks k ≡ answer (whole_noting r s n P₀)
-      → parts r s n after ≡ chained_parts r n (ranks_finished r n (parts r s n mid)) → Promise.Built r s n before after (Ranks k)
+  pub made_built : {k : ℕ} {after : List ℕ} → Some k ≡ answer (whole_noting r s n P₀)
+      → parts r s n after ≡ chained_parts r n (ranks_finished r n (parts r s n mid)) → Promise.Built r s n before after (Some k)
   made_built {k} {after} e q =
       let t = ranks_told (whole_noting r s n P₀) e in
       let seated : parts r s n after ≡ seated_from r s n P₀ = q ∙ (rw prepared) in

@@ -1,13 +1,8 @@
 -- What a pass asks of scratch, and the parts of scratch as code reads, writes and lends them. Each law says that the parts are as they were but for one,
 -- so that the passes are followed part by part. Assumes nothing.
-use Rattle.std.specs.Prelude.{ℕ, suc, ◌+◌, ◌*◌, ◌-◌, ◌≤◌, ◌<◌, ◌≡◌, List, ◌++◌, length, get_or, set, drop}
-use Rattle.std.proofs.Common.{◌∙◌, ap, append_assoc, arith, length-set, length-append, length-take, length-drop, take-append-drop}
-use borrow.Rule.Slice.PartMut.{mid_of, put_mid}
+use Rattle.std.specs.Prelude.{ℕ, ◌+◌, ◌*◌, ◌≤◌, ◌≡◌, List, length}
 use Rattle.basics.specs.Parts.{PartAt}
-use Rattle.forest.specs.Edges.{edge_at}
-use Rattle.forest.specs.Graph.{held_in, edges_in, with_held}
-use Rattle.build.specs.Scratch.{Parts, glue, parts, held_at, edges_at, stashed_at, sets_at, next_at, used, PartsSized}
-use Rattle.build.specs.Scratch.{with_graph, with_stash, with_sets, with_next}
+use Rattle.build.specs.Scratch.{Parts, glue, used, PartsSized}
 
 -- what every pass asks of scratch: sizes in range, enough words for the parts, and no more ranks than there is room for
 pub record Enough (r s n : ℕ) (scratch : List ℕ) : Type 0 where

@@ -1,5 +1,5 @@
 -- What the build leaves in scratch, as its callers read it: the canonical image of the ranks 1 to n, by the edges that stand there.
-use Rattle.std.specs.Prelude.{ℕ, ◌+◌, ◌-◌, ◌*◌, ◌≤◌, ◌<◌, ◌≡◌, List, [], ◌∷◌, ◌++◌, length, get_or, replicate}
+use Rattle.std.specs.Prelude.{ℕ, ◌+◌, ◌-◌, ◌*◌, ◌≤◌, ◌<◌, ◌≡◌, List, [], ◌∷◌, ◌++◌, length, get_or, replicate, Option, Some, None}
 use Rattle.refusals.specs.Refusal.{done, stash_full}
 use Rattle.cuckoo.specs.Graph.{stash, slot_key, slot_next}
 use Rattle.cuckoo.specs.Renaming.{ranks}
@@ -7,17 +7,15 @@ use Rattle.forest.specs.Edges.{Edges, end_0, end_1}
 use Rattle.forest.specs.Graph.{held_in, edges_in}
 use Rattle.build.specs.EachSlot.{listed}
 use Rattle.build.specs.Scratch.{parts, used}
-use Rattle.build.specs.declared.StashCount.{StashCount}
-use Rattle.build.specs.declared.StashCount.TheVariants.{Ranks, Overflow}
 
 -- document 01's number of what a build answers, and its value: how many ranks the stash has
-abbrev pub number : StashCount → ℕ
-number (Ranks k) = done
-number Overflow = stash_full
+abbrev pub number : Option ℕ → ℕ
+number (Some k) = done
+number None = stash_full
 
-abbrev pub values : StashCount → List ℕ
-values (Ranks k) = k ∷ []
-values Overflow = []
+abbrev pub values : Option ℕ → List ℕ
+values (Some k) = k ∷ []
+values None = []
 
 -- the edges of n ranks in scratch, by rank
 abbrev pub edges_of : (r s n : ℕ) → List ℕ → List ℕ
@@ -43,13 +41,13 @@ pub record Standing (r s n : ℕ) (scratch : List ℕ) : Type 0 where
       ≡ stash_ranks r n (edges_of r s n scratch) ++ replicate (s - length (stash_ranks r n (edges_of r s n scratch))) 0
 
 -- The build of n ranks: 8, there is no room for their stash; or 0 with the size of their stash, and their image stands in scratch.
-pub data Build (r s n : ℕ) (after : List ℕ) (count : StashCount) : Type 0 where
+pub data Build (r s n : ℕ) (after : List ℕ) (count : Option ℕ) : Type 0 where
   full : s < length (stash_ranks r n (edges_of r s n after)) → number count ≡ stash_full → Build r s n after count
   made : length (stash_ranks r n (edges_of r s n after)) ≤ s → number count ≡ done
       → values count ≡ length (stash_ranks r n (edges_of r s n after)) ∷ [] → Standing r s n after → Build r s n after count
 
 -- The words of the keys and the edges stay.
-pub record Built (r s n : ℕ) (before after : List ℕ) (count : StashCount) : Type 0 where
+pub record Built (r s n : ℕ) (before after : List ℕ) (count : Option ℕ) : Type 0 where
   pub keys : (parts r s n after).keys ≡ (parts r s n before).keys
   pub edges : edges_of r s n after ≡ edges_of r s n before
   pub built : Build r s n after count

@@ -1,23 +1,17 @@
 -- The whole build on ranks: the passes one after the other, and the theorem that they give what the definitions of `cuckoo` say of the ranks 1..n. Assumes nothing.
-use Rattle.std.specs.Prelude.{ℕ, zero, suc, ◌+◌, ◌-◌, ◌*◌, ◌%◌, ◌/◌, ◌<◌, ◌≤◌, ◌≡◌, Bool, true, false, cond, drop, replicate}
-use Rattle.std.proofs.Common.{sym, ◌∙◌, inl, inr}
-use Rattle.std.proofs.Math.Path.{ap}
+use Rattle.std.specs.Prelude.{ℕ, ◌-◌, ◌<◌, ◌≤◌, ◌≡◌, Bool, true, false, cond, replicate}
 use mathlib.Core.List.{List, [], ◌++◌, Memᴰ as In}
-use native.Mathlib.Omega.{arith}
-use Rattle.std.proofs.Math.ListN.{length, get_or, length-replicate}
+use Rattle.std.proofs.Math.ListN.{length, get_or}
 use Rattle.cuckoo.specs.Graph.{seated, stash, next, slot_key, slot_next}
-use Rattle.basics.specs.Sets.{Asc}
-use Rattle.cuckoo.specs.Forest.{forest}
 use Rattle.cuckoo.specs.Seating.{Ends}
 use Rattle.cuckoo.specs.Renaming.{ranks}
-use Rattle.partition.specs.Words.{rep_of, max_points}
-use Rattle.forest.specs.Edges.{Edges, end_0, end_1, other_end}
+use Rattle.partition.specs.Words.{max_points}
 use Rattle.build.specs.EachSlot.{listed}
-use Rattle.build.specs.Link.{Linking, unlinked, link_keys, Linked, Marked}
-use Rattle.build.specs.Labels.{Labels, Words, labelled}
-use Rattle.build.specs.Notes.{pair_base, lows, Lows, found, none_of, Noting, Going, none_yet, one_seen, nothing_noted, noted, Stashed, over, fit, Smallest}
-use Rattle.build.specs.Finish.{finish_ranks, Occupied}
-use Rattle.build.specs.Next.{Chaining, nexts}
+use Rattle.build.specs.Link.{Linking, unlinked, link_keys}
+use Rattle.build.specs.Labels.{labelled}
+use Rattle.build.specs.Notes.{pair_base, lows, Noting, nothing_noted, noted}
+use Rattle.build.specs.Finish.{finish_ranks}
+use Rattle.build.specs.Next.{nexts}
 
 -- what the build answers: that the stash has no room; or the held words, the next words by rank and the stash words, and how many ranks the stash has
 pub data Built : Type 0 where

@@ -1,6 +1,5 @@
 -- A loop over slots that changes a word for each, and the list of a word for each slot. Assumes nothing.
-use Rattle.std.specs.Prelude.{ℕ, zero, suc, ◌+◌, ◌≤◌, ◌<◌, ◌≡◌, refl, List, [], ◌∷◌, length, get_or, set}
-use Rattle.std.proofs.Common.{sym, ◌∙◌, ap, inl, inr, arith, length-set, get_or-set_same, get_or-set_other, ext_get_or}
+use Rattle.std.specs.Prelude.{ℕ, zero, suc, List, [], ◌∷◌, get_or, set}
 
 -- for the n slots from v on, ascending: the slot's word becomes f of the slot and of what it was
 unfoldable pub each_slot : (ℕ → ℕ → ℕ) → ℕ → ℕ → List ℕ → List ℕ

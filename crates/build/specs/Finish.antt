@@ -1,24 +1,16 @@
 -- Step 5 of the build: each component is brought to its seats once, at its smallest rank: a tree by that rank, a cycle by the rank that closes it, which is noted
 -- there too. Assumes nothing.
 use Rattle.std.specs.Prelude.{ℕ, suc, ◌%◌, ◌/◌, ◌<◌, ◌≤◌, ◌≡◌, cond, eqb, ltb, length}
-use Rattle.std.proofs.Math.Path.{refl}
-use Rattle.std.proofs.Common.{sym, ◌∙◌, ap, arith}
-use Rattle.std.proofs.Math.Logic.{inl, inr}
-use mathlib.Core.List.Memᴰ.{head as here}
-use mathlib.Core.List.Memᴰ.{tail as there}
 use mathlib.Core.List.{List, [], ◌∷◌, Memᴰ as In}
 use Rattle.std.proofs.Math.ListN.{get_or}
-use borrow.Author.Tests.{eq-eqb, ne_eqb, lt-ltb, le-ltb, ltb-true}
 use Rattle.cuckoo.specs.Graph.{seated, occupant}
-use Rattle.basics.specs.Sets.{Sub, Asc, some}
-use Rattle.cuckoo.specs.Joined.{Joined}
+use Rattle.basics.specs.Sets.{Asc}
 use Rattle.cuckoo.specs.Forest.{forest}
-use Rattle.cuckoo.specs.Settling.{smallest}
 use Rattle.cuckoo.specs.Seating.{Ends}
-use Rattle.forest.specs.Oriented.{OrientedForest, Oriented}
-use Rattle.forest.specs.Finish.{Finished, Spanned, TreeComponent, CycleComponent, finish_tree, finish_cycle}
+use Rattle.forest.specs.Oriented.{OrientedForest}
+use Rattle.forest.specs.Finish.{finish_tree, finish_cycle}
 use Rattle.build.specs.Labels.{Labels, Words}
-use Rattle.build.specs.Notes.{pair_base, Noting, Going, none_yet, one_seen, Lows, Smallest, empty, rank}
+use Rattle.build.specs.Notes.{pair_base, Noting, Going, Lows}
 
 -- the m held words are the occupants of the slots
 pub record Occupied (a b : ℕ → ℕ) (T : List ℕ) (m : ℕ) (held : List ℕ) : Type 0 where

@@ -1,20 +1,12 @@
 -- Step 5 over the parts of scratch: what the functions of seating/src/finish.rt leave there, and why each call and each turn of their loop is one step of the
 -- pass on lists (Finish). Assumes nothing.
-use Prim.Native.Nat.{ℕ, zero, suc, ◌*◌, ◌%◌, ◌/◌, ◌<◌, ◌≤◌}
-use Rattle.std.specs.Prelude.{◌≡◌, eqb, ltb, length}
-use Rattle.std.proofs.Math.Path.{refl, sym}
-use Rattle.std.proofs.Common.{◌∙◌, ap}
-use mathlib.Core.List.{List, [], ◌∷◌, ◌++◌}
-use Rattle.std.proofs.Math.Logic.{inl, inr}
-use native.Mathlib.Omega.{arith}
+use Prim.Native.Nat.{ℕ, ◌*◌, ◌/◌, ◌<◌, ◌≤◌}
+use Rattle.std.specs.Prelude.{length}
+use mathlib.Core.List.{List}
 use Rattle.std.proofs.Math.ListN.{get_or}
-use borrow.Author.Tests.{eq-eqb, ne_eqb, lt-ltb, le-ltb}
-use Rattle.basics.specs.Tests.{test}
-use Rattle.cuckoo.specs.Renaming.{from, ranks}
+use Rattle.cuckoo.specs.Renaming.{ranks}
 use Rattle.forest.specs.Edges.{end_0, end_1, other_end}
-use Rattle.forest.specs.Finish.{finish_tree, finish_cycle, exchange}
-use Rattle.forest.specs.Graph.{Graph, Fit, held_in, edges_in, with_held}
-use Rattle.forest.specs.Graph.{finished_tree, finished_cycle}
+use Rattle.forest.specs.Graph.{Graph, held_in, edges_in, with_held}
 use Rattle.build.specs.Notes.{pair_base}
 use Rattle.build.specs.Finish.{finish_rank, finish_ranks}
 use Rattle.build.specs.Scratch.{Parts, with_graph}

@@ -1,13 +1,11 @@
 -- Step 2 of the build: to the word of each rank the label of its component is added, the representative of its slot in table 0. So the word of a rank of
 -- the forest is its label, and that of any other m more. Assumes nothing.
-use Rattle.std.specs.Prelude.{ℕ, ◌+◌, ◌<◌, ◌≤◌, ◌≡◌, length, get_or}
+use Rattle.std.specs.Prelude.{ℕ, ◌+◌, ◌<◌, ◌≡◌, get_or}
 use mathlib.Core.List.{List, Memᴰ as In}
-use Rattle.std.proofs.Common.{arith}
 use Rattle.cuckoo.specs.Joined.{Joined}
 use Rattle.cuckoo.specs.Forest.{forest}
 use Rattle.partition.specs.Words.{rep_of}
 use Rattle.build.specs.EachSlot.{each_slot}
-use Rattle.build.specs.Link.{Linking, Linked, Marked}
 
 -- the labels of m slots tell the components of the set S
 pub record Labels (a b : ℕ → ℕ) (S : List ℕ) (m : ℕ) (lab : ℕ → ℕ) : Type 0 where

@@ -1,22 +1,11 @@
 -- Step 1 of the build: Kruskal's forest, key by key. A key whose ends are in one set of slots is passed over; any other links two trees: the tree of the
 -- smaller set is turned towards the key's end in it, the key goes there, and the two sets become one. Assumes nothing.
-use Rattle.std.specs.Prelude.{ℕ, suc, ◌<◌, ◌≤◌, ◌≡◌, cond, eqb, ltb, length, get_or, set, replicate}
-use Rattle.std.proofs.Math.Path.{refl}
-use Rattle.std.proofs.Common.{◌∙◌, arith, get_or-set_same, get_or-set_other, eq-eqb, ne_eqb}
-use Rattle.std.proofs.Math.Logic.{inl, inr}
-use mathlib.Core.List.Memᴰ.{head as here}
-use mathlib.Core.List.Memᴰ.{tail as there}
+use Rattle.std.specs.Prelude.{ℕ, suc, ◌≡◌, cond, eqb, ltb, length, get_or, set, replicate}
 use mathlib.Core.List.{List, [], ◌∷◌, Memᴰ as In}
-use Rattle.std.proofs.Math.ListN.{length-set, length-replicate}
-use Rattle.basics.specs.Tests.{test}
-use Rattle.basics.specs.Sets.{Sub, Asc, some}
-use Rattle.cuckoo.specs.Joined.{Joined}
-use Rattle.cuckoo.specs.Seating.{Ends, from_a, from_b}
-use Rattle.cuckoo.specs.Forest.{forest}
 use Rattle.forest.specs.Oriented.{OrientedForest}
 use Rattle.forest.specs.Reroot.{reroot}
-use Rattle.forest.specs.Link.{grow, Once, no_key, one_more}
-use Rattle.partition.specs.Words.{max_points, singletons_of, rep_of, size_of, united}
+use Rattle.forest.specs.Link.{Once}
+use Rattle.partition.specs.Words.{singletons_of, rep_of, size_of, united}
 use Rattle.partition.specs.Partition.{Partition}
 
 -- the held words, the words of the partition of the slots, and a word for each rank: m if it closes a cycle, 0 if it is of the forest

@@ -1,26 +1,16 @@
 -- Steps 1 and 2 over the parts of scratch: what the functions of linking/src/lib.rt leave there, and why each call and each turn of their loops is one step of
 -- the passes on lists (Link, Labels). Assumes nothing.
-use Rattle.std.specs.Prelude.{ℕ, suc, ◌*◌, ◌+◌, ◌-◌, ◌<◌, ◌≤◌, ◌≡◌, cond, eqb, ltb, length, get_or, replicate, set}
-use Rattle.std.proofs.Math.Path.{refl, sym}
-use Rattle.std.proofs.Common.{◌∙◌, ap, length-append, get_or-set_other}
-use mathlib.Core.List.Memᴰ.{head as here}
-use mathlib.Core.List.Memᴰ.{tail as there}
-use mathlib.Core.List.{List, [], ◌∷◌, ◌++◌, Memᴰ as In}
-use Rattle.std.proofs.Math.Logic.{inl, inr}
-use native.Mathlib.Omega.{arith}
-use Rattle.std.proofs.Math.ListN.{length-replicate}
-use borrow.Author.Tests.{eq-eqb, ne_eqb}
-use Rattle.basics.specs.Tests.{test}
-use Rattle.cuckoo.specs.Renaming.{from, ranks}
-use Rattle.forest.specs.Edges.{Edges, end_0, end_1, other_end}
-use Rattle.forest.specs.Graph.{Graph, Fit, held_in, edges_in, with_held, rerooted}
-use Rattle.partition.specs.Words.{Representative, Mergeable, rep_of, size_of, united, singletons_of}
+use Rattle.std.specs.Prelude.{ℕ, suc, ◌*◌, ◌-◌, ◌<◌, ◌≤◌, ◌≡◌, length, get_or}
+use mathlib.Core.List.{List}
+use Rattle.cuckoo.specs.Renaming.{ranks}
+use Rattle.forest.specs.Edges.{end_0, end_1, other_end}
+use Rattle.forest.specs.Graph.{Graph, Fit, held_in, edges_in, with_held}
+use Rattle.partition.specs.Words.{rep_of}
 use Rattle.build.specs.EachSlot.{each_slot}
-use Rattle.build.specs.Link.{Linking, smaller_end, link_key, link_keys, unlinked, Sound}
+use Rattle.build.specs.Link.{Linking, link_key, link_keys, unlinked, Sound}
 use Rattle.build.specs.Labels.{add_label, labelled}
 use Rattle.build.specs.Built.{linking}
-use Rattle.build.specs.Access.{Enough}
-use Rattle.build.specs.Scratch.{Parts, parts, with_graph, with_sets, with_next}
+use Rattle.build.specs.Scratch.{Parts, with_graph, with_sets, with_next}
 
 module _ (r : ℕ) where
   -- the held words, the sets and the words of the ranks, as they stand in the parts; and the parts with others

@@ -1,20 +1,8 @@
 -- Step 6 of the build: next ranks, by rank. One pass, descending; the note of a label is the rank of that label last seen, and at the start the smallest, so that
 -- the largest gets the smallest, and each smaller rank the one before it. A rank's word is its label until its turn. Assumes nothing.
-use Rattle.std.specs.Prelude.{ℕ, ◌%◌, ◌<◌, ◌≤◌, ◌≡◌, cond, ltb, length, get_or, set}
-use Rattle.std.proofs.Math.Path.{refl}
-use Rattle.std.proofs.Common.{sym, ◌∙◌, ap, arith, length-set}
-use Rattle.std.proofs.Math.Logic.{inl, inr}
-use mathlib.Core.List.Memᴰ.{head as here}
-use mathlib.Core.List.Memᴰ.{tail as there}
-use mathlib.Core.List.{List, [], ◌∷◌, Memᴰ as In}
-use Rattle.std.proofs.Math.Seq.{get_or-set_same, get_or-set_other}
-use borrow.Author.Tests.{ne_eqb, lt-ltb, le-ltb}
-use Rattle.cuckoo.specs.Graph.{seated, occupant, next, slot_key, slot_next}
-use Rattle.basics.specs.Sets.{Sub, Asc, some}
-use Rattle.cuckoo.specs.Next.{larger, around}
-use Rattle.build.specs.Labels.{Labels}
-use Rattle.build.specs.Notes.{pair_base, lows, found, none_of, RankPlaced, Smallest, empty, rank}
-use Rattle.build.specs.Finish.{Occupied}
+use Rattle.std.specs.Prelude.{ℕ, ◌%◌, cond, ltb, get_or, set}
+use mathlib.Core.List.{List, [], ◌∷◌}
+use Rattle.build.specs.Notes.{pair_base}
 
 -- the notes, and the words of the ranks, each a label or already a next rank
 pub record Chaining : Type 0 where

@@ -1,12 +1,7 @@
 -- Step 6 over the parts of scratch: what the function of seating/src/next.rt leaves there, and why each turn of its loop is one step of the pass on lists
 -- (Next). Assumes nothing.
-use Rattle.std.specs.Prelude.{ℕ, suc, ◌*◌, ◌-◌, ◌%◌, ◌<◌, ◌≤◌, ◌≡◌, get_or, set}
-use Rattle.std.proofs.Math.Path.{refl}
-use Rattle.std.proofs.Common.{sym, ◌∙◌, ap, arith}
-use mathlib.Core.List.{List, [], ◌∷◌, ◌++◌}
-use borrow.Author.Tests.{lt-ltb, le-ltb}
-use Rattle.cuckoo.specs.Renaming.{from, ranks}
-use Rattle.build.specs.Notes.{pair_base}
+use Rattle.std.specs.Prelude.{ℕ, ◌*◌, ◌≡◌}
+use Rattle.cuckoo.specs.Renaming.{ranks}
 use Rattle.build.specs.Next.{Chaining, chained, nexts}
 use Rattle.build.specs.Scratch.{Parts, with_sets, with_next}
 

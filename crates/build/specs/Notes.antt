@@ -1,26 +1,11 @@
 -- Steps 3 and 4 of the build: what is noted at each label, and the stash. First, descending over the ranks of the forest, the smallest of each label. Then,
 -- ascending over the others, the first of each label, which is noted beside it; the rest of them are the stash. Assumes nothing.
-use Rattle.std.specs.Prelude.{ℕ, suc, ◌+◌, ◌-◌, ◌*◌, ◌%◌, ◌/◌, ◌<◌, ◌≤◌, ◌≡◌, Bool, true, false, cond, not, ltb, set, drop, replicate}
-use Rattle.std.proofs.Math.Path.{refl}
-use Rattle.std.proofs.Common.{sym, ◌∙◌, ap, get_or-set_same}
-use Rattle.std.proofs.Math.Logic.{inl, inr}
-use mathlib.Core.List.Memᴰ.{head as here}
-use mathlib.Core.List.Memᴰ.{tail as there}
+use Rattle.std.specs.Prelude.{ℕ, suc, ◌+◌, ◌-◌, ◌*◌, ◌<◌, ◌≤◌, ◌≡◌, Bool, true, false, cond, ltb, set, drop}
 use mathlib.Core.List.{List, [], ◌∷◌, ◌++◌, Memᴰ as In}
-use native.Mathlib.Omega.{arith}
-use Rattle.std.proofs.Math.ListN.{length, get_or, length-set}
-use Rattle.std.proofs.lemmas.List.{length-replicate}
-use Rattle.std.proofs.lemmas.List.Edits.{sets, sets-eq}
-use Rattle.std.proofs.Math.Seq.{get_or-set_other}
-use borrow.Author.Tests.{lt-ltb, le-ltb}
-use Rattle.basics.specs.Sets.{member, keep}
+use Rattle.std.proofs.Math.ListN.{length, get_or}
+use Rattle.std.proofs.lemmas.List.Edits.{sets}
 use Rattle.cuckoo.specs.Graph.{seated, stash}
-use Rattle.basics.specs.Sets.{Sub, Asc, some, below}
-use Rattle.cuckoo.specs.Joined.{Joined}
 use Rattle.cuckoo.specs.Forest.{forest}
-use Rattle.cuckoo.specs.Settling.{tree, smallest}
-use Rattle.cuckoo.specs.Seating.{Bare}
-use Rattle.build.specs.Labels.{Labels, Words}
 
 -- Step 3, and the notes of step 6: descending over the ranks whose word is a label, each is noted there. Of R the larger come first.
 unfoldable pub lows : ℕ → List ℕ → List ℕ → List ℕ → List ℕ

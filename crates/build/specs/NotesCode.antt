@@ -1,22 +1,12 @@
 -- Steps 3 and 4 over the parts of scratch: what the functions of noting/src/lib.rt leave there, and why each call and each turn of their loops is one step of
 -- the passes on lists (Notes). Assumes nothing.
-use Prim.Native.Nat.{ℕ, suc, ◌*◌, ◌+◌, ◌-◌, ◌<◌, ◌≤◌}
-use Rattle.std.specs.Prelude.{◌≡◌, Bool, ltb, length, get_or, replicate, set}
-use Rattle.std.proofs.Math.Path.{refl}
-use Rattle.std.proofs.Common.{sym, ◌∙◌, ap, inl, inr, get_or-set_same, get_or-set_other}
-use mathlib.Core.List.{List, [], ◌∷◌, ◌++◌}
-use Rattle.std.proofs.Math.Bool.{true, false, cond}
-use native.Mathlib.Omega.{arith}
-use Rattle.std.proofs.Math.Seq.{set_out}
-use borrow.Author.Tests.{lt-ltb, le-ltb}
-use Rattle.basics.specs.Tests.{test}
+use Prim.Native.Nat.{ℕ, suc, ◌*◌, ◌-◌, ◌<◌, ◌≤◌}
+use Rattle.std.specs.Prelude.{◌≡◌, get_or, replicate, Option, Some, None}
+use mathlib.Core.List.{List, [], ◌∷◌}
+use Rattle.std.proofs.Math.Bool.{false, cond}
 use Rattle.cuckoo.specs.Renaming.{from, ranks}
-use Rattle.build.specs.Notes.{lows, pair_base, Noting, note_at, stash_rank, overflowed, noted}
-use Rattle.build.specs.Access.{Enough}
-use Rattle.build.specs.Scratch.{Parts, parts, with_stash, with_sets, with_next}
-use Rattle.build.specs.Build.{number, values}
-use Rattle.build.specs.declared.StashCount.{StashCount}
-use Rattle.build.specs.declared.StashCount.TheVariants.{Ranks, Overflow}
+use Rattle.build.specs.Notes.{lows, Noting, noted}
+use Rattle.build.specs.Scratch.{Parts, with_stash, with_sets, with_next}
 
 -- no note, and no rank in the stash; then the smallest rank of each label
 abbrev pub cleared_parts : (r s : ℕ) → Parts → Parts
@@ -33,8 +23,8 @@ abbrev pub with_noting : Parts → Noting → Parts
 with_noting P N = with_next (with_sets (with_stash P N.stash) N.notes) N.next
 
 -- how many ranks the stash has, or that there was no room for one more
-abbrev pub answer : Noting → StashCount
-answer N = cond N.overflow Overflow (Ranks N.count)
+abbrev pub answer : Noting → Option ℕ
+answer N = cond N.overflow None (Some N.count)
 
 -- one rank, where the stash has `count` so far; and those after i, n in all
 abbrev pub rank_noted : (r rank count : ℕ) → Parts → Noting

@@ -2,10 +2,7 @@
 -- is what each of the 2r slots holds and then the edges (n words, with a gap behind them where there could be more); the stash (s words); the sets (2r words);
 -- next, by rank (2r + s + 1 words); then words that the build never touches. `sets` serves the partition first, then the notes; `next` has the labels first.
 -- Each law is one about a part in the middle of words, at a place (`basics/proofs/Parts.antt`). Assumes nothing.
-use Rattle.std.specs.Prelude.{ℕ, ◌+◌, ◌-◌, ◌*◌, ◌≤◌, ◌≡◌, refl, List, ◌++◌, length, take, drop}
-use Rattle.std.proofs.Common.{append_assoc, arith, length-append, take-append-drop, drop_at, drop-drop}
-use Rattle.std.proofs.Math.Seq.{take_at}
-use Rattle.basics.specs.Parts.{PartAt}
+use Rattle.std.specs.Prelude.{ℕ, ◌+◌, ◌-◌, ◌*◌, ◌≤◌, ◌≡◌, List, ◌++◌, length, take, drop}
 
 pub record Parts : Type 0 where
   pub keys : List ℕ

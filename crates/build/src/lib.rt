@@ -2,10 +2,3 @@
 // what `cuckoo` defines, and how they lie in scratch. The code is in `scratch_layout` (the words of scratch), `linking`
 // (steps 1 and 2), `noting` (steps 3 and 4) and `seating` (steps 5 and 6, and the whole).
 #![tactic(auto)]
-
-// How many ranks the stash has, or that there is no room for one more.
-#[derive(Drop)]
-pub enum StashCount {
-    Ranks(u32),
-    Overflow,
-}

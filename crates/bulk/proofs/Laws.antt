@@ -8,8 +8,8 @@ use Rattle.basics.specs.Tests.{test}
 use Rattle.basics.specs.Sets.{any}
 use Rattle.refusals.specs.Refusal.{done, blank_key, stash_full, wrong_tier}
 use Rattle.refusals.specs.Refusal.{other_issue, not_rising, first_refusal, None, none, and}
-use Rattle.refusals.proofs.Refusal.{first_refusal_in}
-use Rattle.refusals.proofs.Refusal.{front_applies, front_passes, front_none, last_turned}
+use Rattle.refusals.proofs.Refusals.{first_refusal_in}
+use Rattle.refusals.proofs.Refusals.{front_applies, front_passes, front_none, last_turned}
 use Rattle.cuckoo.specs.Placement.{Placement}
 use Rattle.cuckoo.specs.Rising.{rising_stash}
 use Rattle.cuckoo.proofs.Rising.{rising_stashes}

@@ -7,7 +7,7 @@ use Rattle.basics.specs.Tests.{test}
 use Rattle.basics.proofs.Lists.{get_or_in}
 use Rattle.basics.proofs.Parts.{pasted_front, pasted_all}
 use Rattle.refusals.specs.Refusal.{done, stash_full, first_refusal}
-use Rattle.refusals.proofs.Refusal.{front_none}
+use Rattle.refusals.proofs.Refusals.{front_none}
 use Rattle.hashing.specs.Hash.{Hashing, tables}
 use Rattle.layout.specs.declared.Header.{Header}
 use Rattle.layout.specs.Entries.{max_tier, tier_of, tiered}

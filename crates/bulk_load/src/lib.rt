@@ -4,6 +4,7 @@
 #![tactic(auto)]
 
 ghost use Rattle.std.specs.Prelude.{◌≡◌, ◌∷◌, ◌+◌, ◌<◌, length, take};
+ghost use Rattle.refusals.specs.Answer.{number};
 ghost use Rattle.refusals.specs.Refusal.{first_refusal};
 ghost use Rattle.gateway.specs.Committing.{new_answer, new_words};
 ghost use Rattle.bulk.specs.Bulk.{params_for, input_keys, input_set, target_refusals, bulk_outcome};
@@ -14,26 +15,33 @@ ghost use Rattle.bulk_load.specs.Loading.{Fillable, InputLined, BulkLoaded};
 use access::{fresh_header, is_target, scratch_for, with_keys};
 use gateway::{clear, commit};
 use ranges::TABULATION_LENGTH;
-use refusals::{SHORT_SCRATCH, STASH_FULL, WRONG_SHAPE, WRONG_TABULATION};
+use refusals::Refusal;
 use scratch_layout::edges_start;
 use scratch_set::edge_column::edge_given;
 use words::wide;
 
-// 1, 2 or 3, of a target of `len` words and scratch of `room`; or 0.
-fn target_refusal(tabulation: &[u16], len: usize, room: usize, r: u32, s: u32, station: u32) -> u32
-    ensures { result ≡ first_refusal
+// 1, 2 or 3, of a target of `len` words and scratch of `room`.
+fn target_refusal(
+    tabulation: &[u16],
+    len: usize,
+    room: usize,
+    r: u32,
+    s: u32,
+    station: u32,
+) -> Result<(), Refusal>
+    ensures { number result ≡ first_refusal
         (target_refusals (params_for tabulation.now r s station) len room) }
 {
     if tabulation.len() != TABULATION_LENGTH {
-        return WRONG_TABULATION;
+        return Err(Refusal::WrongTabulation);
     }
     if !is_target(len, r, s, station) {
-        return WRONG_SHAPE;
+        return Err(Refusal::WrongShape);
     }
     if room < scratch_for(r, s) {
-        return SHORT_SCRATCH;
+        return Err(Refusal::ShortScratch);
     }
-    0
+    Ok(())
 }
 
 // The n keys of the input come to scratch, from word 1 on; word 0 is 0.
@@ -42,10 +50,8 @@ fn put_keys(scratch: &mut [u32], input: &[u32], n: usize)
     ensures { take (n + 1) scratch.new ≡ 0 ∷ input_keys input.now }
 {
     scratch[0] = 0;
-    let mut i = 0;
-    while i < n {
+    for i in 0..n {
         scratch[1 + i] = input[2 * i];
-        i += 1;
     }
 }
 
@@ -64,12 +70,10 @@ fn put_edges(
     ensures { InputLined tabulation.now r s station input.now scratch.new }
 {
     let start = edges_start(r, s);
-    let mut i = 0;
-    while i < n {
+    for i in 0..n {
         let key = input[2 * i];
         let tier = input[2 * i + 1];
         scratch[start + i] = edge_given(tabulation, r, station, key, tier);
-        i += 1;
     }
 }
 
@@ -83,22 +87,22 @@ fn load_set(
     s: u32,
     station: u32,
     input: &[u32],
-) -> u32
+) -> Result<(), Refusal>
     requires { Layable (params_for tabulation.now r s station) (length words.old) (length scratch.old)
         × SoundInput input.now }
-    ensures { (result ≡ new_answer (params_for tabulation.now r s station)
+    ensures { (number result ≡ new_answer (params_for tabulation.now r s station)
         (input_keys input.now))
         × (words.new ≡ new_words (params_for tabulation.now r s station)
         (input_set input.now) words.old) }
 {
     let n = bulk_input::count(input);
     if wide(2 * r + s) < n {
-        return STASH_FULL;
+        return Err(Refusal::StashFull);
     }
-    put_keys(&mut *scratch, input, n);
-    put_edges(tabulation, &mut *scratch, r, s, station, input, n);
+    put_keys(scratch, input, n);
+    put_edges(tabulation, scratch, r, s, station, input, n);
     let heading = with_keys(fresh_header(r, s, station), n as u32);
-    commit(&mut *words, &mut *scratch, heading)
+    commit(words, scratch, heading)
 }
 
 // The whole of the call but for the clearing of scratch.
@@ -110,19 +114,13 @@ fn load_words(
     s: u32,
     station: u32,
     input: &[u32],
-) -> u32
+) -> Result<(), Refusal>
     ensures { BulkLoaded (params_for tabulation.now r s station) input.now
-        words.old scratch.old result words.new }
+        words.old scratch.old (number result) words.new }
 {
-    let early = target_refusal(tabulation, words.len(), scratch.len(), r, s, station);
-    if early != 0 {
-        return early;
-    }
-    let refusal = bulk_input::refusal(input);
-    if refusal != 0 {
-        return refusal;
-    }
-    load_set(tabulation, &mut *words, &mut *scratch, r, s, station, input)
+    target_refusal(tabulation, words.len(), scratch.len(), r, s, station)?;
+    bulk_input::refusal(input)?;
+    load_set(tabulation, words, scratch, r, s, station, input)
 }
 
 // Bulk load: its whole outcome but the counters.
@@ -134,12 +132,12 @@ pub fn bulk_load(
     s: u32,
     station: u32,
     input: &[u32],
-) -> u32
-    ensures { record { answer = result; words = words.new; scratch = scratch.new }
+) -> Result<(), Refusal>
+    ensures { record { answer = number result; words = words.new; scratch = scratch.new }
         ≡ bulk_outcome (params_for tabulation.now r s station) input.now words.old
         scratch.old }
 {
-    let answer = load_words(tabulation, &mut *words, &mut *scratch, r, s, station, input);
-    clear(&mut *scratch);
+    let answer = load_words(tabulation, words, scratch, r, s, station, input);
+    clear(scratch);
     answer
 }

@@ -3,7 +3,7 @@
 use Prim.Native.Nat.{ℕ, suc, ◌+◌, ◌*◌, ◌-◌, ◌≤◌, ◌<◌}
 use Rattle.std.specs.Prelude.{◌≡◌, refl, Bool, true, false, not, cond, eqb, length, get_or, set, drop}
 use Rattle.std.proofs.Math.Path.{sym, ap}
-use Rattle.std.proofs.Common.{◌∙◌, inl, inr, ne_eqb, length-append, drop-drop, get_or-drop, take-suc-set}
+use Rattle.std.proofs.Common.{◌∙◌, inl, inr, ne_eqb, length-append, mul-suc, drop-drop, get_or-drop, take-suc-set}
 use mathlib.Core.List.{List, [], ◌∷◌, ◌++◌, map, map-append, append-nil}
 use Rattle.std.proofs.Math.Numerals.{add-one}
 use native.Mathlib.Omega.{arith}
@@ -69,6 +69,20 @@ unfoldable pub slots_sifted : Family → List ℕ → List ℕ → (end v m : �
 slots_sifted F ws scratch end v m = take end scratch ++ slots_counting F ws v (m - v)
 
 module _ (F : Family) (ws scratch : List ℕ) (end v m : ℕ) where
+  pub slots_take : v < m → end < length scratch → {key : ℕ} → key ≡ spot_key (slot_spot ws v)
+      → counts F (slot_spot ws v) ≡ true
+      → slots_sifted F ws scratch end v m ≡ slots_sifted F ws (set scratch end key) (end + 1) (v + 1) m
+  unfolding slots_sifted slots_counting slot_spots
+  slots_take l room k t =
+      let q : m - v ≡ suc (m - suc v) = omega arith in
+      let more = map spot_key (keep (counts F) (slot_spots ws (suc v) (m - suc v))) in
+      rw (q, k, t, add-one v) (gathered_word true scratch end (spot_key (slot_spot ws v)) more room)
+
+  pub slots_skip : v < m → counts F (slot_spot ws v) ≡ false
+      → slots_sifted F ws scratch end v m ≡ slots_sifted F ws scratch end (v + 1) m
+  unfolding slots_sifted slots_counting slot_spots
+  slots_skip l f = let q : m - v ≡ suc (m - suc v) = omega arith in rw (q, f, add-one v)
+
   pub slots_sift : v < m → end < length scratch → {key n : ℕ} → key ≡ spot_key (slot_spot ws v)
       → n ≡ cond (counts F (slot_spot ws v)) 1 0
       → slots_sifted F ws scratch end v m ≡ slots_sifted F ws (set scratch end key) (end + n) (v + 1) m
@@ -117,6 +131,20 @@ unfoldable pub places_sifted : List ℕ → List ℕ → (end count i : ℕ) →
 places_sifted ps scratch end count i = take end scratch ++ places_counting (places_left ps count i)
 
 module _ (ps scratch : List ℕ) (end count i : ℕ) where
+  pub places_take : i < count → end < length scratch
+      → sound (entry_of (get_or ps (place_width * i) 0) (get_or ps (place_width * i + 1) 0)) ≡ true
+      → places_sifted ps scratch end count i
+      ≡ places_sifted ps (set scratch end (get_or ps (place_width * i) 0)) (end + 1) count (i + 1)
+  unfolding places_sifted places_counting
+  places_take l room t =
+      let more = places_counting (places_left ps count (i + 1)) in
+      rw (places_next ps count i l, t) (gathered_word true scratch end (get_or ps (place_width * i) 0) more room)
+
+  pub places_skip : i < count → sound (entry_of (get_or ps (place_width * i) 0) (get_or ps (place_width * i + 1) 0)) ≡ false
+      → places_sifted ps scratch end count i ≡ places_sifted ps scratch end count (i + 1)
+  unfolding places_sifted places_counting
+  places_skip l f = rw (places_next ps count i l, f)
+
   pub places_sift : i < count → end < length scratch
       → {n : ℕ} → n ≡ cond (sound (entry_of (get_or ps (place_width * i) 0) (get_or ps (place_width * i + 1) 0))) 1 0
       → places_sifted ps scratch end count i
@@ -191,7 +219,30 @@ gathered_counting tabulation ws scratch mid zs {r} {station} {start} {count} {n}
       ),
     )
 
--- The numbers that stand in words, counted one by one.
+-- The numbers that stand in words, counted one by one: of `count` words those from the i-th on, the i-th and those
+-- after it, and none.
+abbrev pub occupied_left : List ℕ → (from step count i : ℕ) → ℕ
+occupied_left ws from step count i = length (non_zero (picked ws (from + step * i) step (count - i)))
+
+pub occupied_start : (ws : List ℕ) (from step count : ℕ)
+    → occupied_left ws from step count 0 ≡ length (non_zero (picked ws from step count))
+occupied_start ws from step count =
+    let e : count - 0 ≡ count = omega arith in let f : from + step * 0 ≡ from = omega arith in rw (e, f)
+
+module _ (ws : List ℕ) (from step count i : ℕ) where
+  pub occupied_next : i < count → occupied_left ws from step count i
+      ≡ cond (eqb (get_or ws (from + step * i) 0) 0) 0 1 + occupied_left ws from step count (i + 1)
+  unfolding picked
+  occupied_next l =
+      let e : count - i ≡ suc (count - (i + 1)) = omega arith in
+      let f : from + step * (i + 1) ≡ from + step * i + step = omega (arith, mul-suc step i) in
+      rw (e, f) (elim (test (eqb (get_or ws (from + step * i) 0) 0)) [ inl t ↦ rw t (omega arith) | inr t ↦ rw t (omega arith) ])
+
+  pub occupied_none : i ≡ count → occupied_left ws from step count i ≡ 0
+  unfolding picked
+  occupied_none q = let e : count - i ≡ 0 = omega arith in rw e
+
+-- The same with a running total, as a number is read.
 module _ (ws : List ℕ) (step at left : ℕ) (l : 0 < left) where
   pub occupied_step : (total : ℕ) {n : ℕ} → n ≡ cond (eqb (get_or ws at 0) 0) 0 1
       → total + length (non_zero (picked ws at step left))

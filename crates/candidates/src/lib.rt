@@ -18,16 +18,13 @@ use access::{key_in, slot_tier, stash_start};
 use layout::{HEADER_LENGTH, MAX_TIER, PLACE_WIDTH, SLOT_WIDTH};
 use ranges::is_blank;
 use slots::{first_slot, second_slot};
-use words::{differs, wide};
+use words::wide;
 
 // Whether a key and its tier are in their ranges.
 pub fn is_sound(key: u32, tier: u32) -> bool
     ensures { result ≡ sound (entry_of key tier) }
 {
-    if is_blank(key) {
-        return false;
-    }
-    tier <= MAX_TIER
+    !is_blank(key) && tier <= MAX_TIER
 }
 
 // Whether slot v is one of the key's own two. The slots of table 0 come first, so that one hash tells.
@@ -36,35 +33,19 @@ fn is_own(tabulation: &[u16], r: u32, station: u32, v: u32, key: u32) -> bool
     ensures { result ≡ own_place (tables tabulation.now r station) (slot v) key }
 {
     if v < r {
-        return v == first_slot(tabulation, r, station, key);
+        v == first_slot(tabulation, r, station, key)
+    } else {
+        v == second_slot(tabulation, r, station, key)
     }
-    v == second_slot(tabulation, r, station, key)
 }
 
-// 1 where this key and this tier count in slot v, 0 where not: a number, so that the end of what is gathered moves by
-// it. A key is hashed only if it is sound.
-fn slot_counts(tabulation: &[u16], r: u32, station: u32, v: u32, key: u32, tier: u32) -> usize
+// Whether this key and this tier count in slot v. A key is hashed only if it is sound.
+fn counts_in_slot(tabulation: &[u16], r: u32, station: u32, v: u32, key: u32, tier: u32) -> bool
     requires { Hashing tabulation.now r station }
-    ensures { (result ≡ cond (counts (tables tabulation.now r station)
-        (record { at = slot v; entry = entry_of key tier })) 1 0) × (result ≤ 1) }
+    ensures { result ≡ counts (tables tabulation.now r station)
+        (record { at = slot v; entry = entry_of key tier }) }
 {
-    if !is_sound(key, tier) {
-        return 0;
-    }
-    if is_own(tabulation, r, station, v, key) {
-        return 1;
-    }
-    0
-}
-
-// The same in a place of the stash.
-fn place_counts(key: u32, tier: u32) -> usize
-    ensures { (result ≡ cond (sound (entry_of key tier)) 1 0) × (result ≤ 1) }
-{
-    if is_sound(key, tier) {
-        return 1;
-    }
-    0
+    is_sound(key, tier) && is_own(tabulation, r, station, v, key)
 }
 
 // The keys that count in the slots come behind word 0 of scratch, in their order. The answer is where they end.
@@ -82,15 +63,14 @@ fn gather_slots(
     ensures counted { result ≡ 1
         + length (slots_counting (tables tabulation.now r station) words.now 0 (r + r)) }
 {
-    let last = 2 * r;
     let mut end = 1;
-    let mut v: u32 = 0;
-    while v < last {
+    for v in 0..2 * r {
         let key = key_in(words, v);
         let tier = slot_tier(words, v);
-        scratch[end] = key;
-        end += slot_counts(tabulation, r, station, v, key, tier);
-        v += 1;
+        if counts_in_slot(tabulation, r, station, v, key, tier) {
+            scratch[end] = key;
+            end += 1;
+        }
     }
     end
 }
@@ -104,13 +84,13 @@ fn gather_places(places: &[u32], count: usize, scratch: &mut [u32], n: usize) ->
     ensures counted { result ≡ n + length (places_counting (place_entries count places.now)) }
 {
     let mut end = n;
-    let mut i = 0;
-    while i < count {
+    for i in 0..count {
         let key = places[PLACE_WIDTH * i];
         let tier = places[PLACE_WIDTH * i + 1];
-        scratch[end] = key;
-        end += place_counts(key, tier);
-        i += 1;
+        if is_sound(key, tier) {
+            scratch[end] = key;
+            end += 1;
+        }
     }
     end
 }
@@ -135,28 +115,27 @@ pub fn gather_counting(
     scratch[0] = 0;
     let start = stash_start(r);
     let count = wide(s);
-    let n = gather_slots(tabulation, words, &mut *scratch, r, station);
+    let n = gather_slots(tabulation, words, scratch, r, station);
     let end = gather_places(
         &words[start..start + PLACE_WIDTH * count],
         count,
-        &mut *scratch,
+        scratch,
         n,
     );
     end - 1
 }
 
-// How many of `count` words from `from` on, each `step` after the one before, are not 0.
+// How many of `count` words from `from` on, each `step` after the one before, are not 0. By an index: of `step_by` std
+// has no law, and the chain's one goal did not close.
 fn occupied_from(words: &[u32], from: usize, step: usize, count: usize) -> usize
     requires { (0 < step) × (from + step * count ≤ length words.now) }
     ensures { (result ≡ length (non_zero (picked words.now from step count))) × (result ≤ count) }
 {
     let mut total = 0;
-    let mut at = from;
-    let mut left = count;
-    while 0 < left {
-        total += differs(words[at], 0);
-        at += step;
-        left -= 1;
+    for i in 0..count {
+        if words[from + step * i] != 0 {
+            total += 1;
+        }
     }
     total
 }

@@ -22,10 +22,7 @@ use words::wide;
 fn keeps(word: u32) -> usize
     ensures { (result ≡ cond (blank word) 0 1) × (result ≤ 1) }
 {
-    if is_blank(word) {
-        return 0;
-    }
-    1
+    usize::from(!is_blank(word))
 }
 
 // Of `count` words from `from` on, each `step` after the one before, those that are not blank come behind the first `n`
@@ -46,13 +43,11 @@ fn gather(
 {
     let mut end = n;
     let mut at = from;
-    let mut left = count;
-    while 0 < left {
+    for _ in 0..count {
         let word = words[at];
         scratch[end] = word;
         end += keeps(word);
         at += step;
-        left -= 1;
     }
     end
 }
@@ -65,23 +60,16 @@ fn gather_keys(words: &[u32], scratch: &mut [u32]) -> usize
     ensures counted { result ≡ length (non_blank (key_words words.now)) }
 {
     let header = access::read_header(words);
-    let r = header.slots;
-    let s = header.places;
+    let slots = 2 * wide(header.slots);
+    let places = wide(header.places);
     scratch[0] = 0;
-    let n = gather(
-        words,
-        HEADER_LENGTH,
-        SLOT_WIDTH,
-        2 * wide(r),
-        &mut *scratch,
-        1,
-    );
+    let n = gather(words, HEADER_LENGTH, SLOT_WIDTH, slots, scratch, 1);
     let end = gather(
         words,
-        stash_start(r),
+        stash_start(header.slots),
         PLACE_WIDTH,
-        wide(s),
-        &mut *scratch,
+        places,
+        scratch,
         n,
     );
     end - 1
@@ -94,7 +82,7 @@ pub fn make_set(keys: &mut [u32], n: usize) -> usize
     ensures front { take result keys.new ≡ distinct (sorted (take n keys.old)) }
     ensures counted { result ≡ length (distinct (sorted (take n keys.old))) }
 {
-    sort(&mut *keys, n);
+    sort(keys, n);
     drop_doubles(&mut keys[..n])
 }
 
@@ -105,6 +93,6 @@ pub fn collect_keys(words: &[u32], scratch: &mut [u32]) -> usize
     ensures front { take (result + 1) scratch.new ≡ 0 ∷ keys_in words.now }
     ensures counted { result ≡ length (keys_in words.now) }
 {
-    let n = gather_keys(words, &mut *scratch);
+    let n = gather_keys(words, scratch);
     make_set(&mut scratch[1..], n)
 }

@@ -10,22 +10,18 @@ ghost use Rattle.layout.specs.Layout.{words_length};
 ghost use Rattle.layout.specs.Shape.{Sized};
 
 use counters::Counters;
-use grammar::{LONGEST, Line, NEWLINE, Sizes};
+use grammar::{LONGEST, NEWLINE, Sizes};
 use layout::{MAX_SCRATCH, MAX_WORDS};
+use lines::Line;
+use printing::Printer;
 use ranges::TABULATION_LENGTH;
+use session::Session;
 use std::fs::File;
 use std::io::Read;
 use std::rt::Files;
 
 // The bytes of a book.
 const BOOK_BYTES: usize = 5120;
-
-// A byte of standard input.
-#[derive(Drop)]
-enum Byte {
-    Read(u8),
-    End,
-}
 
 // Reads book.bin, and says whether it could be read and has as many bytes as a book: one byte more would be a longer
 // file.
@@ -45,30 +41,26 @@ fn decode(bytes: &[u8; BOOK_BYTES], tabulation: &mut [u16; TABULATION_LENGTH])
     book::decode(bytes, tabulation);
 }
 
-// A read that fails ends the input.
-fn read_byte(input: &mut impl Read) -> Byte {
+// A byte of standard input. A read that fails ends the input.
+fn read_byte(input: &mut impl Read) -> Option<u8> {
     let mut byte = [0u8; 1];
-    if input.read_exact(&mut byte).is_err() {
-        return Byte::End;
-    }
-    Byte::Read(byte[0])
+    input.read_exact(&mut byte).ok()?;
+    Some(byte[0])
 }
 
 // Line 1. It is read byte by byte, so that nothing behind it is taken, and no further than to see that it is too long
 // for a known form.
 fn first_line(input: &mut impl Read) -> Line {
-    let mut line = lines::empty_line();
-    let mut i = 0;
-    while i <= LONGEST {
+    let mut line = Line::new();
+    for _ in 0..=LONGEST {
         let read = read_byte(&mut *input);
-        let Byte::Read(byte) = read else {
-            return line;
+        let Some(byte) = read else {
+            break;
         };
         if byte == NEWLINE {
-            return line;
+            break;
         }
-        line = lines::feed(line, byte);
-        i += 1;
+        line.push(byte);
     }
     line
 }
@@ -80,32 +72,28 @@ fn run(
     tabulation: &[u16],
     words: &mut [u32],
     scratch: &mut [u32],
-    r: u32,
-    s: u32,
-    station: u32,
+    sizes: Sizes,
 ) {
     let none = Counters {
         done: 0,
         refused: 0,
     };
-    let laid = counting::init(&mut *words, r, s, station, none);
-    if laid.answer != 0 {
+    let laid = counting::init(&mut *words, sizes.r, sizes.s, sizes.station, none);
+    if laid.answer.is_err() {
         printing::print_no_sizes(rt);
         return;
     }
-    let counters = laid.counters;
-    let mut out = [0u8; printing::ROOM];
-    let rows = session::serve(
-        rt,
-        input,
+    let mut printer = Printer::new();
+    let mut session = Session::new(
         tabulation,
         &mut *words,
-        &mut *scratch,
-        &mut out,
-        counters,
+        scratch,
+        laid.counters,
+        &mut printer,
     );
-    let end = printing::listing::list(rt, &*words, &mut out, rows);
-    printing::flush(rt, &out, end);
+    session.serve(rt, input);
+    printing::listing::list(rt, &*words, &mut printer);
+    printer.flush(rt);
 }
 
 // The run on as many of the words as these sizes need.
@@ -115,23 +103,12 @@ fn run_part(
     tabulation: &[u16],
     words: &mut [u32],
     scratch: &mut [u32],
-    r: u32,
-    s: u32,
-    station: u32,
+    sizes: Sizes,
 )
-    requires { Sized r s × (words_length r s ≤ length words.old) }
+    requires { Sized sizes.r sizes.s × (words_length sizes.r sizes.s ≤ length words.old) }
 {
-    let end = access::length_for(r, s);
-    run(
-        rt,
-        input,
-        tabulation,
-        &mut words[..end],
-        scratch,
-        r,
-        s,
-        station,
-    );
+    let end = access::length_for(sizes.r, sizes.s);
+    run(rt, input, tabulation, &mut words[..end], scratch, sizes);
 }
 
 // Words and scratch for the largest sizes. Whether there is such a station is left to init.
@@ -139,26 +116,15 @@ fn run_sized(
     rt: &(impl Print + Eprint + Alloc),
     input: &mut impl Read,
     tabulation: &[u16; TABULATION_LENGTH],
-    r: u32,
-    s: u32,
-    station: u32,
+    sizes: Sizes,
 ) {
-    if !access::are_sizes(r, s) {
+    if !access::are_sizes(sizes.r, sizes.s) {
         printing::print_no_sizes(rt);
         return;
     }
     let mut words = [0u32; MAX_WORDS];
     let mut scratch = [0u32; MAX_SCRATCH];
-    run_part(
-        rt,
-        input,
-        tabulation,
-        &mut words,
-        &mut scratch,
-        r,
-        s,
-        station,
-    );
+    run_part(rt, input, tabulation, &mut words, &mut scratch, sizes);
 }
 
 fn main(rt: HostRuntime) {
@@ -170,10 +136,8 @@ fn main(rt: HostRuntime) {
     let mut tabulation = [0u16; TABULATION_LENGTH];
     decode(&bytes, &mut tabulation);
     let mut input = rt.stdin();
-    let sizes = lines::sizes_in(first_line(&mut input));
-    let Sizes::Given(r, s, station) = sizes else {
-        printing::print_no_sizes(&rt);
-        return;
-    };
-    run_sized(&rt, &mut input, &tabulation, r, s, station);
+    match first_line(&mut input).sizes() {
+        Some(sizes) => run_sized(&rt, &mut input, &tabulation, sizes),
+        None => printing::print_no_sizes(&rt),
+    }
 }

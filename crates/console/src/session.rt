@@ -1,333 +1,126 @@
 // The lines after the first: each is answered by a row when its newline, or the end of the input, is read. Byte by byte
-// this is a `Run` of grammar/specs/Stream.antt, whose law (grammar/proofs/Stream.antt) says that these are the lines of
-// the input, and all of them, unless a row cannot be written.
-ghost use Rattle.std.specs.Prelude.{◌≤◌};
-ghost use Rattle.printing.specs.Room.{room};
+// this is a `Run` of lines/specs/Stream.antt, whose law (lines/proofs/Stream.antt) says that these are the lines of the
+// input, and all of them, unless a row cannot be written.
 
 use counters::Counters;
-use grammar::{Command, Line, NEWLINE};
-use outcome::Change;
-use printing::{ROOM, Rows};
+use grammar::{Command, NEWLINE};
+use lines::Line;
+use printing::Printer;
+use refusals::Refusal;
 use std::io::Read;
 
 // The bytes that a read of the input takes at most.
 const PIECE: usize = 65536;
 
-// What the lines so far left behind: the counters, and their rows.
+// What the calls work on, the rows that answer the lines so far, and the line that is being read with its number.
 #[derive(Drop)]
-pub struct Done {
-    pub counters: Counters,
-    pub rows: Rows,
-}
-
-// The line that is being read and its number, and what the lines before it left.
-#[derive(Drop)]
-pub struct Session {
-    pub line: Line,
-    pub number: u64,
-    pub done: Done,
-}
-
-// What a read of the input gave.
-#[derive(Drop)]
-struct Took {
-    more: bool,
-    session: Session,
-}
-
-// Insert or remove.
-fn change(
-    rt: &(impl Print + Eprint + Alloc),
-    kind: Change,
-    tabulation: &[u16],
-    words: &mut [u32],
-    scratch: &mut [u32],
-    out: &mut [u8; ROOM],
-    key: u32,
-    done: Done,
-) -> Done
-    requires { done.rows.at ≤ room }
-    ensures { result.rows.at ≤ room }
-{
-    let before = done.counters;
-    let counted = counting::update(kind, tabulation, words, scratch, key, before);
-    let counters = counted.counters;
-    let rows = printing::add_change(rt, out, done.rows, kind, key, counted.answer);
-    Done {
-        counters: counters,
-        rows: rows,
-    }
-}
-
-fn lookup(
-    rt: &(impl Print + Eprint + Alloc),
-    tabulation: &[u16],
-    words: &[u32],
-    out: &mut [u8; ROOM],
-    key: u32,
-    done: Done,
-) -> Done
-    requires { done.rows.at ≤ room }
-    ensures { result.rows.at ≤ room }
-{
-    let found = lookup::lookup(tabulation, words, key);
-    let rows = printing::add_lookup(rt, out, done.rows, key, found);
-    let counters = done.counters;
-    Done {
-        counters: counters,
-        rows: rows,
-    }
-}
-
-fn error(rt: &(impl Print + Eprint + Alloc), out: &mut [u8; ROOM], number: u64, done: Done) -> Done
-    requires { done.rows.at ≤ room }
-    ensures { result.rows.at ≤ room }
-{
-    let rows = printing::add_error(rt, out, done.rows, number);
-    let counters = done.counters;
-    Done {
-        counters: counters,
-        rows: rows,
-    }
-}
-
-// A whole line.
-fn answer(
-    rt: &(impl Print + Eprint + Alloc),
-    tabulation: &[u16],
-    words: &mut [u32],
-    scratch: &mut [u32],
-    out: &mut [u8; ROOM],
-    session: Session,
-) -> Done
-    requires { session.done.rows.at ≤ room }
-    ensures { result.rows.at ≤ room }
-{
-    let line = session.line;
-    let done = session.done;
-    let command = lines::command_in(line);
-    match command {
-        Command::Insert(key, tier) => change(
-            rt,
-            Change::Insert(tier),
-            tabulation,
-            words,
-            scratch,
-            out,
-            key,
-            done,
-        ),
-        Command::Remove(key) => change(
-            rt,
-            Change::Remove,
-            tabulation,
-            words,
-            scratch,
-            out,
-            key,
-            done,
-        ),
-        Command::Lookup(key) => lookup(rt, tabulation, &*words, out, key, done),
-        Command::Other => error(rt, out, session.number, done),
-    }
-}
-
-// One byte of the input.
-fn take_byte(
-    rt: &(impl Print + Eprint + Alloc),
-    tabulation: &[u16],
-    words: &mut [u32],
-    scratch: &mut [u32],
-    out: &mut [u8; ROOM],
-    session: Session,
-    byte: u8,
-) -> Session
-    requires { session.done.rows.at ≤ room }
-    ensures { result.done.rows.at ≤ room }
-{
-    if byte != NEWLINE {
-        let line = lines::feed(session.line, byte);
-        let done = session.done;
-        return Session {
-            line: line,
-            number: session.number,
-            done: done,
-        };
-    }
-    let number = session.number;
-    let done = answer(rt, tabulation, words, scratch, out, session);
-    let line = lines::empty_line();
-    Session {
-        line: line,
-        number: lines::next_number(number),
-        done: done,
-    }
-}
-
-// A stretch of the input.
-fn take_bytes(
-    rt: &(impl Print + Eprint + Alloc),
-    tabulation: &[u16],
-    words: &mut [u32],
-    scratch: &mut [u32],
-    out: &mut [u8; ROOM],
-    start: Session,
-    bytes: &[u8],
-) -> Session
-    requires { start.done.rows.at ≤ room }
-    ensures { result.done.rows.at ≤ room }
-{
-    let mut session = start;
-    let mut i = 0;
-    while i < bytes.len() {
-        session = take_byte(
-            rt,
-            tabulation,
-            &mut *words,
-            &mut *scratch,
-            &mut *out,
-            session,
-            bytes[i],
-        );
-        i += 1;
-    }
-    session
-}
-
-// Writes the rows out, so that a person at the bench sees the answer to a line before typing the next.
-fn show(rt: &(impl Print + Eprint + Alloc), out: &[u8; ROOM], session: Session) -> Session
-    requires { session.done.rows.at ≤ room }
-    ensures { result.done.rows.at ≤ room }
-{
-    let done = session.done;
-    let rows = printing::flush(rt, out, done.rows);
-    let counters = done.counters;
-    let line = session.line;
-    Session {
-        line: line,
-        number: session.number,
-        done: Done {
-            counters: counters,
-            rows: rows,
-        },
-    }
-}
-
-// One read of the input. A read that fails ends it, and so do rows that are lost: nobody would see an answer.
-fn turn(
-    rt: &(impl Print + Eprint + Alloc),
-    input: &mut impl Read,
-    tabulation: &[u16],
-    words: &mut [u32],
-    scratch: &mut [u32],
-    out: &mut [u8; ROOM],
-    session: Session,
-) -> Took
-    requires { session.done.rows.at ≤ room }
-    ensures { result.session.done.rows.at ≤ room }
-{
-    let mut bytes = [0u8; PIECE];
-    let n = input.read(&mut bytes).unwrap_or(0);
-    if n == 0 {
-        return Took {
-            more: false,
-            session: session,
-        };
-    }
-    let next = take_bytes(
-        rt,
-        tabulation,
-        words,
-        scratch,
-        &mut *out,
-        session,
-        &bytes[..n],
-    );
-    let shown = show(rt, &*out, next);
-    Took {
-        more: !shown.done.rows.lost,
-        session: shown,
-    }
-}
-
-// The input to its end, or until rows are lost. Nothing says that an input ends, so the turns are counted down from a
-// number that no run uses up.
-fn take_input(
-    rt: &(impl Print + Eprint + Alloc),
-    input: &mut impl Read,
-    tabulation: &[u16],
-    words: &mut [u32],
-    scratch: &mut [u32],
-    out: &mut [u8; ROOM],
-    start: Session,
-) -> Session
-    requires { start.done.rows.at ≤ room }
-    ensures { result.done.rows.at ≤ room }
-{
-    let mut session = start;
-    let mut turns = u64::MAX;
-    while turns > 0 {
-        let took = turn(
-            rt,
-            &mut *input,
-            tabulation,
-            &mut *words,
-            &mut *scratch,
-            &mut *out,
-            session,
-        );
-        session = took.session;
-        if !took.more {
-            return session;
-        }
-        turns -= 1;
-    }
-    session
-}
-
-// The lines from line 2 on, the last one with or without its newline. Where rows are lost, what is taken for the last
-// one may be a part of a line: its row is not written.
-pub fn serve(
-    rt: &(impl Print + Eprint + Alloc),
-    input: &mut impl Read,
-    tabulation: &[u16],
-    words: &mut [u32],
-    scratch: &mut [u32],
-    out: &mut [u8; ROOM],
+pub struct Session<'a> {
+    tabulation: &'a [u16],
+    words: &'a mut [u32],
+    scratch: &'a mut [u32],
     counters: Counters,
-) -> Rows
-    ensures { result.at ≤ room }
-{
-    let rows = printing::no_rows();
-    let done = Done {
-        counters: counters,
-        rows: rows,
-    };
-    let line = lines::empty_line();
-    let start = Session {
-        line: line,
-        number: 2,
-        done: done,
-    };
-    let session = take_input(
-        rt,
-        input,
-        tabulation,
-        &mut *words,
-        &mut *scratch,
-        &mut *out,
-        start,
-    );
-    if lines::is_empty(session.line) {
-        return session.done.rows;
+    printer: &'a mut Printer,
+    line: Line,
+    number: u64,
+}
+
+impl<'a> Session<'a> {
+    // Before line 2.
+    pub fn new(
+        tabulation: &'a [u16],
+        words: &'a mut [u32],
+        scratch: &'a mut [u32],
+        counters: Counters,
+        printer: &'a mut Printer,
+    ) -> Session<'a> {
+        Session {
+            tabulation,
+            words,
+            scratch,
+            counters,
+            printer,
+            line: Line::new(),
+            number: 2,
+        }
     }
-    let last = answer(
-        rt,
-        tabulation,
-        &mut *words,
-        &mut *scratch,
-        &mut *out,
-        session,
-    );
-    last.rows
+
+    // A function of its own, since the borrow checker does not cover the call within `answer`.
+    fn looked_up(&self, key: u32) -> Result<Option<u32>, Refusal> {
+        lookup::lookup(self.tabulation, self.words, key)
+    }
+
+    // A whole line.
+    fn answer(&mut self, rt: &(impl Print + Eprint + Alloc)) {
+        match self.line.command() {
+            Some(Command::Insert(key, tier)) => {
+                let counted = counting::insert(
+                    self.tabulation,
+                    self.words,
+                    self.scratch,
+                    self.counters,
+                    key,
+                    tier,
+                );
+                self.counters = counted.counters;
+                self.printer.insert(rt, key, tier, counted.answer);
+            }
+            Some(Command::Remove(key)) => {
+                let counted = counting::remove(
+                    self.tabulation,
+                    self.words,
+                    self.scratch,
+                    self.counters,
+                    key,
+                );
+                self.counters = counted.counters;
+                self.printer.remove(rt, key, counted.answer);
+            }
+            Some(Command::Lookup(key)) => {
+                let looked = self.looked_up(key);
+                self.printer.lookup(rt, key, looked);
+            }
+            None => self.printer.error(rt, self.number),
+        }
+    }
+
+    // One byte of the input. The last line number that there is room for stays.
+    fn take_byte(&mut self, rt: &(impl Print + Eprint + Alloc), byte: u8) {
+        if byte != NEWLINE {
+            self.line.push(byte);
+            return;
+        }
+        self.answer(rt);
+        self.line = Line::new();
+        self.number = self.number.saturating_add(1);
+    }
+
+    // One read of the input, and whether to go on. The rows are written out after it, so that a person at the bench
+    // sees the answer to a line before typing the next. A read that fails ends the input, and so do rows that are
+    // lost: nobody would see an answer.
+    fn turn(&mut self, rt: &(impl Print + Eprint + Alloc), input: &mut impl Read) -> bool {
+        let mut bytes = [0u8; PIECE];
+        let n = input.read(&mut bytes).unwrap_or(0);
+        if n == 0 {
+            return false;
+        }
+        for byte in &bytes[..n] {
+            self.take_byte(rt, *byte);
+        }
+        self.printer.flush(rt);
+        !self.printer.is_lost()
+    }
+
+    // The lines from line 2 on, the last one with or without its newline. Where rows are lost, what is taken for the
+    // last one may be a part of a line: its row is not written. Nothing says that an input ends, so the turns are
+    // counted, up to a number that no run reaches.
+    pub fn serve(&mut self, rt: &(impl Print + Eprint + Alloc), input: &mut impl Read) {
+        for _ in 0..u64::MAX {
+            if !self.turn(rt, &mut *input) {
+                break;
+            }
+        }
+        if !self.line.is_empty() {
+            self.answer(rt);
+        }
+    }
 }

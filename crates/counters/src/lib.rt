@@ -3,7 +3,10 @@
 #![tactic(auto)]
 
 ghost use Rattle.std.specs.Prelude.{◌≡◌};
+ghost use Rattle.refusals.specs.Answer.{number};
 ghost use Rattle.counters.specs.Counters.{one_more, counted};
+
+use refusals::Refusal;
 
 // Accepted calls and refused ones.
 #[repr(C)]
@@ -13,13 +16,10 @@ pub struct Counters {
     pub refused: u32,
 }
 
-// The largest count, at which a count stays.
-pub const MAX_COUNT: u32 = 4294967295;
-
 // What a counted call gives back: its answer, and the counters moved on.
 #[derive(Clone, Copy)]
 pub struct Counted {
-    pub answer: u32,
+    pub answer: Result<(), Refusal>,
     pub counters: Counters,
 }
 
@@ -27,36 +27,33 @@ pub struct Counted {
 fn one_more(count: u32) -> u32
     ensures { result ≡ one_more count }
 {
-    if count < MAX_COUNT {
-        return count + 1;
-    }
-    count
+    count.saturating_add(1)
 }
 
 // The counters after a call that gave this answer.
-pub fn counted_by(counters: Counters, answer: u32) -> Counters
-    ensures { result ≡ counted counters answer }
+pub fn counted_by(counters: Counters, answer: Result<(), Refusal>) -> Counters
+    ensures { result ≡ counted counters (number answer) }
 {
-    if answer == 0 {
-        return Counters {
+    match answer {
+        Ok(()) => Counters {
             done: one_more(counters.done),
-            refused: counters.refused,
-        };
-    }
-    Counters {
-        done: counters.done,
-        refused: one_more(counters.refused),
+            ..counters
+        },
+        Err(_) => Counters {
+            refused: one_more(counters.refused),
+            ..counters
+        },
     }
 }
 
 // An answer, with the counters that it moves on.
-pub fn with_counts(answer: u32, counters: Counters) -> Counted
+pub fn with_counts(answer: Result<(), Refusal>, counters: Counters) -> Counted
     ensures same { result.answer ≡ answer }
-    ensures moved { result.counters ≡ counted counters answer }
+    ensures moved { result.counters ≡ counted counters (number answer) }
 {
     let moved = counted_by(counters, answer);
     Counted {
-        answer: answer,
+        answer,
         counters: moved,
     }
 }

@@ -1,7 +1,7 @@
 -- The steps of insert and remove as definitions: what a set that was loaded leads to. The contracts of the inner
 -- functions cite them, and the laws at the
 -- end put them together with load and commit to the outcomes. Assumes nothing.
-use Rattle.std.specs.Prelude.{ℕ, ◌+◌, ◌*◌, ◌-◌, ◌≤◌, ◌<◌, ◌≡◌, refl, Bool, true, false, not, cond, eqb, ltb, length, get_or}
+use Rattle.std.specs.Prelude.{ℕ, ◌+◌, ◌*◌, ◌-◌, ◌≤◌, ◌<◌, ◌≡◌, refl, Bool, true, false, not, cond, eqb, ltb, length, get_or, Result, Ok, Err}
 use Rattle.std.proofs.Math.Path.{sym}
 use Rattle.std.proofs.Common.{◌∙◌, ap, true≢false, arith, eq-eqb, ne_eqb, lt-ltb, le-ltb, get_or-take}
 use mathlib.Core.List.{List, ◌∷◌, Memᴰ as In}
@@ -10,7 +10,7 @@ use Rattle.basics.proofs.Sets.{member_in, in_member, out_in}
 use Rattle.ordered.proofs.Place.{bound_le, bound_found, length_with, length_without}
 use Rattle.ordered.specs.Keys.{lower_bound, with_key}
 use Rattle.refusals.specs.Refusal.{done, blank_key, key_present, key_absent, stash_full, wrong_tier, other_tier}
-use Rattle.refusals.proofs.Refusal.{last_turned}
+use Rattle.refusals.proofs.Refusals.{last_turned}
 use Rattle.refusals.specs.Refusal.{other_issue, first_refusal}
 use Rattle.hashing.specs.Hash.{Hashing, blank, tables}
 use Rattle.layout.specs.declared.Header.{Header}
@@ -32,8 +32,8 @@ use Rattle.outcome.proofs.Held.{one_too_many, changed_keys, keys_changed_valid}
 use Rattle.scratch_set.specs.Edges.{edge_with, Lined, lined_buildable}
 use Rattle.scratch_set.specs.Members.{keys_at, KeyPlaced, tier_placed, put_at, taken_out, lined_agree, lined_tier}
 use Rattle.scratch_set.specs.Members.{lined_put, lined_taken}
-use Rattle.gateway.specs.declared.Loaded.{Loaded}
-use Rattle.gateway.specs.declared.Loaded.TheVariants.{Set, Refused}
+use Rattle.refusals.specs.declared.Refusal.{Refusal}
+use Rattle.refusals.specs.Answer.{number_of}
 use Rattle.gateway.specs.Loading.{LoadedSet, LoadTold, loaded_refused, refused_first, loaded_passes}
 use Rattle.gateway.specs.LoadedSet.{loaded_shape, set_keys, set_tier, loaded_issues, loaded_count, loaded_few}
 use Rattle.gateway.specs.LoadedSet.{loaded_room, loaded_range, loaded_keys, loaded_searchable}
@@ -311,19 +311,19 @@ module _ (tabulation ws scratch : List ℕ) (kind : Change) (key : ℕ) where
   Concluded n us = (n ≡ (change_outcome kind tabulation ws scratch key).answer)
       × (us ≡ (change_outcome kind tabulation ws scratch key).words)
 
-  module _ {left : List ℕ} {l : Loaded} (T : LoadTold tabulation ws scratch left l) where
+  module _ {left : List ℕ} {l : Result Header Refusal} (T : LoadTold tabulation ws scratch left l) where
     -- 1 to 4: a refusal leaves the words
-    refused_answer : {n : ℕ} → l ≡ Refused n → n ≡ (change_outcome kind tabulation ws scratch key).answer
+    refused_answer : {n : Refusal} → l ≡ Err n → number_of n ≡ (change_outcome kind tabulation ws scratch key).answer
     unfolding change_outcome change_refusal
     refused_answer e = refused_first tabulation ws scratch T e (later_refusals kind tabulation ws key)
 
-    pub left_refused : {n : ℕ} → l ≡ Refused n → Concluded n ws
+    pub left_refused : {n : Refusal} → l ≡ Err n → Concluded (number_of n) ws
     left_refused e =
         let a = refused_answer e in
         (a, sym (change_refused tabulation ws scratch kind key (λ q. (loaded_refused tabulation ws scratch T e).1 (a ∙ q))))
 
     -- what a set that was loaded leads to
-    pub left_set : {h : Header} → l ≡ Set h → {a : ℕ} {us : List ℕ} → AfterLoad kind tabulation ws key a us
+    pub left_set : {h : Header} → l ≡ Ok h → {a : ℕ} {us : List ℕ} → AfterLoad kind tabulation ws key a us
         → Concluded a us
     unfolding change_outcome change_refusal
     left_set q e =

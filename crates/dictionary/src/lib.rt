@@ -3,6 +3,7 @@
 #![tactic(auto)]
 
 ghost use Rattle.std.specs.Prelude.{◌≡◌};
+ghost use Rattle.refusals.specs.Answer.{number};
 ghost use Rattle.layout.specs.Layout.{header_of};
 ghost use Rattle.gateway.specs.Loading.{LoadedSet};
 ghost use Rattle.dictionary.specs.Core.{Settable, Decided, AfterLoad, Concluded};
@@ -10,12 +11,10 @@ ghost use Rattle.outcome.specs.Outcome.{change_outcome, check_outcome};
 ghost use Rattle.outcome.specs.declared.Change.TheVariants.{Insert, Remove};
 
 use access::with_keys;
-use gateway::{Loaded, clear, commit, load, refusal};
-use layout::{Found, Header, MAX_TIER};
+use gateway::{clear, commit, load};
+use layout::{Header, MAX_TIER};
 use outcome::Change;
-use refusals::{
-    BLANK_KEY, KEY_ABSENT, KEY_PRESENT, OTHER_ISSUE, OTHER_TIER, STASH_FULL, WRONG_TIER,
-};
+use refusals::Refusal;
 use scratch_set::{is_at, look, other_issue, place_of, put_key, take_key, tier_at};
 use words::wide;
 
@@ -28,41 +27,31 @@ fn insert_key(
     n: usize,
     key: u32,
     tier: u32,
-) -> u32
+) -> Result<(), Refusal>
     requires { Settable tabulation.now words.old scratch.old heading n key }
-    ensures { Decided (Insert tier) tabulation.now words.old key result words.new }
+    ensures { Decided (Insert tier) tabulation.now words.old key (number result) words.new }
 {
     if MAX_TIER < tier {
-        return WRONG_TIER;
+        return Err(Refusal::WrongTier);
     }
     let r = heading.slots;
     let s = heading.places;
-    let at = place_of(&*scratch, n, key);
-    if other_issue(&*scratch, n, at, key) {
-        return OTHER_ISSUE;
+    let at = place_of(scratch, n, key);
+    if other_issue(scratch, n, at, key) {
+        return Err(Refusal::OtherIssue);
     }
-    if is_at(&*scratch, n, at, key) {
-        if tier_at(&*scratch, r, s, at) != tier {
-            return OTHER_TIER;
+    if is_at(scratch, n, at, key) {
+        if tier_at(scratch, r, s, at) != tier {
+            return Err(Refusal::OtherTier);
         }
-        return KEY_PRESENT;
+        return Err(Refusal::KeyPresent);
     }
     if wide(2 * r + s) <= n {
-        return STASH_FULL;
+        return Err(Refusal::StashFull);
     }
-    put_key(
-        tabulation,
-        &mut *scratch,
-        r,
-        s,
-        heading.station,
-        n,
-        at,
-        key,
-        tier,
-    );
+    put_key(tabulation, scratch, r, s, heading.station, n, at, key, tier);
     let next = with_keys(heading, heading.keys + 1);
-    commit(&mut *words, &mut *scratch, next)
+    commit(words, scratch, next)
 }
 
 // The set of the words stands in scratch, n keys and their edges, and the key is not blank: the set without the key.
@@ -73,23 +62,23 @@ fn remove_key(
     heading: Header,
     n: usize,
     key: u32,
-) -> u32
+) -> Result<(), Refusal>
     requires { Settable tabulation.now words.old scratch.old heading n key }
-    ensures { Decided Remove tabulation.now words.old key result words.new }
+    ensures { Decided Remove tabulation.now words.old key (number result) words.new }
 {
     let r = heading.slots;
     let s = heading.places;
-    let at = place_of(&*scratch, n, key);
-    let found = look(&*scratch, r, s, n, at, key);
-    let Found::Listed(_) = found else {
-        return KEY_ABSENT;
+    let at = place_of(scratch, n, key);
+    let Some(_) = look(scratch, r, s, n, at, key) else {
+        return Err(Refusal::KeyAbsent);
     };
-    take_key(&mut *scratch, r, s, n, at);
+    take_key(scratch, r, s, n, at);
     let next = with_keys(heading, heading.keys - 1);
-    commit(&mut *words, &mut *scratch, next)
+    commit(words, scratch, next)
 }
 
-// The set of the words stands in scratch: 5, or what the set decides.
+// The set of the words stands in scratch: 5, or what the set decides. The two changes are a `match` and no closure: which
+// of them was asked for is part of the outcome that is promised.
 fn change_set(
     kind: Change,
     tabulation: &[u16],
@@ -97,25 +86,17 @@ fn change_set(
     scratch: &mut [u32],
     heading: Header,
     key: u32,
-) -> u32
+) -> Result<(), Refusal>
     requires { LoadedSet tabulation.now words.old scratch.old × (heading ≡ header_of words.old) }
-    ensures { AfterLoad kind tabulation.now words.old key result words.new }
+    ensures { AfterLoad kind tabulation.now words.old key (number result) words.new }
 {
     if ranges::is_blank(key) {
-        return BLANK_KEY;
+        return Err(Refusal::BlankKey);
     }
     let n = wide(heading.keys);
     match kind {
-        Change::Insert(tier) => insert_key(
-            tabulation,
-            &mut *words,
-            &mut *scratch,
-            heading,
-            n,
-            key,
-            tier,
-        ),
-        Change::Remove => remove_key(tabulation, &mut *words, &mut *scratch, heading, n, key),
+        Change::Insert(tier) => insert_key(tabulation, words, scratch, heading, n, key, tier),
+        Change::Remove => remove_key(tabulation, words, scratch, heading, n, key),
     }
 }
 
@@ -126,22 +107,12 @@ fn change_words(
     words: &mut [u32],
     scratch: &mut [u32],
     key: u32,
-) -> u32
-    ensures { Concluded tabulation.now words.old scratch.old kind key result
+) -> Result<(), Refusal>
+    ensures { Concluded tabulation.now words.old scratch.old kind key (number result)
         words.new }
 {
-    let loaded = load(tabulation, &*words, &mut *scratch);
-    match loaded {
-        Loaded::Set(heading) => change_set(
-            kind,
-            tabulation,
-            &mut *words,
-            &mut *scratch,
-            heading,
-            key,
-        ),
-        Loaded::Refused(n) => n,
-    }
+    let heading = load(tabulation, words, scratch)?;
+    change_set(kind, tabulation, words, scratch, heading, key)
 }
 
 // Insert and remove: their whole outcome but the counters.
@@ -151,21 +122,22 @@ pub fn update(
     words: &mut [u32],
     scratch: &mut [u32],
     key: u32,
-) -> u32
-    ensures { record { answer = result; words = words.new; scratch = scratch.new }
+) -> Result<(), Refusal>
+    ensures { record { answer = number result; words = words.new; scratch = scratch.new }
         ≡ change_outcome kind tabulation.now words.old scratch.old key }
 {
-    let answer = change_words(kind, tabulation, &mut *words, &mut *scratch, key);
-    clear(&mut *scratch);
+    let answer = change_words(kind, tabulation, words, scratch, key);
+    clear(scratch);
     answer
 }
 
 // Check: its whole outcome. The words are only read.
-pub fn check(tabulation: &[u16], words: &[u32], scratch: &mut [u32]) -> u32
-    ensures { record { answer = result; words = words.now; scratch = scratch.new }
+pub fn check(tabulation: &[u16], words: &[u32], scratch: &mut [u32]) -> Result<(), Refusal>
+    ensures { record { answer = number result; words = words.now; scratch = scratch.new }
         ≡ check_outcome tabulation.now words.now scratch.old }
 {
-    let loaded = load(tabulation, words, &mut *scratch);
-    clear(&mut *scratch);
-    refusal(loaded)
+    let loaded = load(tabulation, words, scratch);
+    clear(scratch);
+    loaded?;
+    Ok(())
 }

@@ -2,97 +2,63 @@
 // line have. Every promise is equality with a definition of `grammar`.
 #![tactic(auto)]
 
-ghost use Rattle.std.specs.Prelude.{◌≡◌};
+ghost use Rattle.std.specs.Prelude.{suc, ◌<◌, ◌≡◌, length, take, drop, MatchOption, ◌==◌, position};
 ghost use Rattle.grammar.specs.Number.{no_leading_zero, number_of};
-ghost use Rattle.grammar.specs.Parted.{place_of};
-ghost use Rattle.grammar.specs.Command.{pair, pair_of};
+ghost use Rattle.grammar.specs.Parted.{comma, place_of};
+ghost use Rattle.grammar.specs.Command.{pair_of};
 
-use grammar::{COMMA, Number, Pair};
+use grammar::COMMA;
 
-// Where a byte first stands, or the length where it does not: the end of a field, with COMMA, and of a line, with
-// NEWLINE.
-pub fn find(bytes: &[u8], byte: u8) -> usize
-    ensures { result ≡ place_of byte bytes.now }
+// Where a byte first stands: the end of a field, with COMMA, and of a line, with NEWLINE.
+pub fn find(bytes: &[u8], byte: u8) -> Option<usize>
+    ensures { result ≡ position (λ b. b == byte) bytes.now }
 {
-    let mut i = 0;
-    while i < bytes.len() {
-        if bytes[i] == byte {
-            return i;
-        }
-        i += 1;
-    }
-    i
+    bytes.iter().position(|b| *b == byte)
+}
+
+// What stands before the first comma of a text, and what stands behind it.
+pub fn split_once(text: &[u8]) -> Option<(&[u8], &[u8])>
+    ensures { let end = place_of comma text.now in
+        MatchOption result (end ≡ length text.now) (λ parts. (end < length text.now)
+        × (parts.0.now ≡ take end text.now) × (parts.1.now ≡ drop (suc end) text.now)) }
+{
+    let end = find(text, COMMA)?;
+    Some((&text[..end], &text[end + 1..]))
 }
 
 // Whether a text is not empty, and begins with 0 only if that is all of it.
 fn starts_well(text: &[u8]) -> bool
     ensures { result ≡ no_leading_zero text.now }
 {
-    if text.len() == 0 {
-        return false;
+    match text {
+        [] => false,
+        [_] => true,
+        [first, ..] => *first != b'0',
     }
-    if text.len() == 1 {
-        return true;
-    }
-    text[0] != b'0'
-}
-
-// A byte as a 64-bit number.
-fn byte_wide(byte: u8) -> u64
-    ensures { result ≡ byte }
-{
-    byte as u64
 }
 
 // The number that a text writes in decimal, without a leading zero and below 2^32.
-pub fn number_in(text: &[u8]) -> Number
+pub fn number_in(text: &[u8]) -> Option<u32>
     ensures { result ≡ number_of text.now }
 {
     if !starts_well(text) {
-        return Number::Other;
+        return None;
     }
-    let mut n: u64 = 0;
-    let mut i = 0;
-    while i < text.len() {
-        let b = byte_wide(text[i]);
-        if b < 48 {
-            return Number::Other;
+    let mut n: u32 = 0;
+    for b in text {
+        if !b.is_ascii_digit() {
+            return None;
         }
-        if 57 < b {
-            return Number::Other;
-        }
-        n = 10 * n + (b - 48);
-        if 4294967295 < n {
-            return Number::Other;
-        }
-        i += 1;
+        let tens = n.checked_mul(10)?;
+        n = tens.checked_add(u32::from(*b - b'0'))?;
     }
-    Number::Value(n as u32)
-}
-
-// A pair of numbers.
-fn both(first: Number, second: Number) -> Pair
-    ensures { result ≡ pair first second }
-{
-    let Number::Value(a) = first else {
-        return Pair::Other;
-    };
-    let Number::Value(b) = second else {
-        return Pair::Other;
-    };
-    Pair::Given(a, b)
+    Some(n)
 }
 
 // Two numbers parted by a comma: what line 1 has behind its first comma, and an add behind its letter.
-pub fn pair_of(text: &[u8]) -> Pair
+pub fn pair_of(text: &[u8]) -> Option<(u32, u32)>
     ensures { result ≡ pair_of text.now }
 {
-    let end = find(text, COMMA);
-    if text.len() <= end {
-        return Pair::Other;
-    }
-    let start = end + 1;
-    let first = number_in(&text[..end]);
-    let second = number_in(&text[start..]);
-    both(first, second)
+    let (first, second) = split_once(text)?;
+    Some((number_in(first)?, number_in(second)?))
 }

@@ -1,12 +1,12 @@
 -- The laws of what specs/Edges.antt defines.
-use Rattle.std.specs.Prelude.{ℕ, zero, suc, ◌*◌, ◌<◌, ◌≤◌, ◌≡◌, refl, cond, List, [], ◌∷◌, ltb, length, get_or}
+use Rattle.std.specs.Prelude.{ℕ, zero, suc, ◌*◌, ◌<◌, ◌≡◌, refl, List, [], ◌∷◌, length, get_or}
 use Rattle.std.proofs.Common.{sym, lt-ltb, le-ltb}
 use Rattle.std.proofs.Math.Logic.{inl, inr}
 use native.Mathlib.Omega.{arith}
 use Rattle.std.proofs.Math.ListN.{get_or-eq_default}
 use Rattle.basics.proofs.Tests.{le?}
 use Rattle.cuckoo.specs.Seating.{Ends, from_a, from_b}
-use Rattle.edges.specs.Edge.{first_of, second_of, Edge, no_edge, no_edge_between}
+use Rattle.edges.specs.Edge.{Edge, no_edge, no_edge_between}
 use Rattle.forest.specs.Edges.{Edges, edge_at, end_0, end_1, other_end}
 
 default_free : (l : List ℕ) (i d e : ℕ) → i < length l → get_or l i d ≡ get_or l i e

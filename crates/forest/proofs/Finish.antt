@@ -1,5 +1,5 @@
 -- The laws of what specs/Finish.antt defines.
-use Rattle.std.specs.Prelude.{ℕ, ◌<◌, ◌≤◌, ◌≡◌, ◌⊎◌}
+use Rattle.std.specs.Prelude.{ℕ, ◌<◌, ◌≤◌, ◌≡◌}
 use Rattle.std.proofs.Math.Path.{refl, sym}
 use Rattle.std.proofs.Common.{◌∙◌, ap, arith}
 use Rattle.std.proofs.Math.Logic.{inl, inr}
@@ -9,9 +9,9 @@ use mathlib.Core.List.{List, ◌∷◌, Memᴰ as In}
 use Rattle.std.proofs.Math.ListN.{length, get_or, set, length-set}
 use Rattle.std.proofs.lemmas.List.{set-get_or}
 use Rattle.basics.proofs.Tests.{eq?, le?}
-use Rattle.basics.specs.Sets.{without, Sub, Asc, below}
+use Rattle.basics.specs.Sets.{without, Sub}
 use Rattle.basics.proofs.Sets.{out_in, in_out, out_ne, around, out_shorter, below_in, below_lt}
-use Rattle.cuckoo.specs.Graph.{root, occupant}
+use Rattle.cuckoo.specs.Graph.{root}
 use Rattle.cuckoo.specs.Joined.{Joined, past, along, back}
 use Rattle.cuckoo.proofs.Joined.{split_out, jrefl, jsym, jtrans, edge, edge_head, mono, within, confine, more}
 use Rattle.cuckoo.specs.Settling.{OnCycle}
@@ -23,7 +23,7 @@ use Rattle.forest.proofs.Oriented.{off_set, emptied, sides, forest_sub, forest_m
 use Rattle.forest.specs.Oriented.{Forest, Oriented}
 use Rattle.forest.specs.Reroot.{reroot}
 use Rattle.forest.proofs.RerootLaws.{length_reroot, reroots}
-use Rattle.forest.specs.Way.{lowest_slot, SmallestOnWay}
+use Rattle.forest.specs.Way.{SmallestOnWay}
 use Rattle.forest.proofs.Way.{finds_lowest}
 use Rattle.forest.proofs.Seats.{hung_tree, seats}
 use Rattle.forest.specs.Finish.{finish_tree, exchange, finish_cycle, Finished, Spanned, TreeComponent, CycleComponent}

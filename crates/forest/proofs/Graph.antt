@@ -1,20 +1,20 @@
 -- The laws of what specs/Graph.antt defines.
-use Prim.Native.Nat.{ℕ, zero, suc, ◌+◌, ◌*◌, ◌-◌, ◌<◌, ◌≤◌}
-use Rattle.std.specs.Prelude.{◌≡◌, refl, length, set, take, drop}
+use Prim.Native.Nat.{ℕ, zero, suc, ◌+◌, ◌*◌, ◌-◌, ◌<◌}
+use Rattle.std.specs.Prelude.{◌≡◌, refl, length, set, drop}
 use Rattle.std.proofs.Math.Path.{sym, ap}
 use Rattle.std.proofs.Common.{◌∙◌, inl, inr, length-append, length-take, length-drop, length-set, take-append-drop, get_or-take, get_or-drop, get_or-set_same, get_or-set_other, take_at, drop_at, drop-set-lt}
-use mathlib.Core.List.{List, [], ◌∷◌, ◌++◌}
+use mathlib.Core.List.{List, ◌∷◌}
 use native.Mathlib.Omega.{arith}
 use Rattle.std.proofs.Math.ListN.{get_or}
 use Rattle.std.proofs.Math.Seq.{set_out, take-set-lt, length_front}
 use Rattle.basics.proofs.Tests.{eq?, le?}
 use Rattle.edges.specs.Edge.{no_edge, no_edge_first}
-use Rattle.forest.specs.Edges.{Edges, edge_at, end_0, end_1, other_end}
+use Rattle.forest.specs.Edges.{edge_at, end_0, end_1, other_end}
 use Rattle.forest.proofs.Edges.{edge_read}
 use Rattle.forest.specs.Reroot.{reroot}
 use Rattle.forest.proofs.RerootLaws.{reroot_none, reroot_stop, reroot_step, length_reroot}
 use Rattle.forest.specs.Way.{lowest_slot}
-use Rattle.forest.specs.Finish.{finish_tree, exchange, finish_cycle}
+use Rattle.forest.specs.Finish.{exchange, finish_cycle}
 use Rattle.forest.specs.Graph.{held_in, edges_in, with_held, Fit, Graph, first_slot, second_slot, other_slot, rerooted, lowest, exchanged, finished_cycle, Kept, n}
 
 -- The laws. First, words in bounds.
@@ -149,6 +149,9 @@ module _ {r : ℕ} {g : List ℕ} (G : Graph r g) (rank : ℕ) (some : rank < le
     pub taken : Kept r g (set g low 0)
     taken = kept_set G (kept_start G) low 0 fits (omega (arith, some))
 
+    pub taken_turned : {mid : List ℕ} (slot : ℕ) → mid ≡ rerooted r (set g low 0) rank slot → Kept r g mid
+    taken_turned slot e = (turned G taken rank slot some e).0
+
     -- one after the other: `mid` are the words between them
     module _ {mid out : List ℕ} {first second : ℕ} (e : second ≡ second_slot r (set g low 0) rank) (in_e : mid ≡ rerooted r (set g low 0) rank second)
         (f : first ≡ first_slot r mid (get_or g low 0)) (in_f : out ≡ rerooted r mid (get_or g low 0) first) where
@@ -165,6 +168,9 @@ module _ {r : ℕ} {g : List ℕ} (G : Graph r g) (rank : ℕ) (some : rank < le
           h.1 ∙ (rw (is_second, take-set-lt (2 * r) g low 0 fits)) in
           kept_with G k.0 {h = reroot O (n G rank some) (reroot O (n G rank some) (set (held_in r g) low 0) rank (second_slot r g rank)) z (first_slot r g z)}
           (k.1 ∙ (rw (is_smallest, is_first, is_mid)))
+
+  pub bare_turned : {mid : List ℕ} (slot : ℕ) → mid ≡ rerooted r g 0 slot → Kept r g mid
+  bare_turned slot e = (turned G (kept_start G) 0 slot (omega (arith, some)) e).0
 
   module _ {mid out : List ℕ} {first second low : ℕ} (e : first ≡ first_slot r g rank) (in_e : mid ≡ rerooted r g 0 first)
       (f : second ≡ second_slot r mid rank) (is_low : low ≡ lowest r mid second) (in_f : out ≡ exchanged r mid rank low) where

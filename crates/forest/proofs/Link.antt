@@ -1,5 +1,5 @@
 -- The laws of what specs/Link.antt defines.
-use Rattle.std.specs.Prelude.{ℕ, zero, suc, ◌<◌, ◌≤◌, ◌≡◌, cond, ◌⊎◌, length, get_or, replicate}
+use Rattle.std.specs.Prelude.{ℕ, zero, suc, ◌<◌, ◌≤◌, ◌≡◌, ◌⊎◌, length, get_or, replicate}
 use Rattle.std.proofs.Common.{zero-le, sym, ◌∙◌, inl, inr, arith}
 use Rattle.std.proofs.Math.Path.{refl}
 use mathlib.Core.List.Memᴰ.{head as here}
@@ -9,7 +9,6 @@ use Rattle.basics.proofs.Tests.{eq?}
 use Rattle.basics.proofs.Lists.{get_or_zeros}
 use Rattle.basics.specs.Sets.{without, Sub, Asc, none, some}
 use Rattle.basics.proofs.Sets.{in_out, out_shorter, asc_keep, below_in, below_lt, in_below}
-use Rattle.cuckoo.specs.Graph.{joined}
 use Rattle.cuckoo.specs.Joined.{Joined}
 use Rattle.cuckoo.proofs.Joined.{jrefl, jsym, jtrans, mono, within, more, joined?, true_joined, false_joined}
 use Rattle.cuckoo.specs.Seating.{Ends}

@@ -1,9 +1,9 @@
 -- The laws of what specs/Way.antt defines.
 use Prim.Native.Nat.{ℕ, zero, suc, ◌≤◌}
-use Rattle.std.specs.Prelude.{◌≡◌, cond, ◌⊎◌, eqb, ltb, length, get_or}
+use Rattle.std.specs.Prelude.{◌≡◌, cond, ◌⊎◌, ltb, length, get_or}
 use Rattle.std.proofs.Math.Path.{refl}
 use Rattle.std.proofs.Common.{sym, ◌∙◌, inl, inr, arith, le_of_eq, eq-eqb, ne_eqb, lt-ltb, le-ltb}
-use mathlib.Core.List.{List, Memᴰ as In}
+use mathlib.Core.List.{List}
 use Rattle.basics.proofs.Tests.{eq?, le?}
 use Rattle.basics.specs.Sets.{without, Sub}
 use Rattle.basics.proofs.Sets.{outs, out_in, in_out, out_shorter}

@@ -1,13 +1,8 @@
 -- The two slots of each rank, read from its edge (`edges`); its tier does not count here. Rank 0, which is no key, has
 -- an edge too, and past the list there is one as good as any: so every number has two slots, and no law needs to ask
 -- whether it is a rank. Assumes nothing.
-use Rattle.std.specs.Prelude.{ℕ, zero, suc, ◌*◌, ◌<◌, ◌≤◌, ◌≡◌, refl, cond, List, [], ◌∷◌, ltb, length, get_or}
-use Rattle.std.proofs.Common.{sym, lt-ltb, le-ltb}
-use Rattle.std.proofs.Math.Logic.{inl, inr}
-use native.Mathlib.Omega.{arith}
-use Rattle.std.proofs.Math.ListN.{get_or-eq_default}
-use Rattle.cuckoo.specs.Seating.{Ends, from_a, from_b}
-use Rattle.edges.specs.Edge.{first_of, second_of, Edge, no_edge, no_edge_between}
+use Rattle.std.specs.Prelude.{ℕ, ◌<◌, ◌≤◌, cond, List, ltb, length, get_or}
+use Rattle.edges.specs.Edge.{first_of, second_of, Edge, no_edge}
 
 pub record Edges (r : ℕ) (edges : List ℕ) : Type 0 where
   pub some : 0 < r

@@ -6,24 +6,15 @@
 -- A component with a cycle has one key y outside F. The smaller keys of F join the two slots of y: the cycle is y and the way between them. The
 -- smallest key z on that way is the smallest on the cycle. It is taken out of the tree, y comes in for it, and the tree is re-rooted at z's slot in
 -- table 0, where z is left. Assumes nothing.
-use Rattle.std.specs.Prelude.{ℕ, ◌<◌, ◌≤◌, ◌≡◌, ◌⊎◌}
-use Rattle.std.proofs.Math.Path.{refl, sym}
-use Rattle.std.proofs.Common.{◌∙◌, ap, arith}
-use Rattle.std.proofs.Math.Logic.{inl, inr}
-use mathlib.Core.List.Memᴰ.{head as here}
-use mathlib.Core.List.Memᴰ.{tail as there}
-use mathlib.Core.List.{List, ◌∷◌, Memᴰ as In}
-use Rattle.std.proofs.Math.ListN.{length, get_or, set, length-set}
-use Rattle.std.proofs.lemmas.List.{set-get_or}
-use Rattle.basics.specs.Sets.{without, Sub, Asc, below}
-use Rattle.cuckoo.specs.Graph.{root, occupant}
-use Rattle.cuckoo.specs.Joined.{Joined, past, along, back}
-use Rattle.cuckoo.specs.Settling.{OnCycle}
-use Rattle.cuckoo.specs.Seating.{Ends, from_a}
-use Rattle.cuckoo.specs.Places.{hung}
-use Rattle.forest.specs.Oriented.{Forest, Oriented}
+use Rattle.std.specs.Prelude.{ℕ, ◌≤◌, ◌≡◌, ◌⊎◌}
+use mathlib.Core.List.{List, Memᴰ as In}
+use Rattle.std.proofs.Math.ListN.{length, get_or, set}
+use Rattle.basics.specs.Sets.{Sub, Asc, below}
+use Rattle.cuckoo.specs.Graph.{occupant}
+use Rattle.cuckoo.specs.Joined.{Joined}
+use Rattle.forest.specs.Oriented.{Forest}
 use Rattle.forest.specs.Reroot.{reroot}
-use Rattle.forest.specs.Way.{lowest_slot, SmallestOnWay}
+use Rattle.forest.specs.Way.{lowest_slot}
 
 module _ (a b : ℕ → ℕ) (other : ℕ → ℕ → ℕ) (n : ℕ) where
   -- without a cycle, z being the smallest key

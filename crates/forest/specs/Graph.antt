@@ -1,16 +1,12 @@
 -- The graph in one stretch of words, as the contracts of this crate cite it: first what each of the 2r slots holds, a rank or 0, then the edges of the ranks
 -- 1, 2, .. . The loops of this crate run over the whole stretch, and the laws say that this is the same as over the held words, beside edges that stay.
 -- Assumes nothing.
-use Prim.Native.Nat.{ℕ, zero, suc, ◌+◌, ◌*◌, ◌-◌, ◌<◌, ◌≤◌}
-use Rattle.std.specs.Prelude.{◌≡◌, refl, length, set, take, drop}
-use Rattle.std.proofs.Math.Path.{sym, ap}
-use Rattle.std.proofs.Common.{◌∙◌, inl, inr, length-append, length-take, length-drop, length-set, take-append-drop, get_or-take, get_or-drop, get_or-set_same, get_or-set_other, take_at, drop_at, drop-set-lt}
-use mathlib.Core.List.{List, [], ◌∷◌, ◌++◌}
-use native.Mathlib.Omega.{arith}
+use Prim.Native.Nat.{ℕ, suc, ◌*◌, ◌<◌, ◌≤◌}
+use Rattle.std.specs.Prelude.{◌≡◌, length, take, drop}
+use mathlib.Core.List.{List, ◌∷◌, ◌++◌}
 use Rattle.std.proofs.Math.ListN.{get_or}
-use Rattle.std.proofs.Math.Seq.{set_out, take-set-lt, length_front}
-use Rattle.edges.specs.Edge.{no_edge, no_edge_first}
-use Rattle.forest.specs.Edges.{Edges, edge_at, end_0, end_1, other_end}
+use Rattle.edges.specs.Edge.{no_edge}
+use Rattle.forest.specs.Edges.{Edges, end_0, end_1, other_end}
 use Rattle.forest.specs.Reroot.{reroot}
 use Rattle.forest.specs.Way.{lowest_slot}
 use Rattle.forest.specs.Finish.{finish_tree, exchange, finish_cycle}

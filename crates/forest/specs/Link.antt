@@ -1,19 +1,9 @@
 -- Linking: a key whose slots lie in two trees makes one of them. Its tree is re-rooted at the one slot, whichever of the two, and the key is left there.
 -- Keys linked in ascending order, those passed over whose slots are joined already (Kruskal's algorithm), make the forest of the definitions.
 -- How it is tested whether slots are joined is not said here. Assumes nothing.
-use Rattle.std.specs.Prelude.{ℕ, zero, suc, ◌<◌, ◌≤◌, ◌≡◌, cond, ◌⊎◌, length, get_or, replicate}
-use Rattle.std.proofs.Common.{zero-le, sym, ◌∙◌, inl, inr, arith}
-use Rattle.std.proofs.Math.Path.{refl}
-use mathlib.Core.List.Memᴰ.{head as here}
-use mathlib.Core.List.Memᴰ.{tail as there}
+use Rattle.std.specs.Prelude.{ℕ, cond}
 use mathlib.Core.List.{List, [], ◌∷◌, Memᴰ as In}
-use Rattle.basics.specs.Sets.{without, Sub, Asc, none, some}
 use Rattle.cuckoo.specs.Graph.{joined}
-use Rattle.cuckoo.specs.Joined.{Joined}
-use Rattle.cuckoo.specs.Seating.{Ends}
-use Rattle.cuckoo.specs.Forest.{forest}
-use Rattle.forest.specs.Oriented.{Forest, Oriented, OrientedForest}
-use Rattle.forest.specs.Reroot.{reroot, Rerooted}
 
 -- a list that has no key twice
 pub data Once : List ℕ → Type 0 where

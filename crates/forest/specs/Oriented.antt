@@ -8,17 +8,11 @@
 --     slots   u ── c ── v ── d ── r      held[u] = c, held[v] = d, held[r] = 0: r is the root
 --
 -- It is a forest with parent pointers, where a key is the pointer, since a key knows its two slots. Assumes nothing.
-use Rattle.std.specs.Prelude.{ℕ, zero, suc, ◌<◌, ◌≤◌, ◌≡◌, refl, ◌||◌, ◌⊎◌, length, get_or, set}
-use Rattle.std.proofs.Common.{sym, ◌∙◌, ap, inl, inr, arith, get_or-set_same, get_or-set_other}
-use mathlib.Core.List.Memᴰ.{head as here}
-use mathlib.Core.List.Memᴰ.{tail as there}
-use mathlib.Core.List.{List, ◌∷◌, Memᴰ as In}
-use Rattle.std.proofs.Math.ListN.{get_or-eq_default}
-use Rattle.std.proofs.Math.Seq.{set_out}
-use Rattle.basics.specs.Sets.{without, Sub}
-use Rattle.cuckoo.specs.Joined.{Joined, past, along, back}
-use Rattle.cuckoo.specs.Seating.{Ends, from_a, from_b}
-use Rattle.cuckoo.specs.Tree.{Far}
+use Rattle.std.specs.Prelude.{ℕ, ◌≡◌, get_or}
+use mathlib.Core.List.{List, Memᴰ as In}
+use Rattle.basics.specs.Sets.{without}
+use Rattle.cuckoo.specs.Joined.{Joined}
+use Rattle.cuckoo.specs.Seating.{Ends}
 
 module _ (a b : ℕ → ℕ) where
   -- a set of keys without a cycle: the others never join the two slots of a key; and 0 is no key

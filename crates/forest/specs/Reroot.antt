@@ -1,13 +1,9 @@
 -- Re-rooting: a slot of a tree is made its root, and a key left there. Every key on the way from the slot to the old root moves to its other
 -- slot, so that it leads the other way. (Sleator and Tarjan call it "evert".)
 -- First the loop as a function that computes, with its steps; then the law that it does what is said. Assumes nothing.
-use Rattle.std.specs.Prelude.{ℕ, zero, suc, ◌<◌, ◌≡◌, cond, List, eqb, length, get_or, set}
-use Rattle.std.proofs.Math.Path.{refl}
-use Rattle.std.proofs.Common.{sym, ◌∙◌, inl, inr, arith, not-suc-le-zero, length-set, eq-eqb, ne_eqb}
-use Rattle.basics.specs.Sets.{without}
+use Rattle.std.specs.Prelude.{ℕ, zero, suc, ◌≡◌, cond, List, eqb, length, get_or, set}
 use Rattle.cuckoo.specs.Joined.{Joined}
-use Rattle.cuckoo.specs.Seating.{Ends, from_a, from_b}
-use Rattle.forest.specs.Oriented.{Forest, Oriented, LeadsTo}
+use Rattle.forest.specs.Oriented.{Oriented}
 
 -- `other v c` is the other slot of the key c that stands in slot v
 module _ (other : ℕ → ℕ → ℕ) where

@@ -1,14 +1,10 @@
 -- The way from a slot to the root of its tree: the loop that walks it and keeps the slot of the smallest key, as a function that computes; and
 -- the law that this is the smallest key that parts the slot from the root. Assumes nothing.
 use Prim.Native.Nat.{ℕ, zero, suc, ◌≤◌}
-use Rattle.std.specs.Prelude.{◌≡◌, cond, ◌⊎◌, eqb, ltb, length, get_or}
-use Rattle.std.proofs.Math.Path.{refl}
-use Rattle.std.proofs.Common.{sym, ◌∙◌, inl, inr, arith, le_of_eq, eq-eqb, ne_eqb, lt-ltb, le-ltb}
+use Rattle.std.specs.Prelude.{cond, eqb, ltb, get_or}
 use mathlib.Core.List.{List, Memᴰ as In}
-use Rattle.basics.specs.Sets.{without, Sub}
+use Rattle.basics.specs.Sets.{without}
 use Rattle.cuckoo.specs.Joined.{Joined}
-use Rattle.cuckoo.specs.Seating.{Ends, past_it, by_v, by_w}
-use Rattle.forest.specs.Oriented.{Forest, Oriented, LeadsTo}
 
 module _ (other : ℕ → ℕ → ℕ) where
   -- at most n steps from v towards the root: the slot of the smallest key on the way, s being that of the smallest before

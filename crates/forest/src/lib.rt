@@ -26,12 +26,14 @@ fn first_slot(graph: &[u32], r: u32, rank: u32) -> u32
     ensures { (result ≡ first_slot r graph.now rank) × (result < 2 * r) }
 {
     if rank == 0 {
-        return 0;
+        0
+    } else {
+        edges::first(edge(graph, r, rank))
     }
-    edges::first(edge(graph, r, rank))
 }
 
-// The slot of a rank in table 1.
+// The slot of a rank in table 1. Not one function with `first_slot`: a parameter for the table would be asked about in
+// the code and in the contract, and only the slot in table 0 is asked of rank 0.
 fn second_slot(graph: &[u32], r: u32, rank: u32) -> u32
     requires { Graph r graph.now × (0 < rank) × (rank < length (edges_in r graph.now)) }
     ensures { (result ≡ second_slot r graph.now rank) × (result < 2 * r) }
@@ -45,9 +47,10 @@ fn other_slot(graph: &[u32], r: u32, slot: u32, rank: u32) -> u32
     ensures { (result ≡ other_slot r graph.now slot rank) × (result < 2 * r) }
 {
     if slot < r {
-        return second_slot(graph, r, rank);
+        second_slot(graph, r, rank)
+    } else {
+        first_slot(graph, r, rank)
     }
-    first_slot(graph, r, rank)
 }
 
 // Makes `slot` the root of its tree, and leaves the rank `carry` there: every rank on the way to the old root moves to
@@ -58,16 +61,14 @@ pub fn reroot(graph: &mut [u32], r: u32, slot: u32, carry: u32)
 {
     let mut at = slot;
     let mut moving = carry;
-    let mut left = 2 * r + 1;
-    while 0 < left {
+    for _ in 0..2 * r + 1 {
         let rank = graph[at as usize];
         graph[at as usize] = moving;
         if rank == 0 {
             return;
         }
         moving = rank;
-        at = other_slot(&*graph, r, at, rank);
-        left -= 1;
+        at = other_slot(graph, r, at, rank);
     }
 }
 
@@ -78,8 +79,7 @@ fn lowest_slot(graph: &[u32], r: u32, slot: u32) -> u32
 {
     let mut at = slot;
     let mut low = slot;
-    let mut left = 2 * r + 1;
-    while 0 < left {
+    for _ in 0..2 * r + 1 {
         let rank = graph[at as usize];
         if rank == 0 {
             return low;
@@ -88,7 +88,6 @@ fn lowest_slot(graph: &[u32], r: u32, slot: u32) -> u32
             low = at;
         }
         at = other_slot(graph, r, at, rank);
-        left -= 1;
     }
     low
 }
@@ -98,8 +97,8 @@ pub fn finish_tree(graph: &mut [u32], r: u32, rank: u32)
     requires { Graph r graph.old × (rank < length (edges_in r graph.old)) }
     ensures { graph.new ≡ finished_tree r graph.old rank }
 {
-    let first = first_slot(&*graph, r, rank);
-    reroot(&mut *graph, r, first, rank);
+    let first = first_slot(graph, r, rank);
+    reroot(graph, r, first, rank);
 }
 
 // The rank in the slot `low` goes out of the tree, `rank` comes in at its slot in table 1, and the tree is re-rooted at
@@ -110,10 +109,10 @@ fn exchange(graph: &mut [u32], r: u32, rank: u32, low: u32)
 {
     let smallest = graph[low as usize];
     graph[low as usize] = 0;
-    let second = second_slot(&*graph, r, rank);
-    reroot(&mut *graph, r, second, rank);
-    let first = first_slot(&*graph, r, smallest);
-    reroot(&mut *graph, r, first, smallest);
+    let second = second_slot(graph, r, rank);
+    reroot(graph, r, second, rank);
+    let first = first_slot(graph, r, smallest);
+    reroot(graph, r, first, smallest);
 }
 
 // Finishes a component with a cycle, whose one rank outside the forest is `rank`: that comes in for the smallest rank
@@ -122,9 +121,9 @@ pub fn finish_cycle(graph: &mut [u32], r: u32, rank: u32)
     requires { Graph r graph.old × (0 < rank) × (rank < length (edges_in r graph.old)) }
     ensures { graph.new ≡ finished_cycle r graph.old rank }
 {
-    let first = first_slot(&*graph, r, rank);
-    reroot(&mut *graph, r, first, 0);
-    let second = second_slot(&*graph, r, rank);
-    let low = lowest_slot(&*graph, r, second);
-    exchange(&mut *graph, r, rank, low);
+    let first = first_slot(graph, r, rank);
+    reroot(graph, r, first, 0);
+    let second = second_slot(graph, r, rank);
+    let low = lowest_slot(graph, r, second);
+    exchange(graph, r, rank, low);
 }

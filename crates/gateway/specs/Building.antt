@@ -1,7 +1,7 @@
 -- A set that stands in scratch, with its edges, is built: it does not fit, or the columns of its image stand there.
 -- Then words are alike exactly if they are that
 -- image, and what is written over words of the right length is that image. Assumes nothing.
-use Rattle.std.specs.Prelude.{ℕ, ◌+◌, ◌*◌, ◌≤◌, ◌<◌, ◌≡◌, refl, true, false, List, length}
+use Rattle.std.specs.Prelude.{ℕ, ◌+◌, ◌*◌, ◌≤◌, ◌<◌, ◌≡◌, refl, true, false, List, length, Option, Some, None}
 use Rattle.std.proofs.Common.{arith}
 use Rattle.std.proofs.lemmas.Bool.{lt-leb}
 use Rattle.basics.specs.Lists.{same}
@@ -14,8 +14,6 @@ use Rattle.layout.proofs.Image.{le_fits}
 use Rattle.layout.proofs.Standing.{zero_outside}
 use Rattle.build.specs.Scratch.{parts, used}
 use Rattle.build.specs.Build.{full, made, Built, Buildable}
-use Rattle.build.specs.declared.StashCount.{StashCount}
-use Rattle.build.specs.declared.StashCount.TheVariants.{Ranks, Overflow}
 use Rattle.image.specs.Image.{alike_image, written_image}
 use Rattle.scratch_set.specs.Edges.{Lined, lined_built}
 use Rattle.gateway.specs.Columns.{SetColumns, alike_in, written_in, RanksReadable, standing_readable, stash_count}
@@ -31,15 +29,15 @@ no_tier : {S : List ℕ} (t : ℕ → ℕ) → ValidKeys S → tier_of (tiered t
 no_tier {S} t valid = tier_absent (tiered t S) (λ i. zero_outside valid (rw (keys_tiered t S) at i))
 
 -- A build that has room leaves what can be read by rank.
-pub built_readable : {r s n : ℕ} {before after : List ℕ} {count : StashCount} {k : ℕ} → Sized r s
+pub built_readable : {r s n : ℕ} {before after : List ℕ} {count : Option ℕ} {k : ℕ} → Sized r s
     → Buildable r s n before → length after ≡ length before
-    → Built r s n before after count → count ≡ Ranks k → RanksReadable r s n after
+    → Built r s n before after count → count ≡ Some k → RanksReadable r s n after
 built_readable sizes b same B e = elim B.built [
   | full l q ↦ absurd (omega (arith, rw e at q))
   | made l q v W ↦ standing_readable sizes b.few (omega (arith, b.room)) W
 ]
 
-module _ {P : Params} {t : ℕ → ℕ} {S before after : List ℕ} {count : StashCount} (valid : ValidKeys S)
+module _ {P : Params} {t : ℕ → ℕ} {S before after : List ℕ} {count : Option ℕ} (valid : ValidKeys S)
     (sizes : Sized P.slots P.places)
     (few : length S ≤ 2 * P.slots + P.places) (room : used P.slots P.places ≤ length before)
     (D : Lined P t S before)
@@ -50,13 +48,13 @@ module _ {P : Params} {t : ℕ → ℕ} {S before after : List ℕ} {count : Sta
   room_after : used P.slots P.places ≤ length after
   room_after = omega arith
 
-  pub set_full : count ≡ Overflow → fits P S ≡ false
+  pub set_full : count ≡ None → fits P S ≡ false
   set_full e = elim B.built [
     | full l q ↦ full_fits P S (rw (stash_count valid sizes few room_after set_kept) at l)
     | made l q v W ↦ absurd (omega (arith, rw e at q))
   ]
 
-  module _ {k : ℕ} (e : count ≡ Ranks k) where
+  module _ {k : ℕ} (e : count ≡ Some k) where
     -- it fits, its stash has k keys, and its columns stand there
     pub record Made : Type 0 where
       pub fit : fits P S ≡ true
@@ -87,11 +85,11 @@ module _ {P : Params} {t : ℕ → ℕ} {S before after : List ℕ} {count : Sta
         rw (← set_made.stashed) (rw (keys_tiered t S) at i)
 
 -- and words are alike exactly if they are its image
-module _ (tabulation ws : List ℕ) (formed : Shaped ws) {t : ℕ → ℕ} {S before after : List ℕ} {count : StashCount}
+module _ (tabulation ws : List ℕ) (formed : Shaped ws) {t : ℕ → ℕ} {S before after : List ℕ} {count : Option ℕ}
     (valid : ValidKeys S)
     (few : length S ≤ 2 * slots_of ws + places_of ws) (room : used (slots_of ws) (places_of ws) ≤ length before)
     (D : Lined (params_of tabulation ws) t S before) (same_room : length after ≡ length before)
-    (B : Built (slots_of ws) (places_of ws) (length S) before after count) {k : ℕ} (e : count ≡ Ranks k) where
+    (B : Built (slots_of ws) (places_of ws) (length S) before after count) {k : ℕ} (e : count ≡ Some k) where
   pub set_alike : alike_in (slots_of ws) (places_of ws) (length S) ws k after ≡ same ws
       (image (params_of tabulation ws) (tiered t S))
   set_alike =

@@ -1,6 +1,6 @@
 -- A set that stands in scratch is committed to words: the answer and the words are those that the set leads to,
 -- whatever the words were. Assumes nothing.
-use Rattle.std.specs.Prelude.{ℕ, ◌+◌, ◌*◌, ◌≤◌, ◌≡◌, cond, List, length}
+use Rattle.std.specs.Prelude.{ℕ, ◌+◌, ◌*◌, ◌≤◌, ◌≡◌, cond, List, length, Option, Some, None}
 use Rattle.std.proofs.Common.{◌∙◌, arith}
 use Rattle.refusals.specs.Refusal.{done, stash_full}
 use Rattle.layout.specs.declared.Header.{Header}
@@ -9,8 +9,6 @@ use Rattle.layout.proofs.Entries.{keys_tiered}
 use Rattle.layout.specs.Layout.{Params, ValidKeys, params_with, with_stashed, words_length, fits, image}
 use Rattle.layout.specs.Shape.{Sized}
 use Rattle.build.specs.Build.{Built, Buildable}
-use Rattle.build.specs.declared.StashCount.{StashCount}
-use Rattle.build.specs.declared.StashCount.TheVariants.{Ranks, Overflow}
 use Rattle.scratch_set.specs.Edges.{Lined}
 use Rattle.gateway.specs.Columns.{RanksReadable, written_in}
 use Rattle.gateway.specs.Building.{built_readable, set_full, set_made, set_written}
@@ -42,7 +40,7 @@ module _ (h : Header) (ws : List ℕ) {scratch : List ℕ} (C : Committable h ws
   pub committable_built : Buildable h.slots h.places n scratch
   committable_built = rw count C.buildable
 
-  module _ {after : List ℕ} {c : StashCount} (same : length after ≡ length scratch)
+  module _ {after : List ℕ} {c : Option ℕ} (same : length after ≡ length scratch)
       (B : Built h.slots h.places n scratch after c) where
     built_keys : (S : List ℕ) → h.keys ≡ length S → Built h.slots h.places (length S) scratch after c
     built_keys S q = let e : n ≡ length S = count ∙ q in rw (← e) B
@@ -51,7 +49,7 @@ module _ (h : Header) (ws : List ℕ) {scratch : List ℕ} (C : Committable h ws
     few_keys S q = omega (arith, C.buildable.few)
 
     -- it does not fit,
-    pub committed_full : c ≡ Overflow → Committed h ws scratch stash_full ws
+    pub committed_full : c ≡ None → Committed h ws scratch stash_full ws
     committed_full o = record {
       by = λ tabulation t S valid q D.
           let g = set_full {P = params_with tabulation h} valid C.sizes (few_keys S q) C.buildable.room D same
@@ -60,7 +58,7 @@ module _ (h : Header) (ws : List ℕ) {scratch : List ℕ} (C : Committable h ws
     }
 
     -- or its image is written.
-    module _ {k : ℕ} (o : c ≡ Ranks k) where
+    module _ {k : ℕ} (o : c ≡ Some k) where
       pub committed_readable : (length ws ≡ words_length h.slots h.places)
           × RanksReadable h.slots h.places h.keys after
       committed_readable = (C.size, built_readable C.sizes C.buildable same (rw (← count) B) o)

@@ -1,7 +1,7 @@
 -- Words loaded as a set: what load answers, as definitions, and that the code answers it, by way of the keys and edges
 -- in scratch, the build and the comparison.
 -- Assumes nothing.
-use Rattle.std.specs.Prelude.{ℕ, ◌+◌, ◌*◌, ◌≤◌, ◌<◌, ◌≡◌, refl, Bool, true, cond, eqb, length}
+use Rattle.std.specs.Prelude.{ℕ, ◌+◌, ◌*◌, ◌≤◌, ◌<◌, ◌≡◌, refl, Bool, true, cond, eqb, length, Option, Some, None, Result, Ok, Err}
 use Rattle.std.proofs.Math.Path.{sym, ap}
 use Rattle.std.proofs.Common.{◌∙◌, arith, eq-eqb, ne_eqb}
 use Rattle.std.proofs.Math.Bool.{false, not}
@@ -9,8 +9,12 @@ use mathlib.Core.List.{List, [], ◌∷◌, ◌++◌, Memᴰ as In}
 use Rattle.basics.proofs.Tests.{bool_ext}
 use Rattle.basics.specs.Lists.{same}
 use Rattle.basics.proofs.Lists.{same_true, true_same}
+use Rattle.refusals.specs.declared.Refusal.{Refusal}
+use Rattle.refusals.specs.declared.Refusal.TheVariants.{NotCanonical}
 use Rattle.refusals.specs.Refusal.{done, not_canonical, first_refusal}
-use Rattle.refusals.proofs.Refusal.{front_applies, front_passes, front_none}
+use Rattle.refusals.specs.Answer.{number, number_of}
+use Rattle.refusals.proofs.Answer.{refused}
+use Rattle.refusals.proofs.Refusals.{front_applies, front_passes, front_none}
 use Rattle.layout.specs.declared.Header.{Header}
 use Rattle.layout.specs.Layout.{Params, ValidKeys, one_issue, header_of, params_of, slots_of, places_of}
 use Rattle.layout.specs.Layout.{shaped, fits, image, keys_in, tier_in}
@@ -24,15 +28,11 @@ use Rattle.layout.proofs.IssuesAfter.{one_issue_iff}
 use Rattle.layout.proofs.Standing.{keys_in_valid}
 use Rattle.build.specs.Scratch.{used}
 use Rattle.build.specs.Build.{Built, Buildable}
-use Rattle.build.specs.declared.StashCount.{StashCount}
-use Rattle.build.specs.declared.StashCount.TheVariants.{Ranks, Overflow}
 use Rattle.scratch_set.specs.Edges.{tier_found, small_le, small_same, Lined, lined_buildable}
 use Rattle.scratch_set.specs.Collected.{Collected, Listed, formed, collected_few}
 use Rattle.scratch_set.specs.Members.{keys_at, lined_agree, lined_keys}
 use Rattle.gateway.specs.Columns.{alike_in}
 use Rattle.gateway.specs.Building.{set_kept, set_full, set_made, set_alike}
-use Rattle.gateway.specs.declared.Loaded.{Loaded}
-use Rattle.gateway.specs.declared.Loaded.TheVariants.{Set, Refused}
 
 -- 1, 2 and 3, which need no set
 unfoldable pub early_refusal : List ℕ → List ℕ → ℕ → ℕ
@@ -42,14 +42,10 @@ early_refusal tabulation ws len = first_refusal (early_refusals tabulation ws le
 abbrev pub load_refusal : List ℕ → List ℕ → List ℕ → ℕ
 load_refusal tabulation ws scratch = first_refusal (first_refusals tabulation ws scratch)
 
--- document 01's number of what load answers, and its value, the heading of the words
-abbrev pub number : Loaded → ℕ
-number (Set h) = done
-number (Refused n) = n
-
-abbrev pub headings : Loaded → List Header
-headings (Set h) = h ∷ []
-headings (Refused n) = []
+-- the value of what load answers, the heading of the words
+abbrev pub headings : Result Header Refusal → List Header
+headings (Ok h) = h ∷ []
+headings (Err refusal) = []
 
 abbrev pub load_headings : List ℕ → List ℕ → List ℕ → List Header
 load_headings tabulation ws scratch = cond (eqb (load_refusal tabulation ws scratch) done) (header_of ws ∷ []) []
@@ -131,7 +127,7 @@ module _ {tabulation ws scratch mid : List ℕ} {r s station n : ℕ} (C : Colle
   collected_buildable =
       rw (C.slots, C.places, C.count) (lined_buildable D room_mid (formed C).sizes (collected_few C))
 
-  module _ (one : one_issue (keys_in ws) ≡ true) {after : List ℕ} {count : StashCount}
+  module _ (one : one_issue (keys_in ws) ≡ true) {after : List ℕ} {count : Option ℕ}
       (same : length after ≡ length mid) (B : Built r s n mid after count) where
     built_set : Built (slots_of ws) (places_of ws) (length (keys_in ws)) mid after count
     built_set = rw (← C.slots, ← C.places, ← C.count) B
@@ -139,12 +135,12 @@ module _ {tabulation ws scratch mid : List ℕ} {r s station n : ℕ} (C : Colle
     kept : Listed tabulation ws after
     kept = set_kept (keys_in_valid ws) (formed C).sizes (collected_few C) room_mid D same built_set
 
-    pub read_full : count ≡ Overflow → Compared after false
+    pub read_full : count ≡ None → Compared after false
     unfolding canonical
     read_full e = let f = set_full (keys_in_valid ws) (formed C).sizes
         (collected_few C) room_mid D same built_set e in (rw (one, f), kept)
 
-    module _ {k : ℕ} (e : count ≡ Ranks k) {b : Bool} (compared : b ≡ alike_in r s n ws k after) where
+    module _ {k : ℕ} (e : count ≡ Some k) {b : Bool} (compared : b ≡ alike_in r s n ws k after) where
       read_compared : canonical tabulation ws ≡ b
       read_compared =
           let valid = keys_in_valid ws in
@@ -158,37 +154,38 @@ module _ {tabulation ws scratch mid : List ℕ} {r s station n : ℕ} (C : Colle
 
 -- What load promises, of scratch as it is left: `before` is how it was lent.
 module _ (tabulation ws before : List ℕ) where
-  abbrev pub LoadTold : List ℕ → Loaded → Type 0
+  abbrev pub LoadTold : List ℕ → Result Header Refusal → Type 0
   LoadTold left l =
       (number l ≡ load_refusal tabulation ws before)
       × ((headings l ≡ load_headings tabulation ws before)
       × (load_refusal tabulation ws before ≡ done → LoadedSet tabulation ws left))
 
   -- 1, 2 or 3,
-  refused_told : {n : ℕ} (left : List ℕ) → n ≡ load_refusal tabulation ws before → (n ≡ 0 → ⊥)
-      → LoadTold left (Refused n)
-  refused_told {n} left e nz =
-      let t : eqb (load_refusal tabulation ws before) done ≡ false = ne_eqb _ done (λ q. nz (e ∙ q)) in
-      (e, (rw t, λ q. absurd (nz (e ∙ q))))
+  refused_told : (refusal : Refusal) (left : List ℕ) → number_of refusal ≡ load_refusal tabulation ws before
+      → LoadTold left (Err refusal)
+  refused_told refusal left e =
+      let t : eqb (load_refusal tabulation ws before) done ≡ false = ne_eqb _ done (λ q. refused refusal (e ∙ q)) in
+      (e, (rw t, λ q. absurd (refused refusal (e ∙ q))))
 
-  pub told_early : {n : ℕ} (left : List ℕ) → n ≡ early_refusal tabulation ws (length before) → (n ≡ 0 → ⊥)
-      → LoadTold left (Refused n)
+  pub told_early : (refusal : Refusal) (left : List ℕ) → number_of refusal ≡ early_refusal tabulation ws (length before)
+      → LoadTold left (Err refusal)
   unfolding early_refusal
-  told_early left e nz =
-      refused_told left
-      (e ∙ sym (front_applies (early_refusals tabulation ws (length before)) ((not_canonical, not (canonical tabulation ws)) ∷ []) (λ q. nz (e ∙ q)))) nz
+  told_early refusal left e =
+      refused_told refusal left
+      (e ∙ sym (front_applies (early_refusals tabulation ws (length before)) ((not_canonical, not (canonical tabulation ws)) ∷ [])
+      (λ q. refused refusal (e ∙ q))))
 
   module _ (ready : Ready tabulation ws before) {b : Bool} (compared : b ≡ canonical tabulation ws) where
     refusal_is : load_refusal tabulation ws before ≡ cond (not (canonical tabulation ws)) not_canonical done
     refusal_is = head_ready tabulation ws before [] ready
 
     -- 4,
-    pub told_tampered : (left : List ℕ) → b ≡ false → LoadTold left (Refused not_canonical)
-    told_tampered left q = refused_told left (sym (refusal_is ∙ (rw (sym compared ∙ q)))) (λ z. omega arith)
+    pub told_tampered : (left : List ℕ) → b ≡ false → LoadTold left (Err NotCanonical)
+    told_tampered left q = refused_told NotCanonical left (sym (refusal_is ∙ (rw (sym compared ∙ q))))
 
     -- or the set.
     pub told_set : {left : List ℕ} {h : Header} → b ≡ true → h ≡ header_of ws → length left ≡ length before
-        → Listed tabulation ws left → LoadTold left (Set h)
+        → Listed tabulation ws left → LoadTold left (Ok h)
     told_set q e same_room D =
         let c : canonical tabulation ws ≡ true = sym compared ∙ q in
         let n : load_refusal tabulation ws before ≡ done = refusal_is ∙ (rw c) in
@@ -206,28 +203,20 @@ module _ (tabulation ws before : List ℕ) where
         )
 
   -- What a caller is told: a refusal,
-  module _ {left : List ℕ} {l : Loaded} (T : LoadTold left l) where
-    pub loaded_refused : {n : ℕ} → l ≡ Refused n → (n ≡ load_refusal tabulation ws before) × (n ≡ done → ⊥)
-    loaded_refused {n} e = (number_is, λ z. go (rw (sym number_is ∙ z) at headings_are))
-      where
-        number_is : n ≡ load_refusal tabulation ws before
-        number_is = rw e at T.0
-
-        headings_are : [] ≡ load_headings tabulation ws before
-        headings_are = rw e at T.1.0
-
-        go : [] ≡ header_of ws ∷ [] → ⊥
-        go q = let z : ◌≡◌ {A = ℕ} 0 1 = ap length q in omega arith
+  module _ {left : List ℕ} {l : Result Header Refusal} (T : LoadTold left l) where
+    pub loaded_refused : {n : Refusal} → l ≡ Err n
+        → (number_of n ≡ load_refusal tabulation ws before) × (number_of n ≡ done → ⊥)
+    loaded_refused {n} e = (rw e at T.0, refused n)
 
     -- which is that of a call that tries other refusals behind 1 to 4;
-    pub refused_first : {n : ℕ} → l ≡ Refused n → (rest : List (ℕ × Bool))
-        → n ≡ first_refusal (first_refusals tabulation ws before ++ rest)
+    pub refused_first : {n : Refusal} → l ≡ Err n → (rest : List (ℕ × Bool))
+        → number_of n ≡ first_refusal (first_refusals tabulation ws before ++ rest)
     refused_first e rest =
         let r = loaded_refused e in
         r.0 ∙ sym (front_applies (first_refusals tabulation ws before) rest (λ q. r.1 (r.0 ∙ q)))
 
     -- or the heading of the words, and their set stands in scratch;
-    pub loaded_set : {h : Header} → l ≡ Set h → LoadedSet tabulation ws left × (h ≡ header_of ws)
+    pub loaded_set : {h : Header} → l ≡ Ok h → LoadedSet tabulation ws left × (h ≡ header_of ws)
     loaded_set {h} e = (T.1.1 passed, heading_is)
       where
         passed : load_refusal tabulation ws before ≡ done
@@ -240,7 +229,7 @@ module _ (tabulation ws before : List ℕ) where
         heading_is = cc headings_are
 
     -- then none of 1 to 4 applies, and other refusals are tried.
-    pub loaded_passes : {h : Header} → l ≡ Set h → (rest : List (ℕ × Bool))
+    pub loaded_passes : {h : Header} → l ≡ Ok h → (rest : List (ℕ × Bool))
         → first_refusal (first_refusals tabulation ws before ++ rest) ≡ first_refusal rest
     loaded_passes e rest =
         let passed : load_refusal tabulation ws before ≡ done = sym (rw e at T.0) in

@@ -7,7 +7,7 @@ ghost use Rattle.build.specs.Scratch.{parts};
 ghost use Rattle.gateway.specs.Columns.{RanksReadable, alike_in, written_in};
 
 use layout::Header;
-use scratch_layout::{edges_start, held_start, next_start, stashed_start};
+use scratch_layout::{graph_range, held_start, next_start, stashed_start};
 use words::wide;
 
 // The parts of scratch that the image is made of: what the slots hold with the edges, the next of each rank, the stash.
@@ -16,9 +16,7 @@ fn graph_part(scratch: &[u32], r: u32, s: u32, n: usize) -> &[u32]
     requires { RanksReadable r s n scratch.now }
     ensures { result.now ≡ (parts r s n scratch.now).graph }
 {
-    let start = held_start(r, s);
-    let end = edges_start(r, s) + n;
-    &scratch[start..end]
+    &scratch[graph_range(r, s, n)]
 }
 
 fn next_part(scratch: &[u32], r: u32, s: u32, n: usize) -> &[u32]

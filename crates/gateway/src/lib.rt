@@ -5,47 +5,40 @@
 
 ghost use Rattle.std.specs.Prelude.{◌≡◌, length, replicate};
 ghost use Rattle.refusals.specs.Refusal.{done};
+ghost use Rattle.refusals.specs.Answer.{number};
 ghost use Rattle.layout.specs.Layout.{header_of};
 ghost use Rattle.layout.specs.Canonical.{canonical};
 ghost use Rattle.layout.specs.Ready.{Ready};
 ghost use Rattle.scratch_set.specs.Collected.{Listed};
-ghost use Rattle.gateway.specs.Loading.{early_refusal, number, headings, load_refusal, load_headings, LoadedSet};
+ghost use Rattle.gateway.specs.Loading.{early_refusal, headings, load_refusal, load_headings, LoadedSet};
 ghost use Rattle.gateway.specs.Committing.{Committable, Committed};
 
-use build::StashCount;
 use built::{matches_built, write_built};
 use collect::collect_keys;
 use layout::Header;
 use ranges::TABULATION_LENGTH;
-use refusals::{NOT_CANONICAL, SHORT_SCRATCH, STASH_FULL, WRONG_SHAPE, WRONG_TABULATION};
+use refusals::Refusal;
 use scratch_set::edge_column::write_edges;
 use scratch_set::one_issue;
 use words::{fill, wide};
 
 mod built;
 
-// What loading answers: the heading of the words, which tells how many keys there are, or a refusal.
-#[derive(Drop)]
-pub enum Loaded {
-    Set(Header),
-    Refused(u32),
-}
-
-// The refusals that need no look at the set: 1, 2 or 3, or 0 if none applies.
-fn early(tabulation: &[u16], words: &[u32], room: usize) -> u32
-    ensures { result ≡ early_refusal tabulation.now words.now room }
+// The refusals that need no look at the set: 1, 2 or 3.
+fn early(tabulation: &[u16], words: &[u32], room: usize) -> Result<(), Refusal>
+    ensures { number result ≡ early_refusal tabulation.now words.now room }
 {
     if tabulation.len() != TABULATION_LENGTH {
-        return WRONG_TABULATION;
+        return Err(Refusal::WrongTabulation);
     }
     if !access::is_shaped(words) {
-        return WRONG_SHAPE;
+        return Err(Refusal::WrongShape);
     }
     let header = access::read_header(words);
     if room < access::scratch_for(header.slots, header.places) {
-        return SHORT_SCRATCH;
+        return Err(Refusal::ShortScratch);
     }
-    0
+    Ok(())
 }
 
 // Whether the words are the image of a set. Their keys and edges come into scratch; they must be one issue of each
@@ -57,21 +50,20 @@ fn is_image(tabulation: &[u16], words: &[u32], scratch: &mut [u32], header: Head
 {
     let r = header.slots;
     let s = header.places;
-    let n = collect_keys(words, &mut *scratch);
-    write_edges(tabulation, words, &mut *scratch, r, s, header.station, n);
-    if !one_issue(&*scratch, n) {
+    let n = collect_keys(words, scratch);
+    write_edges(tabulation, words, scratch, r, s, header.station, n);
+    if !one_issue(scratch, n) {
         return false;
     }
-    let count = seating::build(&mut *scratch, r, s, n);
-    let StashCount::Ranks(stashed) = count else {
+    let Some(stashed) = seating::build(scratch, r, s, n) else {
         return false;
     };
-    matches_built(words, &*scratch, r, s, n, stashed)
+    matches_built(words, scratch, r, s, n, stashed)
 }
 
 // The words loaded as a set: 1 to 4, in their order, or their heading, and their keys stand in scratch with their
 // edges.
-pub fn load(tabulation: &[u16], words: &[u32], scratch: &mut [u32]) -> Loaded
+pub fn load(tabulation: &[u16], words: &[u32], scratch: &mut [u32]) -> Result<Header, Refusal>
     ensures numbered { number result
         ≡ load_refusal tabulation.now words.now scratch.old }
     ensures valued { headings result
@@ -79,43 +71,29 @@ pub fn load(tabulation: &[u16], words: &[u32], scratch: &mut [u32]) -> Loaded
     ensures stands { load_refusal tabulation.now words.now scratch.old ≡ done
         → LoadedSet tabulation.now words.now scratch.new }
 {
-    let refusal = early(tabulation, words, scratch.len());
-    if refusal != 0 {
-        return Loaded::Refused(refusal);
-    }
+    early(tabulation, words, scratch.len())?;
     let header = access::read_header(words);
-    if is_image(tabulation, words, &mut *scratch, header) {
-        return Loaded::Set(header);
+    if !is_image(tabulation, words, scratch, header) {
+        return Err(Refusal::NotCanonical);
     }
-    Loaded::Refused(NOT_CANONICAL)
-}
-
-// The number of what loading answers, 0 for a set.
-pub fn refusal(loaded: Loaded) -> u32
-    ensures { result ≡ number loaded }
-{
-    match loaded {
-        Loaded::Set(_) => 0,
-        Loaded::Refused(n) => n,
-    }
+    Ok(header)
 }
 
 // Whichever set stands in scratch, with its edges, as many keys as the heading tells: 8, or its image is written over
 // all of the words. What the heading tells of stashed keys has no say: the build counts them.
-pub fn commit(words: &mut [u32], scratch: &mut [u32], heading: Header) -> u32
+pub fn commit(words: &mut [u32], scratch: &mut [u32], heading: Header) -> Result<(), Refusal>
     requires { Committable heading words.old scratch.old }
-    ensures { Committed heading words.old scratch.old result words.new }
+    ensures { Committed heading words.old scratch.old (number result) words.new }
 {
     let r = heading.slots;
     let s = heading.places;
     let n = wide(heading.keys);
-    let count = seating::build(&mut *scratch, r, s, n);
-    let StashCount::Ranks(stashed) = count else {
-        return STASH_FULL;
+    let Some(stashed) = seating::build(scratch, r, s, n) else {
+        return Err(Refusal::StashFull);
     };
     let laid = access::with_stashed(heading, stashed);
-    write_built(&mut *words, &*scratch, laid);
-    0
+    write_built(words, scratch, laid);
+    Ok(())
 }
 
 // Zeros over the full length of scratch: nothing of the set, new or old, is left in it.

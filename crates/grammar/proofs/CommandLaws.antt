@@ -1,5 +1,5 @@
 -- The laws of what specs/Command.antt defines.
-use Rattle.std.specs.Prelude.{ℕ, suc, ◌≤◌, ◌<◌, ◌≡◌, refl, true, false, cond, List, [], ◌∷◌, ◌++◌, eqb, length, take, drop, get_or}
+use Rattle.std.specs.Prelude.{Option, Some, None, ℕ, suc, ◌≤◌, ◌<◌, ◌≡◌, refl, true, false, List, [], ◌∷◌, length, take, drop, get_or}
 use Rattle.std.proofs.Common.{sym, ◌∙◌, ap, inl, inr, arith, eq-eqb, ne_eqb, length-append}
 use Rattle.std.proofs.lemmas.Bool.{false≢true}
 use Rattle.std.proofs.Math.Seq.{split_at}
@@ -10,12 +10,8 @@ use Rattle.grammar.specs.Number.{number_of, is_digit, all_digits, largest}
 use Rattle.grammar.proofs.NumberLaws.{not_digits, number_decimal, number_largest, decimal_number, decimal_digits}
 use Rattle.grammar.specs.Parted.{comma, fields, parted, place_of}
 use Rattle.grammar.proofs.Parted.{parted_some, parted_one, parted_first, parted_append, place_le, place_at}
-use Rattle.grammar.specs.declared.Number.{Number}
-use Rattle.grammar.specs.declared.Number.TheVariants.{Value, Other as no_number}
-use Rattle.grammar.specs.declared.Pair.{Pair}
-use Rattle.grammar.specs.declared.Pair.TheVariants.{Given, Other as no-pair}
 use Rattle.grammar.specs.declared.Command.{Command}
-use Rattle.grammar.specs.declared.Command.TheVariants.{Insert, Remove, Lookup, Other as no-command}
+use Rattle.grammar.specs.declared.Command.TheVariants.{Insert, Remove, Lookup}
 use Rattle.grammar.specs.Command.{letter_A, letter_W, letter_L, pair, pair_in, pair_of, by_letter, command_with, insertion, command, command_of, pair_text, key_text, add_text, Pair_text, Command_text, longest}
 
 -- The laws. A text is one field, or several, and then it is no number.
@@ -35,9 +31,9 @@ fielded (b ∷ t) =
       ]
     ]
 
-pair_right : (x : Number) → pair x no_number ≡ no-pair
-pair_right (Value a) = refl
-pair_right no_number = refl
+pair_right : (x : Option ℕ) → pair x None ≡ None
+pair_right (Some a) = refl
+pair_right None = refl
 
 -- what comes behind the first comma is the second field, or no number
 pair_behind : (f t : List ℕ) → pair_in (f ∷ fields t) ≡ pair (number_of f) (number_of t)
@@ -50,7 +46,7 @@ pair_behind f t =
     ]
 
 -- ---- what `pair_of` tests
-pub pair_none : (l : List ℕ) → place_of comma l ≡ length l → pair_of l ≡ no-pair
+pub pair_none : (l : List ℕ) → place_of comma l ≡ length l → pair_of l ≡ None
 unfolding pair_of
 pair_none l e = ap pair_in (parted_one comma l e)
 
@@ -62,25 +58,25 @@ pair_split l h =
 
 -- ---- what `command_of` tests
 -- the first field has one byte
-no_field : (fs : List (List ℕ)) → command ([] ∷ fs) ≡ no-command
+no_field : (fs : List (List ℕ)) → command ([] ∷ fs) ≡ None
 no_field [] = refl
 no_field (q ∷ []) = refl
 no_field (q ∷ r ∷ []) = refl
 no_field (q ∷ r ∷ s ∷ fs) = refl
 
-long_field : (a b : ℕ) (p : List ℕ) (fs : List (List ℕ)) → command ((a ∷ b ∷ p) ∷ fs) ≡ no-command
+long_field : (a b : ℕ) (p : List ℕ) (fs : List (List ℕ)) → command ((a ∷ b ∷ p) ∷ fs) ≡ None
 long_field a b p [] = refl
 long_field a b p (q ∷ []) = refl
 long_field a b p (q ∷ r ∷ []) = refl
 long_field a b p (q ∷ r ∷ s ∷ fs) = refl
 
-pub command_short : (l : List ℕ) → length l < 2 → command_of l ≡ no-command
+pub command_short : (l : List ℕ) → length l < 2 → command_of l ≡ None
 unfolding command_of parted
 command_short [] h = refl
 command_short (a ∷ []) h = elim (eq? a comma) [ inl e ↦ rw (eq-eqb a comma e) | inr n ↦ rw (ne_eqb a comma n) ]
 command_short (a ∷ b ∷ l) h = absurd (omega arith)
 
-pub command_none : (l : List ℕ) → 1 < length l → (get_or l 1 0 ≡ comma → ⊥) → command_of l ≡ no-command
+pub command_none : (l : List ℕ) → 1 < length l → (get_or l 1 0 ≡ comma → ⊥) → command_of l ≡ None
 unfolding command_of parted
 command_none [] h n = absurd (omega arith)
 command_none (a ∷ []) h n = absurd (omega arith)
@@ -101,9 +97,9 @@ add_behind t =
       | several f g (h ∷ fs) e d ↦ rw e
     ]
   where
-    one_number : (x : Number) → command_with (letter_A ∷ []) x ≡ no-command
-    one_number (Value key) = refl
-    one_number no_number = refl
+    one_number : (x : Option ℕ) → command_with (letter_A ∷ []) x ≡ None
+    one_number (Some key) = refl
+    one_number None = refl
 
     alike : (fs : List (List ℕ)) → fs ≡ t ∷ [] → command ((letter_A ∷ []) ∷ fs) ≡ insertion (pair_in fs)
     alike fs e = rw e (one_number (number_of t))
@@ -134,9 +130,18 @@ command_key (a ∷ b ∷ t) h e n =
       | inr m ↦ rw (ne_eqb a comma m, eq-eqb b comma e) (key_behind a t n)
     ]
   where
-    not_letter : (x : Number) → command_with (comma ∷ []) x ≡ no-command
-    not_letter (Value n) = refl
-    not_letter no_number = refl
+    not_letter : (x : Option ℕ) → command_with (comma ∷ []) x ≡ None
+    not_letter (Some n) = refl
+    not_letter None = refl
+
+-- behind a letter that is none of A, W and L
+pub command_lettered : (l : List ℕ) → 1 < length l → get_or l 1 0 ≡ comma → (get_or l 0 0 ≡ letter_A → ⊥)
+    → (get_or l 0 0 ≡ letter_W → ⊥) → (get_or l 0 0 ≡ letter_L → ⊥) → command_of l ≡ None
+command_lettered l h e n o m = command_key l h e n ∙ other (number_of (drop 2 l))
+  where
+    other : (x : Option ℕ) → command_with (get_or l 0 0 ∷ []) x ≡ None
+    other (Some key) = rw (ne_eqb (get_or l 0 0) letter_W o, ne_eqb (get_or l 0 0) letter_L m)
+    other None = refl
 
 -- ---- exactly the writings
 -- digits are one field
@@ -149,18 +154,18 @@ digits_place (b ∷ t) e =
       | inr n ↦ rw (ne_eqb b comma n) (ap suc (digits_place t (and_true (is_digit b) (all_digits t) e).1))
     ]
 
-pub pair_given : (a b : ℕ) → a ≤ largest → b ≤ largest → pair_of (pair_text a b) ≡ Given a b
+pub pair_given : (a b : ℕ) → a ≤ largest → b ≤ largest → pair_of (pair_text a b) ≡ Some (a, b)
 unfolding pair_of
 pair_given a b h l =
     ap pair_in (parted_append comma (decimal a) (decimal b) (digits_place (decimal a) (decimal_digits a)))
     ∙ pair_behind (decimal a) (decimal b)
     ∙ rw (decimal_number a h, decimal_number b l)
 
-pub add_given : (key tier : ℕ) → key ≤ largest → tier ≤ largest → command_of (add_text key tier) ≡ Insert key tier
+pub add_given : (key tier : ℕ) → key ≤ largest → tier ≤ largest → command_of (add_text key tier) ≡ Some (Insert key tier)
 add_given key tier h l = command_add (add_text key tier) (omega arith) refl refl ∙ ap insertion (pair_given key tier h l)
 
 -- an add without its tier is of another form
-pub add_untiered : (key : ℕ) → command_of (key_text letter_A key) ≡ no-command
+pub add_untiered : (key : ℕ) → command_of (key_text letter_A key) ≡ None
 add_untiered key =
     command_add (key_text letter_A key) (omega arith) refl refl
     ∙ ap insertion (pair_none (decimal key) (digits_place (decimal key) (decimal_digits key)))
@@ -182,15 +187,15 @@ pair_exact l =
     k : ℕ
     k = place_of comma l
 
-    both : (x y : Number) → number_of (take k l) ≡ x → number_of (drop (suc k) l) ≡ y → k < length l → Pair_text (pair x y) l
-    both (Value a) (Value b) e f h =
+    both : (x y : Option ℕ) → number_of (take k l) ≡ x → number_of (drop (suc k) l) ≡ y → k < length l → Pair_text (pair x y) l
+    both (Some a) (Some b) e f h =
         let p = number_decimal (take k l) e in
         let q = number_decimal (drop (suc k) l) f in
         let d = split_at l k 0 h in
         let g = place_at comma l h in
         (cc, number_largest (take k l) e, number_largest (drop (suc k) l) f)
-    both (Value a) no_number e f h = tt
-    both no_number y e f h = tt
+    both (Some a) None e f h = tt
+    both None y e f h = tt
 
 two_heads : (l : List ℕ) → 1 < length l → l ≡ get_or l 0 0 ∷ get_or l 1 0 ∷ drop 2 l
 two_heads [] h = absurd (omega arith)
@@ -220,28 +225,28 @@ command_exact l =
       ]
     ]
   where
-    add : 1 < length l → get_or l 1 0 ≡ comma → get_or l 0 0 ≡ letter_A → (x : Pair) → Pair_text x (drop 2 l) → Command_text (insertion x) l
-    add h e a (Given key tier) t =
+    add : 1 < length l → get_or l 1 0 ≡ comma → get_or l 0 0 ≡ letter_A → (x : Option (ℕ × ℕ)) → Pair_text x (drop 2 l) → Command_text (insertion x) l
+    add h e a (Some (key, tier)) t =
         let b = two_heads l h in
         let d = t.0 in
         (cc, t.1, t.2)
-    add h e a no-pair t = tt
+    add h e a None t = tt
 
-    key : 1 < length l → get_or l 1 0 ≡ comma → (x : Number) → number_of (drop 2 l) ≡ x → Command_text (command_with (get_or l 0 0 ∷ []) x) l
-    key h e (Value n) f =
+    key : 1 < length l → get_or l 1 0 ≡ comma → (x : Option ℕ) → number_of (drop 2 l) ≡ x → Command_text (command_with (get_or l 0 0 ∷ []) x) l
+    key h e (Some n) f =
         let a = two_heads l h in
         let d = number_decimal (drop 2 l) f in
         letters l (get_or l 0 0) n (cc) (number_largest (drop 2 l) f)
-    key h e no_number f = tt
+    key h e None f = tt
 
 pub pair_length : (a b : ℕ) → a ≤ largest → b ≤ largest → length (pair_text a b) ≤ 21
 pair_length a b h l = omega (arith, length-append (decimal a) (comma ∷ decimal b), digits_32 a h, digits_32 b l)
 
-pub command_long : (l : List ℕ) → longest < length l → command_of l ≡ no-command
+pub command_long : (l : List ℕ) → longest < length l → command_of l ≡ None
 command_long l h = go (command_of l) refl (command_exact l)
   where
-    go : (x : Command) → command_of l ≡ x → Command_text x l → command_of l ≡ no-command
-    go (Insert key tier) e t = absurd (omega (arith, ap length t.0, pair_length key tier t.1 t.2))
-    go (Remove key) e t = absurd (omega (arith, ap length t.0, digits_32 key t.1))
-    go (Lookup key) e t = absurd (omega (arith, ap length t.0, digits_32 key t.1))
-    go no-command e t = e
+    go : (x : Option Command) → command_of l ≡ x → Command_text x l → command_of l ≡ None
+    go (Some (Insert key tier)) e t = absurd (omega (arith, ap length t.0, pair_length key tier t.1 t.2))
+    go (Some (Remove key)) e t = absurd (omega (arith, ap length t.0, digits_32 key t.1))
+    go (Some (Lookup key)) e t = absurd (omega (arith, ap length t.0, digits_32 key t.1))
+    go None e t = e

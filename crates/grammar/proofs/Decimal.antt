@@ -1,5 +1,5 @@
 -- The laws of what specs/Decimal.antt defines.
-use Rattle.std.specs.Prelude.{ℕ, zero, suc, ◌+◌, ◌*◌, ◌/◌, ◌%◌, ◌^◌, ◌≤◌, ◌<◌, ◌≡◌, refl, cond, List, [], ◌∷◌, ◌++◌, ltb, length}
+use Rattle.std.specs.Prelude.{ℕ, zero, suc, ◌+◌, ◌*◌, ◌/◌, ◌%◌, ◌^◌, ◌≤◌, ◌<◌, ◌≡◌, refl, List, [], ◌∷◌, ◌++◌, length}
 use Rattle.std.proofs.Common.{sym, ◌∙◌, ap, inl, inr, pow-suc, arith, lt-ltb, le-ltb, length-append}
 use Rattle.basics.proofs.Tests.{le?}
 use Rattle.grammar.specs.Decimal.{digit, digits, decimal}

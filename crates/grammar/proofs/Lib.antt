@@ -1,5 +1,4 @@
 -- The laws of the crate `grammar`.
-pub mod Buffer
 pub mod CommandLaws
 pub mod Decimal
 pub mod Listing
@@ -7,4 +6,3 @@ pub mod NumberLaws
 pub mod Parted
 pub mod Row
 pub mod SizesLaws
-pub mod Stream

@@ -1,5 +1,5 @@
 -- The laws of what specs/Number.antt defines.
-use Rattle.std.specs.Prelude.{ℕ, ◌+◌, ◌-◌, ◌*◌, ◌/◌, ◌%◌, ◌≤◌, ◌<◌, Bool, not, ◌&&◌, List, [], ◌∷◌, ◌++◌, eqb, length, get_or, drop}
+use Rattle.std.specs.Prelude.{Some, None, ℕ, ◌+◌, ◌-◌, ◌*◌, ◌/◌, ◌%◌, ◌≤◌, ◌<◌, Bool, not, ◌&&◌, List, [], ◌∷◌, ◌++◌, eqb, length, get_or, drop}
 use Rattle.std.proofs.Math.Path.{◌≡◌, refl}
 use Rattle.std.proofs.Common.{sym, ◌∙◌, ap, true≢false, append-nil, zero-add, arith, drop_of_length-le, drop-cons, add-one}
 use Rattle.std.proofs.Math.Bool.{true, false, cond}
@@ -12,8 +12,6 @@ use Rattle.basics.specs.Tests.{test}
 use Rattle.basics.proofs.Tests.{and_true, and_false}
 use Rattle.grammar.specs.Decimal.{digit, decimal}
 use Rattle.grammar.proofs.Decimal.{decimal_small, decimal_large, decimal_more, by_digits}
-use Rattle.grammar.specs.declared.Number.{Number}
-use Rattle.grammar.specs.declared.Number.TheVariants.{Value, Other}
 use Rattle.grammar.specs.Number.{largest, is_digit, all_digits, no_leading_zero, value, number_of, read}
 
 value_le : (t : List ℕ) (n : ℕ) → n ≤ value n t
@@ -21,7 +19,7 @@ unfolding value
 value_le [] n = omega arith
 value_le (b ∷ t) n = omega (arith, value_le t (10 * n + (b - 48)))
 
-read_number : (t : List ℕ) (n : ℕ) → n ≤ largest → read n t ≡ cond (all_digits t && leb (value n t) largest) (Value (value n t)) Other
+read_number : (t : List ℕ) (n : ℕ) → n ≤ largest → read n t ≡ cond (all_digits t && leb (value n t) largest) (Some (value n t)) None
 unfolding read all_digits value
 read_number [] n h = rw (le-leb n largest h)
 read_number (b ∷ t) n h =
@@ -40,7 +38,7 @@ pub number_read : (t : List ℕ) → no_leading_zero t ≡ true → number_of t 
 unfolding number_of
 number_read t e = rw e (sym (read_number t 0 (omega arith)))
 
-pub number_bad : (t : List ℕ) → no_leading_zero t ≡ false → number_of t ≡ Other
+pub number_bad : (t : List ℕ) → no_leading_zero t ≡ false → number_of t ≡ None
 unfolding number_of
 number_bad t e = rw e
 
@@ -64,15 +62,15 @@ leading_more (b ∷ c ∷ t) h = refl
 
 -- one turn of the loop, at the byte with index i
 module _ (t : List ℕ) (i n : ℕ) (h : i < length t) where
-  pub read_low : get_or t i 0 < 48 → read n (drop i t) ≡ Other
+  pub read_low : get_or t i 0 < 48 → read n (drop i t) ≡ None
   unfolding read
   read_low l = rw (drop-cons t i 0 h, read, lt-leb 48 (get_or t i 0) l)
 
-  pub read_high : 48 ≤ get_or t i 0 → 57 < get_or t i 0 → read n (drop i t) ≡ Other
+  pub read_high : 48 ≤ get_or t i 0 → 57 < get_or t i 0 → read n (drop i t) ≡ None
   unfolding read
   read_high k l = rw (drop-cons t i 0 h, read, le-leb 48 (get_or t i 0) k, lt-leb (get_or t i 0) 57 l)
 
-  pub read_over : 48 ≤ get_or t i 0 → get_or t i 0 ≤ 57 → largest < 10 * n + (get_or t i 0 - 48) → read n (drop i t) ≡ Other
+  pub read_over : 48 ≤ get_or t i 0 → get_or t i 0 ≤ 57 → largest < 10 * n + (get_or t i 0 - 48) → read n (drop i t) ≡ None
   unfolding read
   read_over k l g =
       rw (drop-cons t i 0 h, read, le-leb 48 (get_or t i 0) k, le-leb (get_or t i 0) 57 l, lt-leb (10 * n + (get_or t i 0 - 48)) largest g)
@@ -83,7 +81,7 @@ module _ (t : List ℕ) (i n : ℕ) (h : i < length t) where
   read_step k l g =
       rw (drop-cons t i 0 h, read, le-leb 48 (get_or t i 0) k, le-leb (get_or t i 0) 57 l, le-leb (10 * n + (get_or t i 0 - 48)) largest g, add-one)
 
-pub read_done : (t : List ℕ) (i n : ℕ) → length t ≤ i → read n (drop i t) ≡ Value n
+pub read_done : (t : List ℕ) (i n : ℕ) → length t ≤ i → read n (drop i t) ≡ Some n
 unfolding read
 read_done t i n h = rw (drop_of_length-le t h)
 
@@ -112,12 +110,12 @@ behind (b ∷ t) n h e =
 
 -- what holds of a text that is accepted
 module _ (t : List ℕ) where
-  pub accepted : {n : ℕ} → number_of t ≡ Value n
+  pub accepted : {n : ℕ} → number_of t ≡ Some n
       → (no_leading_zero t ≡ true) × (all_digits t ≡ true) × (value 0 t ≤ largest) × (value 0 t ≡ n)
   unfolding number_of
   accepted {n} e = go (no_leading_zero t && all_digits t && leb (value 0 t) largest) refl e
     where
-      go : (b : Bool) → (no_leading_zero t && all_digits t && leb (value 0 t) largest) ≡ b → cond b (Value (value 0 t)) Other ≡ Value n
+      go : (b : Bool) → (no_leading_zero t && all_digits t && leb (value 0 t) largest) ≡ b → cond b (Some (value 0 t)) None ≡ Some n
           → (no_leading_zero t ≡ true) × (all_digits t ≡ true) × (value 0 t ≤ largest) × (value 0 t ≡ n)
       go true f g =
           let (p, q) = and_true (no_leading_zero t && all_digits t) (leb (value 0 t) largest) f in
@@ -126,12 +124,12 @@ module _ (t : List ℕ) where
       go false f g = absurd (let z : ◌≡◌ {A = ℕ} 0 1 = cc in omega arith)
 
   -- a byte that is no digit makes it no number
-  pub not_digits : all_digits t ≡ false → number_of t ≡ Other
+  pub not_digits : all_digits t ≡ false → number_of t ≡ None
   unfolding number_of
   not_digits e = elim (test (no_leading_zero t)) [ inl f ↦ rw (f, e) | inr f ↦ rw f ]
 
 -- what is accepted is the decimal writing of its value
-pub number_decimal : (t : List ℕ) {n : ℕ} → number_of t ≡ Value n → t ≡ decimal n
+pub number_decimal : (t : List ℕ) {n : ℕ} → number_of t ≡ Some n → t ≡ decimal n
 unfolding no_leading_zero all_digits value
 number_decimal t {n} e =
     let (z, d, l, v) = accepted t e in
@@ -152,7 +150,7 @@ number_decimal t {n} e =
         let ne = eqb-false b 48 (not-true (eqb b 48) z) in
         rw zero-add (ap (λ (p : List ℕ). p ++ (c ∷ t)) (one b f) ∙ behind (c ∷ t) (b - 48) (omega arith) g)
 
-pub number_largest : (t : List ℕ) {n : ℕ} → number_of t ≡ Value n → n ≤ largest
+pub number_largest : (t : List ℕ) {n : ℕ} → number_of t ≡ Some n → n ≤ largest
 number_largest t e = let (z, d, l, v) = accepted t e in omega arith
 
 -- the decimal writing of a number is accepted, with the number as its value
@@ -212,7 +210,7 @@ written = by_digits NumberWritten few more
           worth = rw (decimal_large n h) (value_more (decimal (n / 10)) b 0 ∙ omega (arith, w.worth));
         }
 
-pub decimal_number : (n : ℕ) → n ≤ largest → number_of (decimal n) ≡ Value n
+pub decimal_number : (n : ℕ) → n ≤ largest → number_of (decimal n) ≡ Some n
 unfolding number_of
 decimal_number n h =
     let w = written n in

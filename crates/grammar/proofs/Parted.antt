@@ -1,14 +1,16 @@
 -- The laws of what specs/Parted.antt defines.
 use Prim.Native.Nat.{ℕ, suc, ◌+◌, ◌≤◌, ◌<◌}
-use Rattle.std.specs.Prelude.{◌≡◌, cond, eqb, length, take, drop, get_or}
+use Rattle.std.specs.Prelude.{◌≡◌, ◌==◌, Option, MatchOption, cond, length, take, drop, get_or}
+use Rattle.std.specs.List.{position, position_or_len}
+use Rattle.std.proofs.lemmas.List.Recursion.{is_position_or_len}
 use Rattle.std.proofs.Math.Path.{refl}
 use Rattle.std.proofs.Common.{sym, ◌∙◌, ap, length-append, drop_of_length-le, add-one}
 use mathlib.Core.List.{List, [], ◌∷◌, ◌++◌, append-nil}
 use native.Mathlib.Omega.{arith}
 use Rattle.std.proofs.Math.Seq.{take-append_seam, drop-cons, append_snoc}
 use Rattle.std.proofs.Math.Logic.{inl, inr}
-use borrow.Author.Tests.{eq-eqb, ne_eqb}
-use Rattle.basics.proofs.Tests.{eq?}
+use borrow.Author.Tests.{eq-eqb, ne_eqb, lt-ltb, le-ltb}
+use Rattle.basics.proofs.Tests.{eq?, le?}
 use Rattle.grammar.specs.Parted.{newline, parted, but_empty_last, lines_of, place_of, Lacks, read_on}
 
 drop_behind : (b : ℕ) (p t : List ℕ) → drop (suc (length p)) (p ++ (b ∷ t)) ≡ t
@@ -35,6 +37,21 @@ module _ (sep : ℕ) where
   pub place_end : (t : List ℕ) (i : ℕ) → length t ≤ i → place_of sep (drop i t) ≡ 0
   unfolding place_of
   place_end t i h = rw (drop_of_length-le t h)
+
+  -- std's words for it
+  place_first : (t : List ℕ) → place_of sep t ≡ position_or_len (λ b. b == sep) t
+  unfolding place_of
+  place_first = is_position_or_len (place_of sep) (λ b. b == sep) refl (λ b t. ap (cond (b == sep) 0) (omega arith))
+
+  pub place_position : (t : List ℕ) {r : Option ℕ} → r ≡ position (λ b. b == sep) t
+      → MatchOption r (place_of sep t ≡ length t) (λ i. (i ≡ place_of sep t) × (i < length t))
+  place_position t e =
+      let f = place_first t in
+      let l = place_le t in
+      elim (le? (length t) (place_of sep t)) [
+        | inl h ↦ rw (e, ← f, le-ltb (place_of sep t) (length t) h) (omega arith)
+        | inr h ↦ rw (e, ← f, lt-ltb (place_of sep t) (length t) h) (refl, h)
+      ]
 
   -- what stands there
   pub place_at : (t : List ℕ) → place_of sep t < length t → get_or t (place_of sep t) 0 ≡ sep

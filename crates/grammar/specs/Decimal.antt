@@ -1,6 +1,5 @@
 -- A number in decimal, as the console prints it, in ASCII. Assumes nothing.
-use Rattle.std.specs.Prelude.{ℕ, zero, suc, ◌+◌, ◌*◌, ◌/◌, ◌%◌, ◌^◌, ◌≤◌, ◌<◌, ◌≡◌, refl, cond, List, [], ◌∷◌, ◌++◌, ltb, length}
-use Rattle.std.proofs.Common.{sym, ◌∙◌, ap, inl, inr, pow-suc, arith, lt-ltb, le-ltb, length-append}
+use Rattle.std.specs.Prelude.{ℕ, zero, suc, ◌+◌, ◌/◌, ◌%◌, cond, List, [], ◌∷◌, ◌++◌, ltb}
 
 -- ASCII: 48 is '0', 57 is '9'
 abbrev pub digit : ℕ → ℕ

@@ -1,18 +1,8 @@
 -- "A number is 0 to 4,294,967,295 without leading zeros": which texts are numbers, and of which value. The grammar accepts exactly the decimal
 -- writings of these numbers (`number_decimal`, `decimal_number`). Assumes nothing.
-use Rattle.std.specs.Prelude.{ℕ, ◌+◌, ◌-◌, ◌*◌, ◌/◌, ◌%◌, ◌≤◌, ◌<◌, Bool, not, ◌&&◌, List, [], ◌∷◌, ◌++◌, eqb, length, get_or, drop}
-use Rattle.std.proofs.Math.Path.{◌≡◌, refl}
-use Rattle.std.proofs.Common.{sym, ◌∙◌, ap, true≢false, append-nil, zero-add, arith, drop_of_length-le, drop-cons, add-one}
+use Rattle.std.specs.Prelude.{Option, Some, None, ℕ, ◌+◌, ◌-◌, ◌*◌, Bool, not, ◌&&◌, List, [], ◌∷◌, eqb}
 use Rattle.std.proofs.Math.Bool.{true, false, cond}
-use Rattle.std.proofs.lemmas.Bool.{false≢true}
-use Rattle.std.proofs.Math.Logic.{inl, inr}
 use Rattle.std.proofs.Math.Dec.{leb}
-use Rattle.std.proofs.Math.Seq.{append_snoc}
-use borrow.Author.Tests.{le-leb, lt-leb, leb-true, leb-false, ne_eqb, eqb-false, not-true}
-use Rattle.basics.specs.Tests.{test}
-use Rattle.grammar.specs.Decimal.{digit, decimal}
-use Rattle.grammar.specs.declared.Number.{Number}
-use Rattle.grammar.specs.declared.Number.TheVariants.{Value, Other}
 
 -- "0 to 4,294,967,295"
 abbrev pub largest : ℕ
@@ -38,12 +28,12 @@ value n [] = n
 value n (b ∷ t) = value (10 * n + (b - 48)) t
 
 -- the number that a text writes, if it does
-unfoldable pub number_of : List ℕ → Number
-number_of t = cond (no_leading_zero t && all_digits t && leb (value 0 t) largest) (Value (value 0 t)) Other
+unfoldable pub number_of : List ℕ → Option ℕ
+number_of t = cond (no_leading_zero t && all_digits t && leb (value 0 t) largest) (Some (value 0 t)) None
 
 -- ---- what the loop of `number_in` computes
 -- digits that come behind n, read one after the other; the first that is none, or that makes the number too large, ends it
-unfoldable pub read : ℕ → List ℕ → Number
-read n [] = Value n
+unfoldable pub read : ℕ → List ℕ → Option ℕ
+read n [] = Some n
 read n (b ∷ t) =
-    cond (is_digit b && leb (10 * n + (b - 48)) largest) (read (10 * n + (b - 48)) t) Other
+    cond (is_digit b && leb (10 * n + (b - 48)) largest) (read (10 * n + (b - 48)) t) None

@@ -1,14 +1,8 @@
 -- The pieces of a text between its separators: the lines of an input, and the fields of a line. That a reader who holds only the current line
 -- sees these lines is `read_lines`; that one who holds only a `Line` does is `run_lines`, in Stream. Assumes nothing.
-use Prim.Native.Nat.{ℕ, suc, ◌+◌, ◌≤◌, ◌<◌}
-use Rattle.std.specs.Prelude.{◌≡◌, cond, eqb, length, take, drop, get_or}
-use Rattle.std.proofs.Math.Path.{refl}
-use Rattle.std.proofs.Common.{sym, ◌∙◌, ap, length-append, drop_of_length-le, add-one}
-use mathlib.Core.List.{List, [], ◌∷◌, ◌++◌, append-nil}
-use native.Mathlib.Omega.{arith}
-use Rattle.std.proofs.Math.Seq.{take-append_seam, drop-cons, append_snoc}
-use Rattle.std.proofs.Math.Logic.{inl, inr}
-use borrow.Author.Tests.{eq-eqb, ne_eqb}
+use Prim.Native.Nat.{ℕ, suc}
+use Rattle.std.specs.Prelude.{◌≡◌, cond, eqb, length}
+use mathlib.Core.List.{List, [], ◌∷◌, ◌++◌}
 
 -- ASCII: 10 ends a line, 44 is ','
 abbrev pub newline : ℕ

@@ -1,12 +1,10 @@
 -- What the console prints, byte by byte: a row of fields parted by commas and ended by a newline. Assumes nothing.
-use Rattle.std.specs.Prelude.{ℕ, ◌≡◌, refl, List, [], ◌∷◌, ◌++◌, length, get_or}
-use Rattle.std.proofs.Common.{ap, arith}
-use Rattle.refusals.specs.Refusal.{done}
+use Rattle.std.specs.Prelude.{Option, Some, None, Result, Ok, Err, ℕ, List, [], ◌∷◌, ◌++◌}
+use Rattle.refusals.specs.Answer.{number_of}
 use Rattle.grammar.specs.Decimal.{decimal}
 use Rattle.grammar.specs.Parted.{newline, comma}
 use Rattle.grammar.specs.Command.{letter_A, letter_W, letter_L}
-use Rattle.grammar.specs.declared.Looked.{Looked}
-use Rattle.grammar.specs.declared.Looked.TheVariants.{Listed, Absent, Refused}
+use Rattle.refusals.specs.declared.Refusal.{Refusal}
 
 -- ASCII: 'P', 'D', 'E', 'B', 'N' and 'R'
 abbrev pub letter_P : ℕ
@@ -44,24 +42,19 @@ remove_row key answer = answer_row letter_W key answer
 unfoldable pub insert_row : ℕ → ℕ → ℕ → List ℕ
 insert_row key tier answer = row ((letter_A ∷ []) ∷ decimal key ∷ decimal tier ∷ decimal answer ∷ [])
 
--- "Look-up answers the tier or that the card isn't listed": document 01's number of a lookup's answer, and its values: 1 and the tier, or 0
-abbrev pub number : Looked → ℕ
-number (Listed tier) = done
-number Absent = done
-number (Refused n) = n
-
-abbrev pub values : Looked → List ℕ
-values (Listed tier) = 1 ∷ tier ∷ []
-values Absent = 0 ∷ []
-values (Refused n) = []
+-- "Look-up answers the tier or that the card isn't listed": document 01's values of a lookup's answer, 1 and the tier, or 0
+abbrev pub values : Result (Option ℕ) Refusal → List ℕ
+values (Ok (Some tier)) = 1 ∷ tier ∷ []
+values (Ok None) = 0 ∷ []
+values (Err refusal) = []
 
 -- "L prints the tier or N"; "a refusal as R and its number"
-abbrev pub lookup_answer : Looked → List ℕ
-lookup_answer (Listed tier) = decimal tier
-lookup_answer Absent = letter_N ∷ []
-lookup_answer (Refused n) = letter_R ∷ decimal n
+abbrev pub lookup_answer : Result (Option ℕ) Refusal → List ℕ
+lookup_answer (Ok (Some tier)) = decimal tier
+lookup_answer (Ok None) = letter_N ∷ []
+lookup_answer (Err refusal) = letter_R ∷ decimal (number_of refusal)
 
-unfoldable pub lookup_row : ℕ → Looked → List ℕ
+unfoldable pub lookup_row : ℕ → Result (Option ℕ) Refusal → List ℕ
 lookup_row key looked = row ((letter_L ∷ []) ∷ decimal key ∷ lookup_answer looked ∷ [])
 
 -- "A line of another form prints E,line number"

@@ -5,10 +5,8 @@ use Rattle.std.proofs.Math.Path.{◌≡◌, refl}
 use Rattle.std.proofs.Common.{arith, eq-eqb, ne_eqb}
 use mathlib.Core.List.{List, [], ◌∷◌, Memᴰ as In}
 use Rattle.refusals.specs.Refusal.{done, wrong_tabulation, wrong_shape, blank_key, first_refusal}
-use Rattle.refusals.proofs.Refusal.{first_refusal_in}
+use Rattle.refusals.proofs.Refusals.{first_refusal_in}
 use Rattle.hashing.specs.Hash.{tabulation_length, slots_in_range, station_in_range, blank, Family, hash}
-use Rattle.hashing.specs.declared.Hashed.{Hashed}
-use Rattle.hashing.specs.declared.Hashed.TheVariants.{At, Refused}
 use Rattle.hashing.specs.Answer.{hashes_refusals, hashes_refusal, hashes_values, written}
 
 -- The laws. They are tried "in that order": 1 for every tabulation of another length, whatever else applies,

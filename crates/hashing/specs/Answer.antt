@@ -1,24 +1,19 @@
 -- What a request for both hashes of a key answers, for every tabulation, r and key (document 01: "Called alone it gives both places, or 1, 2
 -- (only for r outside its range) or 5 from the table below, in that order"; document 02: "a station above 255 .. is a 2, also where places are
 -- worked out alone").
-use Rattle.std.specs.Prelude.{ℕ, Bool, not, ◌&&◌, eqb, length}
+use Rattle.std.specs.Prelude.{ℕ, Bool, not, ◌&&◌, eqb, length, Result, Ok, Err}
 use Rattle.std.proofs.Math.Bool.{true, false, cond}
 use Rattle.std.proofs.Math.Path.{◌≡◌, refl}
 use Rattle.std.proofs.Common.{arith, eq-eqb, ne_eqb}
 use mathlib.Core.List.{List, [], ◌∷◌, Memᴰ as In}
 use Rattle.refusals.specs.Refusal.{done, wrong_tabulation, wrong_shape, blank_key, first_refusal}
+use Rattle.refusals.specs.declared.Refusal.{Refusal}
 use Rattle.hashing.specs.Hash.{tabulation_length, slots_in_range, station_in_range, blank, Family, hash}
-use Rattle.hashing.specs.declared.Hashed.{Hashed}
-use Rattle.hashing.specs.declared.Hashed.TheVariants.{At, Refused}
 
--- document 01's number of an answer, and its values: the hash in table 0, then in table 1
-abbrev pub number : Hashed → ℕ
-number (At h0 h1) = done
-number (Refused n) = n
-
-abbrev pub values : Hashed → List ℕ
-values (At h0 h1) = h0 ∷ h1 ∷ []
-values (Refused n) = []
+-- the values of an answer: the hash in table 0, then in table 1
+abbrev pub values : Result (ℕ × ℕ) Refusal → List ℕ
+values (Ok hashes) = hashes.0 ∷ hashes.1 ∷ []
+values (Err refusal) = []
 
 abbrev pub hashes_refusals : Family → ℕ → List (ℕ × Bool)
 hashes_refusals F key =

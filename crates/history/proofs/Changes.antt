@@ -17,7 +17,7 @@ use Rattle.basics.proofs.Lists.{keep_all, keep_none}
 use Rattle.ordered.specs.Keys.{with_key, above}
 use Rattle.ordered.proofs.Place.{asc_with}
 use Rattle.refusals.specs.Refusal.{done, wrong_tabulation, short_scratch, blank_key, first_refusal, and}
-use Rattle.refusals.proofs.Refusal.{front_none}
+use Rattle.refusals.proofs.Refusals.{front_none}
 use Rattle.hashing.specs.Hash.{tabulation_length, blank}
 use Rattle.layout.specs.Entries.{Entry, keys_of, tier_of, tiered}
 use Rattle.layout.proofs.Entries.{tiered_agree, tiered_self}

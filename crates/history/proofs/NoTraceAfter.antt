@@ -7,7 +7,7 @@ use Rattle.cuckoo.specs.Placement.{Placement}
 use Rattle.ordered.specs.Keys.{with_key}
 use Rattle.refusals.specs.Refusal.{None, done, wrong_tabulation, short_scratch, blank_key, key_present, stash_full, wrong_tier, other_tier, other_issue}
 use Rattle.refusals.specs.Refusal.{first_refusal, none, and}
-use Rattle.refusals.proofs.Refusal.{front_passes, front_none}
+use Rattle.refusals.proofs.Refusals.{front_passes, front_none}
 use Rattle.hashing.specs.Hash.{blank}
 use Rattle.hashing.specs.Slots.{slot_0, slot_1}
 use Rattle.layout.specs.Entries.{Entry, max_tier, keys_of, tier_of}

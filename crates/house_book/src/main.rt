@@ -2,7 +2,7 @@
 // written over: it may be a station's own.
 #![tactic(auto)]
 
-ghost use Rattle.std.specs.Prelude.{◌≡◌, true, length};
+ghost use Rattle.std.specs.Prelude.{◌≡◌, ◌↔◌, IsTrue};
 ghost use Rattle.book.specs.Bytes.{bytes_of};
 
 use std::fs::{File, OpenFile};
@@ -19,27 +19,10 @@ fn encode(tabulation: &[u16; 2560], bytes: &mut [u8; BOOK_BYTES])
     book::encode(tabulation, bytes);
 }
 
-// Whether two stretches of one length have the same bytes.
-fn same(one: &[u8], other: &[u8]) -> bool
-    requires { length one.now ≡ length other.now }
-    ensures alike { result ≡ true → one.now ≡ other.now }
-    ensures noticed { one.now ≡ other.now → result ≡ true }
-{
-    let mut i = 0;
-    while i < one.len() {
-        if one[i] != other[i] {
-            return false;
-        }
-        i += 1;
-    }
-    true
-}
-
 fn same_book(one: &[u8; BOOK_BYTES], other: &[u8; BOOK_BYTES]) -> bool
-    ensures alike { result ≡ true → one.now ≡ other.now }
-    ensures noticed { one.now ≡ other.now → result ≡ true }
+    ensures { IsTrue result ↔ (one.now ≡ other.now) }
 {
-    same(one, other)
+    one == other
 }
 
 // Whether an open file has these bytes and no more. One byte more would be a longer file.
@@ -51,23 +34,6 @@ fn holds(file: &mut impl Read, bytes: &[u8; BOOK_BYTES]) -> bool {
     full && rest == 0 && same_book(&found, bytes)
 }
 
-// The system's text of an error, without its number.
-fn system_text(told: &str) -> &str {
-    match told.split_once(" (os error ") {
-        Some((text, _)) => text,
-        None => told,
-    }
-}
-
-// Says on standard error what failed, and the system's text of it; with its number where no memory is left. If that
-// cannot be said either, nothing is left to say it on.
-fn fail(rt: &(impl Eprint + Alloc), path: &str, error: io::Error) {
-    let _ = match format!(in rt.alloc(); "{error}") {
-        Ok(told) => eprintln!(rt; "{path}: {}", system_text(&told)),
-        Err(_) => eprintln!(rt; "{path}: {error}"),
-    };
-}
-
 // What to say of a book.bin that is there: nothing, if it has these bytes.
 fn compare(rt: &(impl Files + Eprint + Alloc), path: &str, bytes: &[u8; BOOK_BYTES]) {
     match File::open(rt, path) {
@@ -76,7 +42,7 @@ fn compare(rt: &(impl Files + Eprint + Alloc), path: &str, bytes: &[u8; BOOK_BYT
                 let _ = eprintln!(rt; "{path}: is there and is not the house book, left as it is");
             }
         }
-        Err(error) => fail(rt, path, error),
+        Err(error) => complaint::tell(rt, path, error),
     }
 }
 
@@ -95,7 +61,7 @@ fn fill<R: Files + Eprint + Alloc>(
     bytes: &[u8; BOOK_BYTES],
 ) {
     if let Err(error) = write_out(&mut file, bytes) {
-        fail(rt, path, error);
+        complaint::tell(rt, path, error);
         let _ = fs::remove_file(rt, path);
     }
 }
@@ -104,13 +70,8 @@ fn save(rt: &(impl Files + Eprint + Alloc), bytes: &[u8; BOOK_BYTES]) {
     let path = "book.bin";
     match File::create_new(rt, path) {
         Ok(file) => fill(rt, file, path, bytes),
-        Err(error) => {
-            if error.kind() == ErrorKind::AlreadyExists {
-                compare(rt, path, bytes);
-            } else {
-                fail(rt, path, error);
-            }
-        }
+        Err(error) if error.kind() == ErrorKind::AlreadyExists => compare(rt, path, bytes),
+        Err(error) => complaint::tell(rt, path, error),
     }
 }
 

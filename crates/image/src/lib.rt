@@ -14,7 +14,8 @@ use layout::{HEADER_LENGTH, Header, PLACE_WIDTH, SLOT_WIDTH};
 use records::{same_place, same_slot, write_place, write_slot};
 use words::wide;
 
-// Whether the slots have the keys, the next numbers and the tiers of these ranks.
+// Whether the slots have the keys, the next numbers and the tiers of these ranks. Four loops and not one with a step as
+// its parameter: two read and stop, two write, slots have a next and places do not, and a clause would name each case.
 fn same_slots(
     words: &[u32],
     r: usize,
@@ -27,14 +28,18 @@ fn same_slots(
     ensures { result ≡ ranked_slots_alike words.now header_length r keys.now
         graph.now next.now held.now }
 {
-    let mut at = HEADER_LENGTH;
-    let mut v = 0;
-    while v < held.len() {
-        if !same_slot(words, at, r, keys, graph, next, wide(held[v])) {
+    for (v, &rank) in held.iter().enumerate() {
+        if !same_slot(
+            words,
+            HEADER_LENGTH + SLOT_WIDTH * v,
+            r,
+            keys,
+            graph,
+            next,
+            wide(rank),
+        ) {
             return false;
         }
-        at += SLOT_WIDTH;
-        v += 1;
     }
     true
 }
@@ -52,14 +57,10 @@ fn same_places(
     ensures { result ≡ ranked_places_alike words.now start r keys.now
         graph.now stash.now }
 {
-    let mut at = start;
-    let mut i = 0;
-    while i < stash.len() {
-        if !same_place(words, at, r, keys, graph, wide(stash[i])) {
+    for (i, &rank) in stash.iter().enumerate() {
+        if !same_place(words, start + PLACE_WIDTH * i, r, keys, graph, wide(rank)) {
             return false;
         }
-        at += PLACE_WIDTH;
-        i += 1;
     }
     true
 }
@@ -70,12 +71,16 @@ fn write_slots(words: &mut [u32], r: usize, keys: &[u32], graph: &[u32], next: &
     ensures { words.new ≡ ranked_slots_put words.old header_length r keys.now
         graph.now next.now held.now }
 {
-    let mut at = HEADER_LENGTH;
-    let mut v = 0;
-    while v < held.len() {
-        write_slot(&mut *words, at, r, keys, graph, next, wide(held[v]));
-        at += SLOT_WIDTH;
-        v += 1;
+    for (v, &rank) in held.iter().enumerate() {
+        write_slot(
+            words,
+            HEADER_LENGTH + SLOT_WIDTH * v,
+            r,
+            keys,
+            graph,
+            next,
+            wide(rank),
+        );
     }
 }
 
@@ -92,12 +97,8 @@ fn write_places(
     ensures { words.new ≡ ranked_places_put words.old start r keys.now
         graph.now stash.now }
 {
-    let mut at = start;
-    let mut i = 0;
-    while i < stash.len() {
-        write_place(&mut *words, at, r, keys, graph, wide(stash[i]));
-        at += PLACE_WIDTH;
-        i += 1;
+    for (i, &rank) in stash.iter().enumerate() {
+        write_place(words, start + PLACE_WIDTH * i, r, keys, graph, wide(rank));
     }
 }
 
@@ -118,19 +119,13 @@ pub fn matches(
         next.now stash.now }
 {
     let header = access::read_header(words);
-    if wide(header.keys) != count {
-        return false;
-    }
-    if header.stashed != stashed {
+    if wide(header.keys) != count || header.stashed != stashed {
         return false;
     }
     let start = access::stash_start(header.slots);
     let r = wide(header.slots);
-    let end = 2 * r;
-    if !same_slots(words, r, keys, graph, next, &graph[..end]) {
-        return false;
-    }
-    same_places(words, start, r, keys, graph, stash)
+    same_slots(words, r, keys, graph, next, &graph[..2 * r])
+        && same_places(words, start, r, keys, graph, stash)
 }
 
 // Writes the image with these sizes, counts and ranks over all of the words, whatever they were.
@@ -151,8 +146,7 @@ pub fn write_image(
 {
     let start = access::stash_start(header.slots);
     let r = wide(header.slots);
-    let end = 2 * r;
-    access::write_header(&mut *words, header);
-    write_slots(&mut *words, r, keys, graph, next, &graph[..end]);
-    write_places(&mut *words, start, r, keys, graph, stash);
+    access::write_header(words, header);
+    write_slots(words, r, keys, graph, next, &graph[..2 * r]);
+    write_places(words, start, r, keys, graph, stash);
 }

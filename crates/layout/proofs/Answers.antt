@@ -3,13 +3,11 @@ use Rattle.std.specs.Prelude.{ℕ, ◌*◌, ◌-◌, Bool, not, cond, ◌&&◌, 
 use mathlib.Core.List.{List, [], ◌∷◌, ◌++◌, Memᴰ as In}
 use Rattle.basics.specs.Sets.{member}
 use Rattle.refusals.specs.Refusal.{done, wrong_tabulation, wrong_shape, not_canonical, blank_key, first_refusal}
-use Rattle.refusals.proofs.Refusal.{first_refusal_in}
+use Rattle.refusals.proofs.Refusals.{first_refusal_in}
 use Rattle.hashing.specs.Hash.{tabulation_length, blank}
 use Rattle.layout.specs.Entries.{Entry, keys_of, tier_of}
 use Rattle.layout.specs.Layout.{header_words, header_length, shaped, params_in_range, slots_of, places_of, stash_count, place_width, stash_at, words_length, looked_at}
 use Rattle.layout.specs.declared.Header.{Header}
-use Rattle.layout.specs.declared.Found.{Found}
-use Rattle.layout.specs.declared.Found.TheVariants.{Listed, Absent, Refused}
 use Rattle.layout.specs.Answers.{lookup_refusals, lookup_refusal, view_refusals, view_refusal, fresh_refusals, fresh_refusal}
 
 -- The laws. Which numbers each call can answer: "It gives 1, 2, 5, or else yes exactly when ..", "gives only 2, or 4 ..", "gives only 2".

@@ -9,8 +9,8 @@ use Rattle.basics.specs.Tests.{test}
 use Rattle.basics.specs.Sets.{member}
 use Rattle.refusals.specs.Refusal.{done, wrong_tabulation, wrong_shape, short_scratch, not_canonical, first_refusal}
 use Rattle.refusals.specs.Refusal.{None, none, and, numbers}
-use Rattle.refusals.proofs.Refusal.{first_refusal_in}
-use Rattle.refusals.proofs.Refusal.{front_passes, front_none}
+use Rattle.refusals.proofs.Refusals.{first_refusal_in}
+use Rattle.refusals.proofs.Refusals.{front_passes, front_none}
 use Rattle.hashing.specs.Hash.{tabulation_length}
 use Rattle.layout.specs.Entries.{Entry}
 use Rattle.layout.specs.Layout.{Params, slots_of, places_of, scratch_length, shaped}

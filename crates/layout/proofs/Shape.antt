@@ -4,7 +4,7 @@ use Rattle.std.proofs.Common.{ap, ◌∙◌, arith, leb-true, eqb-true, le-leb, 
 use Rattle.std.proofs.lemmas.Bool.{not-false}
 use Rattle.basics.proofs.Tests.{and_true}
 use Rattle.refusals.specs.Refusal.{none, and}
-use Rattle.refusals.proofs.Refusal.{front_none}
+use Rattle.refusals.proofs.Refusals.{front_none}
 use Rattle.hashing.specs.Hash.{Family, tables, slots_in_range, station_in_range, max_slots, max_station}
 use Rattle.hashing.proofs.Hash.{in_range_pos, in_range_max, range_in, station_max, station_in}
 use Rattle.layout.specs.Layout.{family_of, header_length, slots_of, places_of, stash_count, station_of, max_places, sizes_in_range, params_in_range, shaped, words_length}

@@ -1,29 +1,26 @@
 -- What lookup, the stash view and the laying of fresh words answer and leave, for every content and length of the lent words (document 01, "What a
 -- call gives back"). These definitions are the promises.
-use Rattle.std.specs.Prelude.{ℕ, ◌*◌, ◌-◌, Bool, not, cond, ◌&&◌, eqb, ltb, length, take, drop, replicate}
+use Rattle.std.specs.Prelude.{ℕ, ◌*◌, ◌-◌, Bool, not, cond, ◌&&◌, eqb, ltb, length, take, drop, replicate, Option, Some, None, Result, Ok, Err}
 use mathlib.Core.List.{List, [], ◌∷◌, ◌++◌, Memᴰ as In}
 use Rattle.basics.specs.Sets.{member}
 use Rattle.refusals.specs.Refusal.{done, wrong_tabulation, wrong_shape, not_canonical, blank_key, first_refusal}
+use Rattle.refusals.specs.declared.Refusal.{Refusal}
 use Rattle.hashing.specs.Hash.{tabulation_length, blank}
 use Rattle.layout.specs.Entries.{Entry, keys_of, tier_of}
 use Rattle.layout.specs.Layout.{header_words, header_length, shaped, params_in_range, slots_of, places_of, stash_count, place_width, stash_at, words_length, looked_at}
 use Rattle.layout.specs.declared.Header.{Header}
-use Rattle.layout.specs.declared.Found.{Found}
-use Rattle.layout.specs.declared.Found.TheVariants.{Listed, Absent, Refused}
 
 -- lookup
 
--- "Look-up answers the tier or that the card isn't listed": the paper's number of a lookup's answer, and its values: 1 and the tier, or
--- 0
-abbrev pub number : Found → ℕ
-number (Listed tier) = done
-number Absent = done
-number (Refused n) = n
+-- "Look-up answers the tier or that the card isn't listed": what was found of a key, told as values: 1 and its tier, or 0; and the values of a
+-- lookup's answer
+abbrev pub found : Option ℕ → List ℕ
+found (Some tier) = 1 ∷ tier ∷ []
+found None = 0 ∷ []
 
-abbrev pub values : Found → List ℕ
-values (Listed tier) = 1 ∷ tier ∷ []
-values Absent = 0 ∷ []
-values (Refused n) = []
+abbrev pub values : Result (Option ℕ) Refusal → List ℕ
+values (Ok tier) = found tier
+values (Err refusal) = []
 
 abbrev pub lookup_refusals : List ℕ → List ℕ → ℕ → List (ℕ × Bool)
 lookup_refusals tabulation ws key =

@@ -41,11 +41,3 @@ pub struct Slot {
     pub next: u32,
     pub tier: u32,
 }
-
-// What a lookup answers: the key's tier, that it is not there, or a refusal.
-#[derive(Clone, Copy)]
-pub enum Found {
-    Listed(u32),
-    Absent,
-    Refused(u32),
-}

@@ -11,16 +11,14 @@ ghost use Rattle.build.specs.Access.{Enough};
 ghost use Rattle.build.specs.LinkCode.{Found, Linkable, rank_linked, ranks_linked, unlinked_parts, linked_parts};
 ghost use Rattle.build.specs.LinkCode.{Marks, labelled_parts};
 
-use scratch_layout::{edges_start, held_start, next_start, put_word, sets_start, word};
+use scratch_layout::{edges_start, graph_range, held_start, put_word, sets_range, word};
 
 // The representative of a slot's set.
 fn set_of(scratch: &[u32], r: u32, s: u32, n: usize, slot: u32) -> u32
     requires { Enough r s n scratch.now × (slot < 2 * r) }
     ensures { (result ≡ rep_of (parts r s n scratch.now).sets slot) × (result < 2 * r) }
 {
-    let start = sets_start(r, s);
-    let end = next_start(r, s);
-    partition::representative(&scratch[start..end], slot)
+    partition::representative(&scratch[sets_range(r, s)], slot)
 }
 
 // The number of slots in the set of a representative.
@@ -28,9 +26,7 @@ fn set_size(scratch: &[u32], r: u32, s: u32, n: usize, rep: u32) -> u32
     requires { Enough r s n scratch.now × Representative (parts r s n scratch.now).sets rep }
     ensures { result ≡ size_of (parts r s n scratch.now).sets rep }
 {
-    let start = sets_start(r, s);
-    let end = next_start(r, s);
-    partition::size(&scratch[start..end], rep)
+    partition::size(&scratch[sets_range(r, s)], rep)
 }
 
 // Two sets become one.
@@ -39,9 +35,7 @@ fn unite_sets(scratch: &mut [u32], r: u32, s: u32, n: usize, first: u32, second:
     ensures { parts r s n scratch.new ≡ with_sets (parts r s n scratch.old)
         (united (parts r s n scratch.old).sets first second) }
 {
-    let start = sets_start(r, s);
-    let end = next_start(r, s);
-    partition::unite(&mut scratch[start..end], first, second);
+    partition::unite(&mut scratch[sets_range(r, s)], first, second);
 }
 
 // The tree of a slot is re-rooted there, with the rank `carry`.
@@ -51,9 +45,7 @@ fn reroot_graph(scratch: &mut [u32], r: u32, s: u32, n: usize, slot: u32, carry:
     ensures { parts r s n scratch.new ≡ with_graph (parts r s n scratch.old)
         (rerooted r (parts r s n scratch.old).graph carry slot) }
 {
-    let start = held_start(r, s);
-    let end = edges_start(r, s) + n;
-    forest::reroot(&mut scratch[start..end], r, slot, carry);
+    forest::reroot(&mut scratch[graph_range(r, s, n)], r, slot, carry);
 }
 
 // What is found of a rank: its two slots, `first` and `second`, and the representatives of their sets, `one` and `two`.
@@ -77,10 +69,10 @@ fn ends_of(scratch: &[u32], r: u32, s: u32, n: usize, rank: u32) -> Ends
     let one = set_of(scratch, r, s, n, first);
     let two = set_of(scratch, r, s, n, second);
     Ends {
-        first: first,
-        second: second,
-        one: one,
-        two: two,
+        first,
+        second,
+        one,
+        two,
     }
 }
 
@@ -93,9 +85,10 @@ fn smaller_end(scratch: &[u32], r: u32, s: u32, n: usize, ends: Ends) -> u32
         ends.first ends.second }
 {
     if set_size(scratch, r, s, n, ends.one) < set_size(scratch, r, s, n, ends.two) {
-        return ends.first;
+        ends.first
+    } else {
+        ends.second
     }
-    ends.second
 }
 
 // One rank: where its ends are in one set already it closes a cycle, and is marked by 2r; otherwise it is marked by 0,
@@ -104,15 +97,15 @@ fn link_rank(scratch: &mut [u32], r: u32, s: u32, n: usize, rank: u32)
     requires { Enough r s n scratch.old × (0 < rank) × (rank ≤ n) × Linkable r (parts r s n scratch.old) }
     ensures { parts r s n scratch.new ≡ rank_linked r rank (parts r s n scratch.old) }
 {
-    let ends = ends_of(&*scratch, r, s, n, rank);
+    let ends = ends_of(scratch, r, s, n, rank);
     if ends.one == ends.two {
-        put_word(&mut *scratch, r, s, n, rank, 2 * r);
+        put_word(scratch, r, s, n, rank, 2 * r);
         return;
     }
-    let end = smaller_end(&*scratch, r, s, n, ends);
-    put_word(&mut *scratch, r, s, n, rank, 0);
-    reroot_graph(&mut *scratch, r, s, n, end, rank);
-    unite_sets(&mut *scratch, r, s, n, ends.one, ends.two);
+    let end = smaller_end(scratch, r, s, n, ends);
+    put_word(scratch, r, s, n, rank, 0);
+    reroot_graph(scratch, r, s, n, end, rank);
+    unite_sets(scratch, r, s, n, ends.one, ends.two);
 }
 
 // Every slot bare, and alone in its set.
@@ -120,12 +113,8 @@ fn unlink(scratch: &mut [u32], r: u32, s: u32, n: usize)
     requires { Enough r s n scratch.old }
     ensures { parts r s n scratch.new ≡ unlinked_parts r (parts r s n scratch.old) }
 {
-    let start = held_start(r, s);
-    let end = edges_start(r, s);
-    words::fill(&mut scratch[start..end], 0);
-    let first = sets_start(r, s);
-    let last = next_start(r, s);
-    partition::singletons(&mut scratch[first..last]);
+    words::fill(&mut scratch[held_start(r, s)..edges_start(r, s)], 0);
+    partition::singletons(&mut scratch[sets_range(r, s)]);
 }
 
 // The ranks 1 to n.
@@ -133,11 +122,8 @@ fn link_each(scratch: &mut [u32], r: u32, s: u32, n: usize)
     requires { Enough r s n scratch.old × Linkable r (parts r s n scratch.old) }
     ensures { parts r s n scratch.new ≡ ranks_linked r n (parts r s n scratch.old) }
 {
-    let last = n as u32;
-    let mut i = 0;
-    while i < last {
-        i += 1;
-        link_rank(&mut *scratch, r, s, n, i);
+    for rank in 1..=n as u32 {
+        link_rank(scratch, r, s, n, rank);
     }
 }
 
@@ -146,8 +132,8 @@ pub fn link_ranks(scratch: &mut [u32], r: u32, s: u32, n: usize)
     requires { Enough r s n scratch.old × Edges r (edges_in r (parts r s n scratch.old).graph) }
     ensures { parts r s n scratch.new ≡ linked_parts r n (parts r s n scratch.old) }
 {
-    unlink(&mut *scratch, r, s, n);
-    link_each(&mut *scratch, r, s, n);
+    unlink(scratch, r, s, n);
+    link_each(scratch, r, s, n);
 }
 
 // Step 2: the label of each rank, the representative of its slot in table 0, is added to its word.
@@ -156,13 +142,10 @@ pub fn label_ranks(scratch: &mut [u32], r: u32, s: u32, n: usize)
         × Marks r n 0 (parts r s n scratch.old).next }
     ensures { parts r s n scratch.new ≡ labelled_parts r n (parts r s n scratch.old) }
 {
-    let last = n as u32;
-    let mut i = 0;
-    while i < last {
-        i += 1;
-        let slot = edges::first(scratch_layout::edge(&*scratch, r, s, n, i));
-        let label = set_of(&*scratch, r, s, n, slot);
-        let mark = word(&*scratch, r, s, n, i);
-        put_word(&mut *scratch, r, s, n, i, mark + label);
+    for rank in 1..=n as u32 {
+        let slot = edges::first(scratch_layout::edge(scratch, r, s, n, rank));
+        let label = set_of(scratch, r, s, n, slot);
+        let mark = word(scratch, r, s, n, rank);
+        put_word(scratch, r, s, n, rank, mark + label);
     }
 }

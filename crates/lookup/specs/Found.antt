@@ -1,5 +1,5 @@
 -- What is looked at for a key, one after the other, and what is found there. Assumes nothing.
-use Rattle.std.specs.Prelude.{ℕ, ◌+◌, ◌*◌, ◌-◌, ◌≡◌, refl, Bool, true, false, cond, ◌||◌, ◌⊎◌, List, [], ◌∷◌, eqb, length, get_or}
+use Rattle.std.specs.Prelude.{ℕ, ◌+◌, ◌*◌, ◌-◌, ◌≡◌, refl, Bool, true, false, cond, ◌||◌, ◌⊎◌, List, [], ◌∷◌, eqb, length, get_or, Option, Some, None}
 use Rattle.std.proofs.Common.{sym, ◌∙◌, ap, true≢false, inl, inr, arith}
 use borrow.Rule.Slice.PartMut.{mid_of}
 use Rattle.basics.specs.Tests.{test}
@@ -11,9 +11,7 @@ use Rattle.hashing.specs.Hash.{Family}
 use Rattle.hashing.specs.Slots.{slot_0, slot_1}
 use Rattle.layout.specs.Layout.{family_of, place_width, stash_at, slots_of, places_of, place_entries, slot_entry, stash_entries, looked_at}
 use Rattle.layout.proofs.Standing.{stash_lent}
-use Rattle.layout.specs.Answers.{values, looked_up}
-use Rattle.layout.specs.declared.Found.{Found}
-use Rattle.layout.specs.declared.Found.TheVariants.{Listed, Absent, Refused}
+use Rattle.layout.specs.Answers.{found, looked_up}
 
 -- what is looked up always says something
 never_silent : (L : List Entry) (key : ℕ) → [] ≡ looked_up L key → ⊥
@@ -70,7 +68,7 @@ module _ (c d : Entry) (L : List Entry) (key : ℕ) where
       go false false e = absurd (omega (arith, ap length e))
 
 -- So it is with the slots before the stash, whatever was answered of the slots, f.
-module _ (tabulation ws : List ℕ) (key : ℕ) (f : Found) (told : values f ≡ looked_up (own_slots tabulation ws key) key) where
+module _ (tabulation ws : List ℕ) (key : ℕ) (f : Option ℕ) (told : found f ≡ looked_up (own_slots tabulation ws key) key) where
   abbrev first_slot : Entry
   first_slot = slot_entry ws (slot_0 (family_of tabulation ws) key)
 
@@ -78,21 +76,20 @@ module _ (tabulation ws : List ℕ) (key : ℕ) (f : Found) (told : values f ≡
   second_slot = slot_entry ws (slot_1 (family_of tabulation ws) key)
 
   -- listed in one of them
-  pub slots_listed : {t : ℕ} → f ≡ Listed t → 1 ∷ t ∷ [] ≡ looked_up (looked_at tabulation ws key) key
-  slots_listed q = two_found first_slot second_slot (stash_entries ws) key (sym (ap values q) ∙ told)
+  pub slots_listed : {t : ℕ} → f ≡ Some t → 1 ∷ t ∷ [] ≡ looked_up (looked_at tabulation ws key) key
+  slots_listed q = two_found first_slot second_slot (stash_entries ws) key (sym (ap found q) ∙ told)
 
   -- or else in the stash
-  pub slots_absent : f ≡ Absent → looked_up (stash_entries ws) key ≡ looked_up (looked_at tabulation ws key) key
-  slots_absent q = two_missed first_slot second_slot (stash_entries ws) key (sym (ap values q) ∙ told)
+  pub slots_absent : f ≡ None → looked_up (stash_entries ws) key ≡ looked_up (looked_at tabulation ws key) key
+  slots_absent q = two_missed first_slot second_slot (stash_entries ws) key (sym (ap found q) ∙ told)
 
   -- there is no third answer
-  answers : (f : Found) → values f ≡ looked_up (own_slots tabulation ws key) key → ((t : ℕ) × (f ≡ Listed t)) ⊎ (f ≡ Absent)
-  answers (Listed t) e = inl (t, refl)
-  answers Absent e = inr refl
-  answers (Refused k) e = absurd (never_silent (own_slots tabulation ws key) key e)
+  answers : (f : Option ℕ) → ((t : ℕ) × (f ≡ Some t)) ⊎ (f ≡ None)
+  answers (Some t) = inl (t, refl)
+  answers None = inr refl
 
-  pub slots_first : (f ≡ Absent → ⊥) → values f ≡ looked_up (looked_at tabulation ws key) key
-  slots_first n = elim (answers f told) [ inl l ↦ ap values l.1 ∙ slots_listed l.1 | inr a ↦ absurd (n a) ]
+  pub slots_first : (f ≡ None → ⊥) → found f ≡ looked_up (looked_at tabulation ws key) key
+  slots_first n = elim (answers f) [ inl l ↦ ap found l.1 ∙ slots_listed l.1 | inr a ↦ absurd (n a) ]
 
 -- what is looked up says the tier
 looked_tier : (L : List Entry) (key : ℕ) → get_or (looked_up L key) 1 0 ≡ tier_of L key

@@ -4,19 +4,19 @@
 #![tactic(auto)]
 
 ghost use Rattle.std.specs.Prelude.{◌≡◌, cond, ◌∷◌, ◌*◌, ◌<◌, eqb, length, get_or};
-ghost use Rattle.refusals.specs.Refusal.{done};
+ghost use Rattle.refusals.specs.Answer.{number};
 ghost use Rattle.hashing.specs.Hash.{tabulation_length};
 ghost use Rattle.layout.specs.Entries.{tier_of};
 ghost use Rattle.layout.specs.Layout.{slots_of, key_at, slot_entry, stash_entries, looked_at};
 ghost use Rattle.layout.specs.Shape.{Shaped};
-ghost use Rattle.layout.specs.Answers.{number, values, lookup_refusal, lookup_values, looked_up, view_refusal, view_of};
+ghost use Rattle.layout.specs.Answers.{found, values, lookup_refusal, lookup_values, looked_up, view_refusal, view_of};
 ghost use Rattle.lookup.specs.Found.{own_slots};
 
 use access::{is_shaped, key_in, read_header, slot_tier, stash_start};
-use layout::{Found, PLACE_WIDTH};
+use layout::PLACE_WIDTH;
 use places::find_place;
 use ranges::TABULATION_LENGTH;
-use refusals::{BLANK_KEY, NOT_CANONICAL, WRONG_SHAPE, WRONG_TABULATION};
+use refusals::Refusal;
 use words::wide;
 
 // Whether the key stands in a slot.
@@ -28,44 +28,31 @@ fn in_slot(words: &[u32], slot: u32, key: u32) -> bool
 }
 
 // Where a key is found among its two slots: in that of table 0, in that of table 1, or in neither.
-fn in_slots(tabulation: &[u16], words: &[u32], key: u32) -> Found
+fn in_slots(tabulation: &[u16], words: &[u32], key: u32) -> Option<u32>
     requires { (length tabulation.now ≡ tabulation_length) × Shaped words.now }
-    ensures numbered { number result ≡ done }
-    ensures valued { values result ≡ looked_up (own_slots tabulation.now words.now key) key }
+    ensures { found result ≡ looked_up (own_slots tabulation.now words.now key) key }
 {
     let header = read_header(words);
     let first = slots::first_slot(tabulation, header.slots, header.station, key);
     if in_slot(words, first, key) {
-        return Found::Listed(slot_tier(words, first));
+        return Some(slot_tier(words, first));
     }
     let second = slots::second_slot(tabulation, header.slots, header.station, key);
     if in_slot(words, second, key) {
-        return Found::Listed(slot_tier(words, second));
+        return Some(slot_tier(words, second));
     }
-    Found::Absent
+    None
 }
 
 // Where a key is found in the stash.
-fn in_stash(words: &[u32], key: u32) -> Found
+fn in_stash(words: &[u32], key: u32) -> Option<u32>
     requires { Shaped words.now }
-    ensures numbered { number result ≡ done }
-    ensures valued { values result ≡ looked_up (stash_entries words.now) key }
+    ensures { found result ≡ looked_up (stash_entries words.now) key }
 {
     let header = read_header(words);
     let start = stash_start(header.slots);
     let count = wide(header.places);
     find_place(&words[start..start + PLACE_WIDTH * count], count, key)
-}
-
-// The tier of what was found, 0 where nothing was.
-fn tier_of(found: Found) -> u32
-    ensures { result ≡ get_or (values found) 1 0 }
-{
-    match found {
-        Found::Listed(tier) => tier,
-        Found::Absent => 0,
-        Found::Refused(_) => 0,
-    }
 }
 
 // The one word or the other. It is small and plain, so that the compiler can choose without a branch.
@@ -92,36 +79,34 @@ pub fn tier_at(words: &[u32], first: u32, second: u32, key: u32) -> u32
     if in_first | in_second {
         return chosen(in_first, tier_first, tier_second);
     }
-    tier_of(in_stash(words, key))
+    in_stash(words, key).unwrap_or(0)
 }
 
 // The tier of the key, or that it is not there, on any words of the right shape; or 1, 2 or 5.
-pub fn lookup(tabulation: &[u16], words: &[u32], key: u32) -> Found
+pub fn lookup(tabulation: &[u16], words: &[u32], key: u32) -> Result<Option<u32>, Refusal>
     ensures numbered { number result ≡ lookup_refusal tabulation.now words.now key }
     ensures valued { values result ≡ lookup_values tabulation.now words.now key }
 {
     if tabulation.len() != TABULATION_LENGTH {
-        return Found::Refused(WRONG_TABULATION);
+        return Err(Refusal::WrongTabulation);
     }
     if !is_shaped(words) {
-        return Found::Refused(WRONG_SHAPE);
+        return Err(Refusal::WrongShape);
     }
     if ranges::is_blank(key) {
-        return Found::Refused(BLANK_KEY);
+        return Err(Refusal::BlankKey);
     }
-    let found = in_slots(tabulation, words, key);
-    let Found::Absent = found else {
-        return found;
-    };
-    in_stash(words, key)
+    match in_slots(tabulation, words, key) {
+        Some(tier) => Ok(Some(tier)),
+        None => Ok(in_stash(words, key)),
+    }
 }
 
 // Where a key is found, in its slots or in the stash; both slots are worked out and read first, as `tier_at` wants
 // them.
-fn found_within(tabulation: &[u16], words: &[u32], key: u32) -> Found
+fn found_within(tabulation: &[u16], words: &[u32], key: u32) -> Option<u32>
     requires { (length tabulation.now ≡ tabulation_length) × Shaped words.now }
-    ensures numbered { number result ≡ done }
-    ensures valued { values result ≡ looked_up (looked_at tabulation.now words.now key) key }
+    ensures { found result ≡ looked_up (looked_at tabulation.now words.now key) key }
 {
     let header = read_header(words);
     let one = slots::first_slot(tabulation, header.slots, header.station, key);
@@ -129,50 +114,50 @@ fn found_within(tabulation: &[u16], words: &[u32], key: u32) -> Found
     let in_one = in_slot(words, one, key);
     let in_other = in_slot(words, other, key);
     if in_one | in_other {
-        return Found::Listed(tier_at(words, one, other, key));
+        return Some(tier_at(words, one, other, key));
     }
     in_stash(words, key)
 }
 
 // What `lookup` answers, by a search of its own, for calls that look a key up on the way to something else. So the
 // library calls `lookup` once, for the exported lookup, and the compiler puts it in the place of that call.
-pub fn lookup_within(tabulation: &[u16], words: &[u32], key: u32) -> Found
+pub fn lookup_within(tabulation: &[u16], words: &[u32], key: u32) -> Result<Option<u32>, Refusal>
     ensures numbered { number result ≡ lookup_refusal tabulation.now words.now key }
     ensures valued { values result ≡ lookup_values tabulation.now words.now key }
 {
     if tabulation.len() != TABULATION_LENGTH {
-        return Found::Refused(WRONG_TABULATION);
+        return Err(Refusal::WrongTabulation);
     }
     if !is_shaped(words) {
-        return Found::Refused(WRONG_SHAPE);
+        return Err(Refusal::WrongShape);
     }
     if ranges::is_blank(key) {
-        return Found::Refused(BLANK_KEY);
+        return Err(Refusal::BlankKey);
     }
-    found_within(tabulation, words, key)
+    Ok(found_within(tabulation, words, key))
 }
 
-// The number that goes with the stash view: 0, 2 or 4.
-pub fn stash_refusal(words: &[u32]) -> u32
-    ensures { result ≡ view_refusal words.now }
+// What goes with the stash view: done, 2 or 4.
+pub fn stash_refusal(words: &[u32]) -> Result<(), Refusal>
+    ensures { number result ≡ view_refusal words.now }
 {
     if !is_shaped(words) {
-        return WRONG_SHAPE;
+        return Err(Refusal::WrongShape);
     }
     let header = read_header(words);
     if header.places < header.stashed {
-        return NOT_CANONICAL;
+        return Err(Refusal::NotCanonical);
     }
-    0
+    Ok(())
 }
 
 // The stash view: the filled stretch of the stash, a part of the lent words; empty when it is refused.
 pub fn stash(words: &[u32]) -> &[u32]
     ensures { result.now ≡ view_of words.now }
 {
-    if stash_refusal(words) != 0 {
+    let Ok(()) = stash_refusal(words) else {
         return &words[0..0];
-    }
+    };
     let header = read_header(words);
     let start = stash_start(header.slots);
     let end = start + PLACE_WIDTH * wide(header.stashed);

@@ -1,6 +1,6 @@
 -- The laws of what specs/Distinct.antt defines.
 use Prim.Native.Nat.{ℕ, suc, ◌+◌, ◌≤◌, ◌<◌}
-use Rattle.std.specs.Prelude.{◌≡◌, refl, cond, List, [], ◌∷◌, ◌++◌, eqb, get_or, set, take, drop}
+use Rattle.std.specs.Prelude.{◌≡◌, refl, cond, List, [], ◌∷◌, eqb, get_or, set, take}
 use Rattle.std.proofs.Common.{sym, ◌∙◌, append_assoc, le_refl, eq-eqb, ne_eqb}
 use Rattle.std.proofs.Math.Logic.{inl, inr}
 use mathlib.Core.List.Memᴰ.{head as here}

@@ -1,6 +1,6 @@
 -- The place of a key in a set of keys: its rank, and the set with it and without it. Assumes nothing.
-use Rattle.std.specs.Prelude.{ℕ, zero, suc, ◌+◌, ◌-◌, ◌≤◌, ◌<◌, ◌≡◌, refl, false, ◌⊎◌, eqb, ltb, take, drop}
-use Rattle.std.proofs.Common.{suc-le-suc, ◌∙◌, inl, inr, le_of_suc-le-suc, not-suc-le-zero, arith, eq-eqb, ne_eqb, lt-ltb, le-ltb, ltb-true}
+use Rattle.std.specs.Prelude.{ℕ, zero, suc, ◌+◌, ◌-◌, ◌≤◌, ◌<◌, ◌≡◌, refl, true, false, ◌⊎◌, eqb, ltb, take, drop}
+use Rattle.std.proofs.Common.{suc-le-suc, ◌∙◌, inl, inr, le_of_suc-le-suc, not-suc-le-zero, arith, eq-eqb, ne_eqb, lt-ltb, le-ltb, ltb-true, le_refl}
 use Rattle.std.proofs.Math.Path.{sym, ap}
 use mathlib.Core.List.Memᴰ.{head as here}
 use mathlib.Core.List.Memᴰ.{tail as there}
@@ -8,6 +8,9 @@ use mathlib.Core.List.{List, [], ◌∷◌, ◌++◌, Memᴰ as In}
 use mathlib.Core.List.Memᴰ
 use Rattle.std.proofs.Math.ListN.{length, get_or, length-append}
 use Rattle.std.proofs.Math.Seq.{get_or-append_seam, take-append_seam, drop-append_seam, drop-append-add}
+use Rattle.std.proofs.lemmas.Bool.{ltb-false}
+use Rattle.std.proofs.lemmas.List.Sorted.{IsPartitionedBy-ltb, IsNonDecreasingBy-from_default}
+use Rattle.std.specs.List.Sorted.{IsPartitionedBy, IsPartitionPoint}
 use Rattle.basics.proofs.Tests.{eq?, le?}
 use Rattle.basics.specs.Sets.{member, without, Asc, none, some, below}
 use Rattle.basics.proofs.Sets.{asc_ext, asc_keep, asc_out, keep_in, keep_test, in_keep, length_keep, below_in, below_lt, in_below, out_in, out_ne, in_out, in?, in_member, no_member}
@@ -217,6 +220,26 @@ module _ (key : ℕ) {S : List ℕ} (h : Asc S) where
       let w = in_at i in
       let m = bound_high key h w.0 w.1 (rw w.2 l) in
       (omega (arith, w.1), rw w.2 at (up (lower_bound S key) w.0 m w.1))
+
+-- what std's `partition_point` asks at the test `word < key`, and finds
+pub asc_parted : (key : ℕ) {S : List ℕ} → Asc S → IsPartitionedBy (λ d. ltb d key) S
+asc_parted key {S} h = IsPartitionedBy-ltb (λ d. d) S key (IsNonDecreasingBy-from_default (λ d. d) S 0 (up key h))
+
+pub point_is_bound :
+    (key : ℕ) {S : List ℕ} → Asc S
+    → (r : ℕ) → r ≤ length S → IsPartitionPoint (λ d. ltb d key ≡ true) (λ d. ltb d key ≡ false) S r → r ≡ lower_bound S key
+point_is_bound key {S} h r fit point =
+    let low : r ≤ lower_bound S key =
+    elim (eq? r 0) [
+      | inl e ↦ omega arith
+      | inr ne ↦ omega (arith, bound_low key h (r - 1) (omega arith) (ltb-true _ _ (point.0 (r - 1) 0 (omega arith) (omega arith))))
+    ] in
+    let high : lower_bound S key ≤ r =
+    elim (le? (length S) r) [
+      | inl l ↦ omega (arith, bound_le key S)
+      | inr l ↦ bound_high key h r l (ltb-false _ _ (point.1 r 0 (le_refl r) l))
+    ] in
+    omega arith
 
 -- a search that ends at the rank says whether the key is there
 module _ (key : ℕ) (S : List ℕ) (h : Asc S) where

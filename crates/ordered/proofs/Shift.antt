@@ -7,7 +7,7 @@ use mathlib.Core.List.{List, ◌∷◌, ◌++◌, append_assoc}
 use Rattle.std.proofs.Math.Numerals.{add-one}
 use native.Mathlib.Omega.{arith}
 use Rattle.std.proofs.Math.ListN.{length, take, drop, length-take}
-use Rattle.std.proofs.Math.Seq.{slice, slice-cons, slice_empty, take-suc-set, take-set-lt, drop-set-lt, set_split, take_at, drop_at, take-take, take-append-add, drop-append-add}
+use Rattle.std.proofs.Math.Seq.{slice-cons, slice_empty, take-suc-set, take-set-lt, drop-set-lt, set_split, take_at, drop_at, take-take, take-append-add, drop-append-add}
 use Rattle.ordered.specs.Shift.{shifted_in, shifted_out}
 
 -- The laws, first of the loops.

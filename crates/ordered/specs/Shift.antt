@@ -1,14 +1,9 @@
 -- The words of a stretch move by one, to make room for a word or to close its gap: in the keys, and in a column beside them. `shifted_in` and `shifted_out` come
 -- first: contracts cite them. Assumes nothing.
-use Prim.Native.Nat.{ℕ, suc, ◌+◌, ◌-◌, ◌≤◌, ◌<◌}
-use Rattle.std.specs.Prelude.{◌≡◌, get_or, set}
-use Rattle.std.proofs.Common.{sym, ◌∙◌, take-append-drop, length-drop, length-append, length-take-le}
-use Rattle.std.proofs.Math.Path.{ap}
-use mathlib.Core.List.{List, ◌∷◌, ◌++◌, append_assoc}
-use Rattle.std.proofs.Math.Numerals.{add-one}
-use native.Mathlib.Omega.{arith}
-use Rattle.std.proofs.Math.ListN.{length, take, drop, length-take}
-use Rattle.std.proofs.Math.Seq.{slice, slice-cons, slice_empty, take-suc-set, take-set-lt, drop-set-lt, set_split, take_at, drop_at, take-take, take-append-add, drop-append-add}
+use Prim.Native.Nat.{ℕ, ◌+◌, ◌-◌}
+use mathlib.Core.List.{List, ◌∷◌, ◌++◌}
+use Rattle.std.proofs.Math.ListN.{take, drop}
+use Rattle.std.proofs.Math.Seq.{slice}
 
 -- the words from i to n are to move up, over the word at n, and the carried key is to come to i
 unfoldable pub shifted_in : List ℕ → ℕ → ℕ → ℕ → List ℕ

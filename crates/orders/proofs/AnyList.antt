@@ -24,7 +24,7 @@ use Rattle.feeding.specs.Feed.{fed, feed_on, feed, set_of}
 use Rattle.feeding.proofs.Feeding.{feed_length}
 use Rattle.feeding.proofs.FeedingAfter.{feed_most, any_order}
 use Rattle.refusals.specs.Refusal.{done, first_refusal, and}
-use Rattle.refusals.proofs.Refusal.{front_none}
+use Rattle.refusals.proofs.Refusals.{front_none}
 use Rattle.refusals.specs.Refusal as Refusal
 use Rattle.hashing.specs.Hash.{tabulation_length, first_part, blank}
 use Rattle.hashing.proofs.Issues.{not_blank_iff}

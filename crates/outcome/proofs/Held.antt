@@ -13,7 +13,7 @@ use Rattle.cuckoo.specs.Placement.{Placement}
 use Rattle.ordered.specs.Keys.{with_key}
 use Rattle.ordered.proofs.Place.{with_cases, with_here, with_there, asc_with, with_same, without_with, length_with}
 use Rattle.refusals.specs.Refusal.{done, short_scratch, blank_key, key_present, key_absent, stash_full, wrong_tier, other_tier, other_issue, first_refusal, None, none, and}
-use Rattle.refusals.proofs.Refusal.{front_none, last_turned}
+use Rattle.refusals.proofs.Refusals.{front_none, last_turned}
 use Rattle.hashing.specs.Hash.{tabulation_length, first_part, blank}
 use Rattle.hashing.proofs.Issues.{not_blank_iff}
 use Rattle.hashing.specs.Slots.{slot_0, slot_1}

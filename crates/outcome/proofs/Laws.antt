@@ -10,7 +10,7 @@ use Rattle.std.proofs.lemmas.Bool.{not-false}
 use Rattle.basics.specs.Tests.{test}
 use Rattle.basics.specs.Sets.{member}
 use Rattle.refusals.specs.Refusal.{done, wrong_tabulation, wrong_shape, short_scratch, not_canonical, blank_key, first_refusal, none, and}
-use Rattle.refusals.proofs.Refusal.{first_refusal_in, none_applies}
+use Rattle.refusals.proofs.Refusals.{first_refusal_in, none_applies}
 use Rattle.hashing.specs.Hash.{tabulation_length, blank}
 use Rattle.layout.specs.Entries.{Entry}
 use Rattle.layout.specs.Layout.{Params, params_of, slots_of, places_of, scratch_length, shaped, image, set_in}

@@ -11,7 +11,7 @@ use Rattle.basics.specs.Tests.{test}
 use Rattle.basics.proofs.Tests.{eq?, and_true, T_true, zero_one}
 use Rattle.basics.specs.Sets.{member}
 use Rattle.refusals.specs.Refusal.{done, not_canonical, blank_key, key_absent, wrong_price, first_refusal, None, none, and}
-use Rattle.refusals.proofs.Refusal.{first_refusal_in, front_applies, front_passes, front_none}
+use Rattle.refusals.proofs.Refusals.{first_refusal_in, front_applies, front_passes, front_none}
 use Rattle.hashing.specs.Hash.{tabulation_length, blank}
 use Rattle.layout.specs.Entries.{Entry, max_tier, keys_of, tier_of}
 use Rattle.layout.specs.Layout.{Params, looked_at, tier_in}

@@ -18,7 +18,7 @@ use Rattle.cuckoo.specs.Walks.{Distinct}
 use Rattle.cuckoo.specs.Trail.{other}
 use Rattle.cuckoo.proofs.Trail.{trail_none, stash_trail, trail_first, trail_ends, trail_next, trail_once, trail_component, trail_slots}
 use Rattle.refusals.specs.Refusal.{done, wrong_tabulation, wrong_shape, short_scratch, not_canonical, blank_key, key_absent, short_trail, first_refusal}
-use Rattle.refusals.proofs.Refusal.{first_refusal_in, front_applies, front_passes, front_none}
+use Rattle.refusals.proofs.Refusals.{first_refusal_in, front_applies, front_passes, front_none}
 use Rattle.hashing.specs.Hash.{tabulation_length, blank}
 use Rattle.hashing.specs.Slots.{slot_0, slot_1}
 use Rattle.hashing.proofs.Slots.{slot_0_lt, slot_1_lt}

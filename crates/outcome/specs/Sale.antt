@@ -1,27 +1,22 @@
 -- What opening a sale answers, for every tabulation, words, key, base price and steps, and what closing one gives (document 02, "Four"). Both only read.
 -- The contracts are equalities with `sale_refusal`, `sale_values` and `closed`; SaleLaws.antt has the laws.
-use Rattle.std.specs.Prelude.{ℕ, ◌+◌, Bool, true, not, cond, ◌&&◌, ◌||◌, List, [], ◌∷◌, ◌++◌, eqb, leb, ltb, ℤ, pos, neg_ℤ, nat_abs, ◌+ℤ◌, length, get_or}
+use Rattle.std.specs.Prelude.{ℕ, ◌+◌, Bool, true, not, cond, ◌&&◌, ◌||◌, List, [], ◌∷◌, ◌++◌, eqb, leb, ltb, ℤ, pos, neg_ℤ, nat_abs, ◌+ℤ◌, length, get_or, Result, Ok, Err}
 use Rattle.std.specs.Int.Signed.{le_z, lt_z}
 use Rattle.basics.specs.Sets.{member}
 use Rattle.refusals.specs.Refusal.{done, not_canonical, key_absent, wrong_price, first_refusal}
+use Rattle.refusals.specs.declared.Refusal.{Refusal}
 use Rattle.layout.specs.Entries.{max_tier, keys_of}
 use Rattle.layout.specs.Layout.{looked_at, tier_in}
 use Rattle.layout.specs.Answers.{lookup_refusals}
 use Rattle.outcome.specs.declared.Sale.{Sale}
-use Rattle.outcome.specs.declared.Opened.{Opened}
-use Rattle.outcome.specs.declared.Opened.TheVariants.{Open, Refused}
 
--- "The sale record holds card, tier and litre price": these values, of a sale that was opened; and the paper's number of the answer
+-- "The sale record holds card, tier and litre price": these values, of a sale that was opened
 abbrev pub record_values : Sale → List ℕ
 record_values s = s.key ∷ s.tier ∷ s.price ∷ []
 
-abbrev pub number : Opened → ℕ
-number (Open s) = done
-number (Refused n) = n
-
-abbrev pub values : Opened → List ℕ
-values (Open s) = record_values s
-values (Refused n) = []
+abbrev pub values : Result Sale Refusal → List ℕ
+values (Ok s) = record_values s
+values (Err refusal) = []
 
 -- "a base price of 1 to 99,999 tenths of a cent"
 abbrev pub max_base : ℕ

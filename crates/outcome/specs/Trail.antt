@@ -1,26 +1,21 @@
 -- The whole outcome of the trail call, for every tabulation, words, scratch, key and lent trail: number, values, words, scratch and trail (document 02, "Two").
 -- The contract is an equality with `trail_outcome`; the trail itself is defined in cuckoo/specs/Trail.antt. TrailLaws.antt has the laws.
-use Rattle.std.specs.Prelude.{ℕ, ◌-◌, Bool, not, cond, List, [], ◌∷◌, ◌++◌, eqb, ltb, length, replicate}
+use Rattle.std.specs.Prelude.{ℕ, ◌-◌, Bool, not, cond, List, [], ◌∷◌, ◌++◌, eqb, ltb, length, replicate, Result, Ok, Err}
 use Rattle.basics.specs.Sets.{member}
 use Rattle.cuckoo.specs.Graph.{seated}
 use Rattle.cuckoo.specs.Trail.{trail}
 use Rattle.refusals.specs.Refusal.{done, blank_key, key_absent, short_trail, first_refusal}
+use Rattle.refusals.specs.declared.Refusal.{Refusal}
 use Rattle.hashing.specs.Hash.{blank}
 use Rattle.hashing.specs.Slots.{slot_0, slot_1}
 use Rattle.layout.specs.Entries.{keys_of}
 use Rattle.layout.specs.Layout.{Params, family, params_of, keys_in, set_in}
-use Rattle.outcome.specs.declared.Traced.{Traced}
-use Rattle.outcome.specs.declared.Traced.TheVariants.{Length, Refused}
 use Rattle.layout.specs.Ready.{first_refusals}
 
--- "the call tells how many": the paper's number of the answer, and its values: how many keys the trail has
-abbrev pub number : Traced → ℕ
-number (Length n) = done
-number (Refused n) = n
-
-abbrev pub values : Traced → List ℕ
-values (Length n) = n ∷ []
-values (Refused n) = []
+-- "the call tells how many": the values of the answer: how many keys the trail has
+abbrev pub values : Result ℕ Refusal → List ℕ
+values (Ok n) = n ∷ []
+values (Err refusal) = []
 
 -- the trail of a key among the seated keys of S; "a drawer card's trail is empty"
 abbrev pub trail_of : Params → List ℕ → ℕ → List ℕ

@@ -10,13 +10,6 @@ pub enum Change {
     Remove,
 }
 
-// What the trail of a key answers: how many keys it has, or a refusal.
-#[derive(Clone, Copy)]
-pub enum Traced {
-    Length(u32),
-    Refused(u32),
-}
-
 // The record of a sale, from nozzle lift to hang-up: the key, the tier at which it was listed, and the price of a litre
 // in tenths of a cent.
 #[repr(C)]
@@ -25,11 +18,4 @@ pub struct Sale {
     pub key: u32,
     pub tier: u32,
     pub price: u32,
-}
-
-// What the opening of a sale answers: its record, or a refusal.
-#[derive(Clone, Copy)]
-pub enum Opened {
-    Open(Sale),
-    Refused(u32),
 }

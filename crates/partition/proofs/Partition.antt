@@ -1,5 +1,5 @@
 -- The laws of what specs/Partition.antt defines.
-use Rattle.std.specs.Prelude.{ℕ, ◌+◌, ◌^◌, ◌≤◌, ◌<◌, ◌≡◌, ◌↔◌, List, [], ◌∷◌, length, get_or}
+use Rattle.std.specs.Prelude.{ℕ, ◌+◌, ◌≤◌, ◌<◌, ◌≡◌, List, [], ◌∷◌, length, get_or}
 use Rattle.std.proofs.Math.Path.{sym, ap}
 use Rattle.std.proofs.Common.{◌∙◌, inl, inr, arith, pow_mono}
 use Rattle.std.proofs.Math.ListN.{length-replicate, get_or-replicate}
@@ -9,9 +9,8 @@ use Rattle.cuckoo.specs.Joined.{Joined, past, along, back}
 use Rattle.cuckoo.proofs.Joined.{jrefl, more, split}
 use Rattle.partition.specs.Words.{max_points, max_steps, singletons_of, Representative, rep_of, size_of, Mergeable}
 use Rattle.partition.proofs.Words.{walk_stop}
-use Rattle.partition.specs.Tally.{tally}
 use Rattle.partition.proofs.Tally.{tally_le, tally_two, tally_ext, tally_one}
-use Rattle.partition.specs.Chain.{Chain, top}
+use Rattle.partition.specs.Chain.{top}
 use Rattle.partition.proofs.Chain.{chain_rep, chain_walk}
 use Rattle.partition.specs.Partition.{Reached, Partition}
 

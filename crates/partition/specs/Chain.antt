@@ -1,9 +1,5 @@
 -- Chains of parents, and what linking one representative under another does to them. Assumes nothing.
-use Rattle.std.specs.Prelude.{ℕ, suc, ◌+◌, ◌-◌, ◌≤◌, ◌<◌, ◌≡◌, List, length, get_or, set}
-use Rattle.std.proofs.Common.{◌∙◌, ap, inl, inr, arith}
-use Rattle.std.proofs.Math.ListN.{length-set}
-use Rattle.std.proofs.Math.Seq.{get_or-set_same, get_or-set_other}
-use Rattle.partition.specs.Words.{Representative, walk, size_of, Mergeable, linked}
+use Rattle.std.specs.Prelude.{ℕ, suc, ◌≤◌, ◌<◌, ◌≡◌, List, length, get_or}
 
 -- from v, k parents lead to the representative r
 pub data Chain (words : List ℕ) : ℕ → ℕ → ℕ → Type 0 where

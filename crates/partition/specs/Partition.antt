@@ -1,14 +1,10 @@
 -- What the words mean: their sets are the components of the cuckoo graph. The invariant, what a caller has from it, that it holds at the start,
 -- and that a key inside a component keeps it; a key between two is proofs/United.antt. Assumes nothing.
-use Rattle.std.specs.Prelude.{ℕ, ◌+◌, ◌^◌, ◌≤◌, ◌<◌, ◌≡◌, ◌↔◌, List, [], ◌∷◌, length, get_or}
-use Rattle.std.proofs.Math.Path.{sym, ap}
-use Rattle.std.proofs.Common.{◌∙◌, inl, inr, arith, pow_mono}
-use Rattle.std.proofs.Math.ListN.{length-replicate, get_or-replicate}
-use Rattle.cuckoo.specs.Graph.{label}
-use Rattle.cuckoo.specs.Joined.{Joined, past, along, back}
-use Rattle.partition.specs.Words.{max_points, max_steps, singletons_of, Representative, rep_of, size_of, Mergeable}
+use Rattle.std.specs.Prelude.{ℕ, ◌^◌, ◌≤◌, ◌<◌, ◌≡◌, ◌↔◌, List, length}
+use Rattle.cuckoo.specs.Joined.{Joined}
+use Rattle.partition.specs.Words.{max_points, Representative, rep_of, size_of}
 use Rattle.partition.specs.Tally.{tally}
-use Rattle.partition.specs.Chain.{Chain, top}
+use Rattle.partition.specs.Chain.{Chain}
 
 -- how many slots have r for their representative
 abbrev pub members : List ℕ → ℕ → ℕ

@@ -1,10 +1,6 @@
 -- How many of the numbers below n a function takes to r: the size of a set, where f gives each slot's representative. Assumes nothing.
-use Prim.Native.Nat.{ℕ, zero, suc, ◌+◌, ◌≤◌, ◌<◌}
-use Rattle.std.specs.Prelude.{◌≡◌, cond, eqb}
-use Rattle.std.proofs.Math.Path.{refl}
-use Rattle.std.proofs.Common.{sym, ◌∙◌, ap, eq-eqb, ne_eqb}
-use Rattle.std.proofs.Math.Logic.{inl, inr}
-use native.Mathlib.Omega.{arith}
+use Prim.Native.Nat.{ℕ, zero, suc}
+use Rattle.std.specs.Prelude.{cond, eqb}
 
 unfoldable pub tally : (ℕ → ℕ) → ℕ → ℕ → ℕ
 tally f r zero = 0

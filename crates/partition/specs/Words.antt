@@ -3,9 +3,6 @@
 -- n is the length of the words. A word below n is the slot's parent; a word n + s marks the representative of a set of s slots.
 use Prim.Native.Nat.{ℕ, zero, suc, ◌+◌, ◌-◌, ◌≤◌, ◌<◌}
 use Rattle.std.specs.Prelude.{◌≡◌, cond, List, ltb, length, get_or, set, replicate}
-use Rattle.std.proofs.Math.Path.{refl}
-use Rattle.std.proofs.Math.Logic.{inl, inr}
-use Rattle.std.proofs.Common.{not-suc-le-zero, sub-one, lt-ltb, le-ltb}
 
 -- the most slots of both tables together, at most 1,024 each
 abbrev pub max_points : ℕ

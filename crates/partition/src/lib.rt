@@ -27,14 +27,12 @@ pub fn representative(words: &[u32], slot: u32) -> u32
 {
     let n = words.len() as u32;
     let mut v = slot;
-    let mut left = MAX_STEPS;
-    while 0 < left {
+    for _ in 0..MAX_STEPS {
         let word = words[v as usize];
         if n <= word {
             return v;
         }
         v = word;
-        left -= 1;
     }
     v
 }
@@ -52,10 +50,9 @@ fn link(words: &mut [u32], child: u32, parent: u32)
     requires { (length words.old ≤ max_points) × Mergeable words.old child parent }
     ensures { words.new ≡ linked words.old child parent }
 {
-    let word = words[parent as usize];
-    let grown = word + size(words, child);
+    let joining = size(words, child);
     words[child as usize] = parent;
-    words[parent as usize] = grown;
+    words[parent as usize] += joining;
 }
 
 // Makes one set of the sets of two different representatives: the smaller goes under the larger, and where they are as

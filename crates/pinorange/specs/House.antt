@@ -6,7 +6,7 @@ use Rattle.std.proofs.Math.Bool.{cond}
 use mathlib.Core.List.{List, [], ◌∷◌, Memᴰ as In}
 use Rattle.std.proofs.Common.{eq-eqb, ne_eqb}
 use Rattle.refusals.specs.Refusal.{done, wrong_tabulation, first_refusal}
-use Rattle.refusals.proofs.Refusal.{first_refusal_in}
+use Rattle.refusals.proofs.Refusals.{first_refusal_in}
 use Rattle.hashing.specs.Hash.{tabulation_length}
 use Rattle.house.specs.Rule.{house_table}
 

@@ -1,20 +1,19 @@
 -- What the out-parameters of the exported calls hold afterwards. The documents decide the values of an accepted call; what a refusal leaves, and the tier of a
 -- key that is not listed, are ours to say: lookups, trail and salvage leave what stood there, the view gives an empty stretch. (What a refused opening leaves of its record is
 -- `sale_left`, of outcome.)
-use Rattle.std.specs.Prelude.{ℕ, ◌*◌, ◌≡◌, refl, Bool, cond, true, false, eqb, take, drop}
+use Rattle.std.specs.Prelude.{ℕ, ◌*◌, ◌≡◌, refl, Bool, cond, true, false, eqb, take, drop, Result, Ok, Err}
 use Rattle.std.proofs.Common.{sym, ◌∙◌}
 use Rattle.std.proofs.Math.Path.{ap}
 use mathlib.Core.List.{List, []}
 use Rattle.std.proofs.Math.ListN.{get_or}
 use Rattle.refusals.specs.Refusal.{done}
+use Rattle.refusals.specs.declared.Refusal.{Refusal}
+use Rattle.refusals.specs.Answer.{number}
 use Rattle.layout.specs.Layout.{slots_of, stash_count, stash_at, place_width}
 use Rattle.layout.specs.Answers.{lookup_values, view_refusal, view_of}
-use Rattle.outcome.specs.declared.Traced.{Traced}
-use Rattle.outcome.specs.Trail.{number, values, TrailOutcome, trail_outcome}
-use Rattle.survivors.specs.declared.Salvaged.{Salvaged}
+use Rattle.outcome.specs.Trail.{values, TrailOutcome, trail_outcome}
 use Rattle.survivors.specs.Salvage.{SalvageOutcome, salvage_outcome}
 use Rattle.survivors.specs.Salvage as Salvage
-use Rattle.stolen.specs.declared.Reported.{Reported}
 use Rattle.stolen.specs.Answers.{stolen_lookup_refusal, stolen_lookup_values}
 use Rattle.stolen.specs.Answers as Stolen
 
@@ -65,7 +64,7 @@ module _ (tabulation ws : List ℕ) (key old : ℕ) {vs : List ℕ} (e : vs ≡ 
   tier_value = ap (λ (l : List ℕ). get_or l 1 old) e
 
 -- what is handed on of a trail's answer f, which was found to be g
-pub handed_trail : (tabulation ws scratch : List ℕ) (key : ℕ) (sheet : List ℕ) (old : ℕ) {us left new : List ℕ} {f g : Traced} → f ≡ g
+pub handed_trail : (tabulation ws scratch : List ℕ) (key : ℕ) (sheet : List ℕ) (old : ℕ) {us left new : List ℕ} {f g : Result ℕ Refusal} → f ≡ g
     → record { number = number f; values = values f; words = us; scratch = left; trail = new } ≡ trail_outcome tabulation ws scratch key sheet
     → let o = trail_outcome tabulation ws scratch key sheet in
     (number g ≡ o.number)
@@ -75,37 +74,37 @@ handed_trail tabulation ws scratch key sheet old q e = (
   ap number (sym q) ∙ ap (λ (o : TrailOutcome). o.number) e,
   (
     ap (λ (o : TrailOutcome). o.scratch) e,
-    (ap (λ (o : TrailOutcome). o.trail) e, ap (λ (t : Traced). get_or (values t) 0 old) (sym q) ∙ ap (λ (o : TrailOutcome). get_or o.values 0 old) e),
+    (ap (λ (o : TrailOutcome). o.trail) e, ap (λ (t : Result ℕ Refusal). get_or (values t) 0 old) (sym q) ∙ ap (λ (o : TrailOutcome). get_or o.values 0 old) e),
   ),
 )
 
 -- what is handed on of a salvage's answer f, which was found to be g
-pub handed_salvage : (tabulation ws target scratch : List ℕ) (old : ℕ) {us new left : List ℕ} {f g : Salvaged} → f ≡ g
-    → record { number = Salvage.number f; values = Salvage.values f; words = us; target = new; scratch = left }
+pub handed_salvage : (tabulation ws target scratch : List ℕ) (old : ℕ) {us new left : List ℕ} {f g : Result ℕ Refusal} → f ≡ g
+    → record { number = number f; values = Salvage.values f; words = us; target = new; scratch = left }
     ≡ salvage_outcome tabulation ws target scratch
     → let o = salvage_outcome tabulation ws target scratch in
-    (Salvage.number g ≡ o.number)
+    (number g ≡ o.number)
     × ((new ≡ o.target) × ((left ≡ o.scratch)
     × (get_or (Salvage.values g) 0 old ≡ lost_out tabulation ws target scratch old)))
 unfolding lost_out
 handed_salvage tabulation ws target scratch old q e = (
-  ap Salvage.number (sym q) ∙ ap (λ (o : SalvageOutcome). o.number) e,
+  ap number (sym q) ∙ ap (λ (o : SalvageOutcome). o.number) e,
   (
     ap (λ (o : SalvageOutcome). o.target) e,
     (
       ap (λ (o : SalvageOutcome). o.scratch) e,
-      ap (λ (t : Salvaged). get_or (Salvage.values t) 0 old) (sym q)
+      ap (λ (t : Result ℕ Refusal). get_or (Salvage.values t) 0 old) (sym q)
           ∙ ap (λ (o : SalvageOutcome). get_or o.values 0 old) e,
     ),
   ),
 )
 
 -- what is handed on of a lookup's answer f, which was found to be g
-pub handed_reported : (tabulation ws : List ℕ) (station key old : ℕ) {f g : Reported} → f ≡ g
-    → (Stolen.number f ≡ stolen_lookup_refusal tabulation ws station key)
+pub handed_reported : (tabulation ws : List ℕ) (station key old : ℕ) {f g : Result Bool Refusal} → f ≡ g
+    → (number f ≡ stolen_lookup_refusal tabulation ws station key)
     × (Stolen.values f ≡ stolen_lookup_values tabulation ws station key)
-    → (Stolen.number g ≡ stolen_lookup_refusal tabulation ws station key)
+    → (number g ≡ stolen_lookup_refusal tabulation ws station key)
     × (get_or (Stolen.values g) 0 old ≡ reported_out tabulation ws station key old)
 unfolding reported_out
 handed_reported tabulation ws station key old q e =
-    (sym (ap Stolen.number q) ∙ e.0, ap (λ (l : List ℕ). get_or l 0 old) (sym (ap Stolen.values q) ∙ e.1))
+    (sym (ap number q) ∙ e.0, ap (λ (l : List ℕ). get_or l 0 old) (sym (ap Stolen.values q) ∙ e.1))

@@ -20,12 +20,10 @@ ghost use Rattle.pinorange.specs.Out.{listed_out, tier_out, offset_out, length_o
 ghost use Rattle.pinorange.specs.Out.{reported_out};
 
 use counters::Counters;
-use layout::{Found, PLACE_WIDTH};
-use outcome::{Change, Sale, Traced};
+use layout::PLACE_WIDTH;
+use outcome::{Change, Sale};
 use ranges::TABULATION_LENGTH;
-use refusals::WRONG_TABULATION;
-use stolen::Reported;
-use survivors::Salvaged;
+use refusals::{Refusal, number};
 use words::wide;
 
 // The tier of a key. Done, `listed` is 1 and `tier` the tier, or `listed` is 0 and `tier` stays as it was; refused,
@@ -44,18 +42,17 @@ pub extern "C" fn pinorange_lookup(
     ensures priced { tier.new ≡ tier_out tabulation.now words.now key
         tier.old }
 {
-    let found = lookup::lookup(tabulation, words, key);
-    match found {
-        Found::Listed(t) => {
+    match lookup::lookup(tabulation, words, key) {
+        Ok(Some(t)) => {
             *listed = 1;
             *tier = t;
             0
         }
-        Found::Absent => {
+        Ok(None) => {
             *listed = 0;
             0
         }
-        Found::Refused(n) => n,
+        Err(refusal) => refusal.into(),
     }
 }
 
@@ -67,16 +64,19 @@ pub extern "C" fn pinorange_stash(words: &[u32], offset: &mut u32, len: &mut u32
     ensures placed { offset.new ≡ offset_out words.now }
     ensures measured { len.new ≡ length_out words.now }
 {
-    let n = lookup::stash_refusal(words);
-    if n != 0 {
-        *offset = 0;
-        *len = 0;
-        return n;
+    match lookup::stash_refusal(words) {
+        Ok(()) => {
+            let header = access::read_header(words);
+            *offset = access::stash_start(header.slots) as u32;
+            *len = (PLACE_WIDTH * wide(header.stashed)) as u32;
+            0
+        }
+        Err(refusal) => {
+            *offset = 0;
+            *len = 0;
+            refusal.into()
+        }
     }
-    let header = access::read_header(words);
-    *offset = access::stash_start(header.slots) as u32;
-    *len = (PLACE_WIDTH * wide(header.stashed)) as u32;
-    0
 }
 
 // Lays fresh words, and moves the counters on. They are lent by reference and moved on in place; the covered call takes
@@ -96,7 +96,7 @@ pub extern "C" fn pinorange_init(
     let old = *counters;
     let new = counting::init(words, r, s, station, old);
     *counters = new.counters;
-    new.answer
+    number(new.answer)
 }
 
 // Lays a whole list in one call, and moves the counters on: the input alternates key and tier, the keys ascending. The
@@ -120,7 +120,7 @@ pub extern "C" fn pinorange_bulk_load(
     let old = *counters;
     let new = counting::bulk_load(tabulation, words, scratch, old, r, s, station, input);
     *counters = new.counters;
-    new.answer
+    number(new.answer)
 }
 
 // Inserts a key with a tier, and moves the counters on.
@@ -141,7 +141,7 @@ pub extern "C" fn pinorange_insert(
     let old = *counters;
     let new = counting::insert(tabulation, words, scratch, old, key, tier);
     *counters = new.counters;
-    new.answer
+    number(new.answer)
 }
 
 // Removes a key, and moves the counters on.
@@ -160,7 +160,7 @@ pub extern "C" fn pinorange_remove(
     let old = *counters;
     let new = counting::remove(tabulation, words, scratch, old, key);
     *counters = new.counters;
-    new.answer
+    number(new.answer)
 }
 
 // Whether the words are the canonical image of a set: 1 to 4, or 0. The words are only read; the scratch is zero over
@@ -170,7 +170,7 @@ pub extern "C" fn pinorange_check(tabulation: &[u16], words: &[u32], scratch: &m
     ensures { record { answer = result; words = words.now; scratch = scratch.new }
         ≡ check_outcome tabulation.now words.now scratch.old }
 {
-    dictionary::check(tabulation, words, scratch)
+    number(dictionary::check(tabulation, words, scratch))
 }
 
 // The trail of a key: document 02's number. Done, `count` is how many keys it has, and they stand in the lent trail,
@@ -193,13 +193,12 @@ pub extern "C" fn pinorange_trail(
     ensures counted { count.new ≡ count_out tabulation.now words.now
         scratch.old key trail.old count.old }
 {
-    let traced = trail::trail(tabulation, words, scratch, key, trail);
-    match traced {
-        Traced::Length(n) => {
+    match trail::trail(tabulation, words, scratch, key, trail) {
+        Ok(n) => {
             *count = n;
             0
         }
-        Traced::Refused(n) => n,
+        Err(refusal) => refusal.into(),
     }
 }
 
@@ -223,13 +222,12 @@ pub extern "C" fn pinorange_salvage(
     ensures told { lost.new ≡ lost_out tabulation.now words.now
         target.old scratch.old lost.old }
 {
-    let salvaged = salvage::salvage(tabulation, words, target, scratch);
-    match salvaged {
-        Salvaged::Lost(n) => {
+    match salvage::salvage(tabulation, words, target, scratch) {
+        Ok(n) => {
             *lost = n;
             0
         }
-        Salvaged::Refused(n) => n,
+        Err(refusal) => refusal.into(),
     }
 }
 
@@ -268,7 +266,7 @@ pub extern "C" fn pinorange_stolen_init(words: &mut [u32]) -> u32
     ensures numbered { result ≡ stolen_init_refusal words.old }
     ensures laid { words.new ≡ stolen_init_words words.old }
 {
-    stolen_table::init(words)
+    number(stolen_table::init(words))
 }
 
 // Puts a key into a list of stolen keys; a refusal changes no word.
@@ -284,7 +282,7 @@ pub extern "C" fn pinorange_stolen_insert(
     ensures laid { words.new
         ≡ stolen_insert_words tabulation.now words.old station key }
 {
-    stolen_table::insert(tabulation, words, station, key)
+    number(stolen_table::insert(tabulation, words, station, key))
 }
 
 // Whether a key is in a list of stolen keys. Done, `reported` is 1 or 0; refused, it stays.
@@ -301,17 +299,12 @@ pub extern "C" fn pinorange_stolen_lookup(
     ensures told { reported.new ≡ reported_out tabulation.now words.now station key
         reported.old }
 {
-    let answer = stolen_table::lookup(tabulation, words, station, key);
-    match answer {
-        Reported::Yes => {
-            *reported = 1;
+    match stolen_table::lookup(tabulation, words, station, key) {
+        Ok(found) => {
+            *reported = u32::from(found);
             0
         }
-        Reported::No => {
-            *reported = 0;
-            0
-        }
-        Reported::Refused(n) => n,
+        Err(refusal) => refusal.into(),
     }
 }
 
@@ -322,14 +315,10 @@ pub extern "C" fn pinorange_house(tabulation: &mut [u16]) -> u32
     ensures filled { tabulation.new ≡ housed tabulation.old }
 {
     if tabulation.len() != TABULATION_LENGTH {
-        return WRONG_TABULATION;
+        return Refusal::WrongTabulation.into();
     }
     let table = house::house_tabulation();
-    let mut i = 0;
-    while i < TABULATION_LENGTH {
-        tabulation[i] = table[i];
-        i += 1;
-    }
+    tabulation.copy_from_slice(&table);
     0
 }
 

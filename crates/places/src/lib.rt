@@ -5,11 +5,10 @@
 
 ghost use Rattle.std.specs.Prelude.{◌≡◌, ◌||◌, ◌*◌, ◌≤◌, length};
 ghost use Rattle.basics.specs.Sets.{member};
-ghost use Rattle.refusals.specs.Refusal.{done};
 ghost use Rattle.layout.specs.Layout.{place_width, max_places, place_entries};
-ghost use Rattle.layout.specs.Answers.{number, values, looked_up};
+ghost use Rattle.layout.specs.Answers.{found, looked_up};
 
-use layout::{Found, PLACE_WIDTH};
+use layout::PLACE_WIDTH;
 
 // Whether a word stands in one of two stretches of one length. All of both are looked at, a word of each in a turn, so
 // that the compiler can compare several at once.
@@ -18,29 +17,25 @@ fn among(front: &[u32], back: &[u32], word: u32) -> bool
     ensures { result ≡ (member word front.now || member word back.now) }
 {
     let mut found = false;
-    let mut i = 0;
-    while i < front.len() {
-        found = found | (word == front[i]) | (word == back[i]);
-        i += 1;
+    for i in 0..front.len() {
+        found |= word == front[i];
+        found |= word == back[i];
     }
     found
 }
 
 // Where a key is found among the places: the tier in the first that holds it, or that none does.
-pub fn find_place(places: &[u32], count: usize, key: u32) -> Found
+pub fn find_place(places: &[u32], count: usize, key: u32) -> Option<u32>
     requires { (length places.now ≡ place_width * count) × (count ≤ max_places) }
-    ensures numbered { number result ≡ done }
-    ensures valued { values result ≡ looked_up (place_entries count places.now) key }
+    ensures { found result ≡ looked_up (place_entries count places.now) key }
 {
     if !among(&places[..count], &places[count..], key) {
-        return Found::Absent;
+        return None;
     }
-    let mut i = 0;
-    while i < count {
+    for i in 0..count {
         if key == places[PLACE_WIDTH * i] {
-            return Found::Listed(places[PLACE_WIDTH * i + 1]);
+            return Some(places[PLACE_WIDTH * i + 1]);
         }
-        i += 1;
     }
-    Found::Absent
+    None
 }

@@ -18,9 +18,10 @@ fn wrapped(slots: usize, number: usize) -> usize
     ensures inside { result < slots }
 {
     if number < slots {
-        return number;
+        number
+    } else {
+        number - slots
     }
-    number - slots
 }
 
 // The slot after a slot.
@@ -40,8 +41,7 @@ pub fn is_found(words: &[u32], start: usize, key: u32) -> bool
 {
     let slots = words.len();
     let mut slot = start;
-    let mut left = slots;
-    while 0 < left {
+    for _ in 0..slots {
         let word = words[slot];
         if key <= word {
             return word == key;
@@ -50,7 +50,6 @@ pub fn is_found(words: &[u32], start: usize, key: u32) -> bool
             return false;
         }
         slot = next_slot(slots, slot);
-        left -= 1;
     }
     false
 }
@@ -65,8 +64,7 @@ pub fn carry(words: &mut [u32], start: usize, key: u32)
     let slots = words.len();
     let mut carried = key;
     let mut slot = start;
-    let mut left = slots;
-    while 0 < left {
+    for _ in 0..slots {
         let word = words[slot];
         if word == 0 {
             words[slot] = carried;
@@ -77,7 +75,6 @@ pub fn carry(words: &mut [u32], start: usize, key: u32)
             carried = word;
         }
         slot = next_slot(slots, slot);
-        left -= 1;
     }
 }
 
@@ -88,16 +85,13 @@ pub fn barrier(words: &[u32]) -> usize
     ensures unpassed { Barrier (length words.now) words.now result }
 {
     let mut largest = 0;
-    let mut slot = 0;
-    while slot < words.len() {
-        let word = words[slot];
+    for (slot, &word) in words.iter().enumerate() {
         if word == 0 {
             return slot;
         }
         if words[largest] < word {
             largest = slot;
         }
-        slot += 1;
     }
     largest
 }
@@ -119,12 +113,6 @@ pub fn turn_of(slots: usize, base: usize, slot: usize) -> usize
     wrapped(slots, slot + (slots - (base + 1)))
 }
 
-fn wide_wall(wall: u16) -> usize
-    ensures { result ≡ wall }
-{
-    wall as usize
-}
-
 // The wall of a key that comes at a turn, by the walls of the turns before: a smaller key is passed, and with it all
 // that it has passed. In all turns of a round together the loop goes on at most once for each slot (`few_jumps`,
 // probing/proofs/Linear.antt).
@@ -136,16 +124,14 @@ pub fn wall_of(words: &[u32], walls: &[u16; MAX_SLOTS], base: usize, turn: usize
 {
     let slots = words.len();
     let mut wall = turn;
+    // A while: a wall goes back over many turns at once.
     while 0 < wall {
         let before = wall - 1;
         let word = words[slot_of(slots, base, before)];
-        if word == 0 {
+        if word == 0 || key <= word {
             return wall;
         }
-        if word >= key {
-            return wall;
-        }
-        wall = wide_wall(walls[before]);
+        wall = usize::from(walls[before]);
     }
     0
 }

@@ -31,14 +31,9 @@ pub fn same_slot(
     ensures { result ≡ slot_alike words.now at (get_or keys.now rank 0)
         (get_or keys.now (get_or next.now rank 0) 0) (tier_by r graph.now rank) }
 {
-    if words[at] != keys[rank] {
-        return false;
-    }
-    let after = wide(next[rank]);
-    if words[at + 1] != keys[after] {
-        return false;
-    }
-    words[at + 2] == tier_of(r, graph, rank)
+    words[at] == keys[rank]
+        && words[at + 1] == keys[wide(next[rank])]
+        && words[at + 2] == tier_of(r, graph, rank)
 }
 
 // Whether the stash place that begins at `at` has the key and the tier of a rank.
@@ -54,10 +49,7 @@ pub fn same_place(
     ensures { result ≡ place_alike words.now at (get_or keys.now rank 0)
         (tier_by r graph.now rank) }
 {
-    if words[at] != keys[rank] {
-        return false;
-    }
-    words[at + 1] == tier_of(r, graph, rank)
+    words[at] == keys[rank] && words[at + 1] == tier_of(r, graph, rank)
 }
 
 // Writes the key, the next and the tier of a rank over the slot that begins at `at`.
@@ -75,9 +67,8 @@ pub fn write_slot(
     ensures { words.new ≡ slot_put words.old at (get_or keys.now rank 0)
         (get_or keys.now (get_or next.now rank 0) 0) (tier_by r graph.now rank) }
 {
-    let after = wide(next[rank]);
     words[at] = keys[rank];
-    words[at + 1] = keys[after];
+    words[at + 1] = keys[wide(next[rank])];
     words[at + 2] = tier_of(r, graph, rank);
 }
 

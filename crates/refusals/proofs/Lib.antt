@@ -1,2 +1,3 @@
 -- The laws of the crate `refusals`.
-pub mod Refusal
+pub mod Answer
+pub mod Refusals

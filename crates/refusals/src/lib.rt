@@ -1,52 +1,94 @@
-// The numbers that calls answer: document 01's table, "What a call gives back", and document 02's. What each means, and
-// that the first that applies is given, is in specs/Refusal.antt. 0 is "done".
+// Why calls are refused: document 01's table, "What a call gives back", and document 02's. A call answers a `Result` with
+// one of these as its error; its number, and that the first that applies is given, is in specs/Refusal.antt. 0 is "done".
 #![tactic(auto)]
 
-// The tabulation has another length.
-pub const WRONG_TABULATION: u32 = 1;
+ghost use Rattle.std.specs.Prelude.{◌≡◌};
+ghost use Rattle.refusals.specs.Answer.{number, number_of};
 
-// The words are not laid out as a dictionary, or r, s or the station, given or in them, is outside its range; of the
-// hashes of a key alone, r or the station is.
-pub const WRONG_SHAPE: u32 = 2;
+#[derive(Clone, Copy, Debug, PartialEq, Eq)]
+pub enum Refusal {
+    // The tabulation has another length.
+    WrongTabulation,
 
-// The scratch is too short.
-pub const SHORT_SCRATCH: u32 = 3;
+    // The words are not laid out as a dictionary, or r, s or the station, given or in them, is outside its range; of the
+    // hashes of a key alone, r or the station is.
+    WrongShape,
 
-// The words are the canonical image of no set.
-pub const NOT_CANONICAL: u32 = 4;
+    // The scratch is too short.
+    ShortScratch,
 
-// The key is blank.
-pub const BLANK_KEY: u32 = 5;
+    // The words are the canonical image of no set.
+    NotCanonical,
 
-// Insert of a key that is in the set.
-pub const KEY_PRESENT: u32 = 6;
+    // The key is blank.
+    BlankKey,
 
-// Removal of a key that is not in the set.
-pub const KEY_ABSENT: u32 = 7;
+    // Insert of a key that is in the set.
+    KeyPresent,
 
-// The stash of the new set would have more keys than there are places.
-pub const STASH_FULL: u32 = 8;
+    // Removal of a key that is not in the set.
+    KeyAbsent,
 
-// Insert with a tier above 7.
-pub const WRONG_TIER: u32 = 9;
+    // The stash of the new set would have more keys than there are places.
+    StashFull,
 
-// Insert of a key that is in the set, with another tier.
-pub const OTHER_TIER: u32 = 10;
+    // Insert with a tier above 7.
+    WrongTier,
 
-// The words that are lent for a trail are fewer than it has keys.
-pub const SHORT_TRAIL: u32 = 11;
+    // Insert of a key that is in the set, with another tier.
+    OtherTier,
 
-// A sale's base price or a step is outside its range, or the key's price is below 1.
-pub const WRONG_PRICE: u32 = 12;
+    // The words that are lent for a trail are fewer than it has keys.
+    ShortTrail,
 
-// Insert of a key of which another issue is in the set.
-pub const OTHER_ISSUE: u32 = 13;
+    // A sale's base price or a step is outside its range, or the key's price is below 1.
+    WrongPrice,
 
-// The input of a bulk load has an odd number of words, or its keys do not rise.
-pub const NOT_RISING: u32 = 14;
+    // Insert of a key of which another issue is in the set.
+    OtherIssue,
 
-// Something stands in the words of a salvage, and no key counts.
-pub const NONE_COUNTS: u32 = 15;
+    // The input of a bulk load has an odd number of words, or its keys do not rise.
+    NotRising,
 
-// Insert into a list of stolen keys all of whose slots are filled.
-pub const TABLE_FULL: u32 = 16;
+    // Something stands in the words of a salvage, and no key counts.
+    NoneCounts,
+
+    // Insert into a list of stolen keys all of whose slots are filled.
+    TableFull,
+}
+
+// The number by which C and the console know it.
+impl From<Refusal> for u32 {
+    ghost from_gives = { λ refusal n. n ≡ number_of refusal };
+
+    fn from(refusal: Refusal) -> u32 {
+        match refusal {
+            Refusal::WrongTabulation => 1,
+            Refusal::WrongShape => 2,
+            Refusal::ShortScratch => 3,
+            Refusal::NotCanonical => 4,
+            Refusal::BlankKey => 5,
+            Refusal::KeyPresent => 6,
+            Refusal::KeyAbsent => 7,
+            Refusal::StashFull => 8,
+            Refusal::WrongTier => 9,
+            Refusal::OtherTier => 10,
+            Refusal::ShortTrail => 11,
+            Refusal::WrongPrice => 12,
+            Refusal::OtherIssue => 13,
+            Refusal::NotRising => 14,
+            Refusal::NoneCounts => 15,
+            Refusal::TableFull => 16,
+        }
+    }
+}
+
+// The number of an answer that says no more than that: 0 for done.
+pub fn number(answer: Result<(), Refusal>) -> u32
+    ensures { result ≡ number answer }
+{
+    match answer {
+        Ok(()) => 0,
+        Err(refusal) => u32::from(refusal),
+    }
+}

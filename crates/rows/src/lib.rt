@@ -8,13 +8,15 @@ ghost use Rattle.grammar.specs.Row.{answer_row, insert_row, remove_row, lookup_r
 ghost use Rattle.grammar.specs.Row.{error_row, slot_row, stash_row, book_row, row_room};
 ghost use Rattle.writing.specs.Written.{Written};
 
-use grammar::{COMMA, Looked, NEWLINE};
+use grammar::{COMMA, NEWLINE};
+use refusals::Refusal;
 use writing::{put_byte, put_field, put_long, put_word};
 
-// Every row that is printed fits into so many bytes.
+// Every row that is printed fits into so many bytes. Each function asks for them itself, since it takes any slice at any
+// position, and no type of ours.
 pub const ROW_ROOM: usize = 57;
 
-// A letter, a key and a number: its answer, or its tier.
+// A letter, a key and a number: its answer, or its tier. The letter is printed, and no step is chosen by it.
 fn put_answer(out: &mut [u8], at: usize, letter: u8, key: u32, answer: u32) -> usize
     requires { at + row_room ≤ length out.old }
     ensures written { Written (answer_row letter key answer) out.old at out.new result }
@@ -49,9 +51,9 @@ pub fn put_remove(out: &mut [u8], at: usize, key: u32, answer: u32) -> usize
 }
 
 // L,key,R and the number of the refusal
-fn put_refused(out: &mut [u8], at: usize, key: u32, refusal: u32) -> usize
+fn put_refused(out: &mut [u8], at: usize, key: u32, refusal: Refusal) -> usize
     requires { at + row_room ≤ length out.old }
-    ensures written { Written (lookup_row key (Looked.Refused refusal)) out.old at
+    ensures written { Written (lookup_row key (Err refusal)) out.old at
         out.new result }
     ensures short { result ≤ at + row_room }
 {
@@ -59,14 +61,14 @@ fn put_refused(out: &mut [u8], at: usize, key: u32, refusal: u32) -> usize
     let third = put_field(&mut *out, second, key);
     let letter = put_byte(&mut *out, third, COMMA);
     let number = put_byte(&mut *out, letter, b'R');
-    let end = put_word(&mut *out, number, refusal);
+    let end = put_word(&mut *out, number, refusal.into());
     put_byte(&mut *out, end, NEWLINE)
 }
 
 // L,key,N
 fn put_absent(out: &mut [u8], at: usize, key: u32) -> usize
     requires { at + row_room ≤ length out.old }
-    ensures written { Written (lookup_row key Looked.Absent) out.old at out.new result }
+    ensures written { Written (lookup_row key (Ok None)) out.old at out.new result }
     ensures short { result ≤ at + row_room }
 {
     let second = put_byte(&mut *out, at, b'L');
@@ -77,15 +79,21 @@ fn put_absent(out: &mut [u8], at: usize, key: u32) -> usize
 }
 
 // L,key,tier  L,key,N  or a refusal
-pub fn put_lookup(out: &mut [u8], at: usize, key: u32, looked: Looked) -> usize
+#[tactic(auto, unfolding(grammar::specs::Row::lookup_row))]
+pub fn put_lookup(
+    out: &mut [u8],
+    at: usize,
+    key: u32,
+    looked: Result<Option<u32>, Refusal>,
+) -> usize
     requires { at + row_room ≤ length out.old }
     ensures written { Written (lookup_row key looked) out.old at out.new result }
     ensures short { result ≤ at + row_room }
 {
     match looked {
-        Looked::Listed(tier) => put_answer(out, at, b'L', key, tier),
-        Looked::Absent => put_absent(out, at, key),
-        Looked::Refused(refusal) => put_refused(out, at, key, refusal),
+        Ok(Some(tier)) => put_answer(out, at, b'L', key, tier),
+        Ok(None) => put_absent(out, at, key),
+        Err(refusal) => put_refused(out, at, key, refusal),
     }
 }
 

@@ -1,6 +1,6 @@
 -- The opening of a sale in the steps of the code: the price for a tier, then the answer for a key that was found at a tier, then the whole, by what lookup
 -- found. Assumes nothing.
-use Rattle.std.specs.Prelude.{ℕ, zero, suc, ◌+◌, ◌≤◌, ◌<◌, ◌≡◌, refl, Bool, true, false, not, ◌&&◌, List, [], ◌∷◌, T, eqb, leb, ltb, ℤ, pos, negsuc, nat_abs, ◌+ℤ◌, length, get_or, drop}
+use Rattle.std.specs.Prelude.{ℕ, zero, suc, ◌+◌, ◌≤◌, ◌<◌, ◌≡◌, refl, Bool, true, false, not, ◌&&◌, List, [], ◌∷◌, T, Option, Some, None, Result, Ok, Err, eqb, leb, ltb, ℤ, pos, negsuc, nat_abs, ◌+ℤ◌, length, get_or, drop}
 use Rattle.std.proofs.Math.Path.{sym, ap}
 use Rattle.std.proofs.Common.{◌∙◌, true≢false, add-one, arith, drop-cons, Fits, SFits, to_z, of_z}
 use Rattle.std.proofs.Math.Bool.{cond, or-true, and-false}
@@ -11,11 +11,10 @@ use Rattle.std.specs.Int.{w32}
 use Rattle.std.proofs.lemmas.Int.{to_z-of_z}
 use Rattle.basics.specs.Tests.{test}
 use Rattle.basics.proofs.Tests.{and_true}
+use Rattle.refusals.specs.declared.Refusal.{Refusal}
 use Rattle.refusals.specs.Refusal.{done, not_canonical, key_absent, wrong_price, first_refusal}
 use Rattle.layout.specs.Entries.{max_tier}
 use Rattle.layout.specs.Answers.{lookup_refusal, lookup_values}
-use Rattle.layout.specs.declared.Found.{Found}
-use Rattle.layout.specs.declared.Found.TheVariants.{Listed, Absent, Refused}
 use Rattle.outcome.specs.Sale.{record_values, base_in_range, step_in_range, all_in_range, litre_price, unpriced}
 use Rattle.outcome.specs.Sale.{sale_refusal, sale_values, sale_of, sale_left}
 use Rattle.outcome.specs.declared.Sale.{Sale}
@@ -24,6 +23,23 @@ use Rattle.outcome.proofs.SaleLaws.{same_record, in_order, all_at, fair_iff, who
 -- the price for a tier, 0 where 12 applies
 unfoldable pub price_or_0 : ℕ → List ℤ → ℕ → ℕ
 price_or_0 base steps tier = cond (unpriced base steps tier) 0 (nat_abs (litre_price base steps tier))
+
+-- and as the code gives it: none where it is 0
+abbrev pub positive : ℕ → Option ℕ
+positive zero = None
+positive (suc n) = Some (suc n)
+
+none_zero : (n : ℕ) → None ≡ positive n → n ≡ 0
+none_zero zero e = refl
+none_zero (suc n) e = absurd (cc)
+
+some_itself : (n : ℕ) {p : ℕ} → Some p ≡ positive n → (p ≡ n) × (n ≡ 0 → ⊥)
+some_itself zero e = absurd (cc)
+some_itself (suc n) e = (cc, λ q. omega arith)
+
+at_least_1 : (n : ℕ) → 1 ≤ n → Some n ≡ positive n
+at_least_1 zero l = absurd (omega arith)
+at_least_1 (suc n) l = refl
 
 -- the answer for a key that was found at this tier
 unfoldable pub tier_refusal : ℕ → ℕ → List ℤ → ℕ
@@ -71,6 +87,11 @@ casts : (z : ℤ) → lt_z z (pos 1) ≡ false → mag z < 2147483648 → T (non
 casts (pos n) e l = (tt, record { fits = omega arith })
 casts (negsuc n) e l = absurd (true≢false e)
 
+above_0 : (z : ℤ) → lt_z z (pos 1) ≡ false → 1 ≤ nat_abs z
+above_0 (pos zero) e = absurd (true≢false e)
+above_0 (pos (suc n)) e = omega arith
+above_0 (negsuc n) e = absurd (true≢false e)
+
 -- The sum, as the machine makes it: it reads the step back from its bits, adds, and reads the sum back from its bits. Nothing is lost.
 module _ (base : ℕ) (step : ℤ) (b : base_in_range base ≡ true) (s : step_in_range step ≡ true) where
   base_most : base ≤ 99999
@@ -91,30 +112,31 @@ module _ (base : ℕ) (step : ℤ) (b : base_in_range base ≡ true) (s : step_i
 
     -- the two tests of the sum: it is below 1, and it is not, and then it is a number
     pub below_one : lt_z (to_z w32 (of_z w32 (to_z w32 base +ℤ to_z w32 (of_z w32 step)))) (pos 1) ≡ true
-        → 0 ≡ cond (lt_z (pos base +ℤ step) (pos 1)) 0 (nat_abs (pos base +ℤ step))
+        → None ≡ positive (cond (lt_z (pos base +ℤ step) (pos 1)) 0 (nat_abs (pos base +ℤ step)))
     below_one e = rw (ap (λ (z : ℤ). lt_z z (pos 1)) (sym read_sum) ∙ e)
 
     module _ (e : lt_z (to_z w32 (of_z w32 (to_z w32 base +ℤ to_z w32 (of_z w32 step)))) (pos 1) ≡ false) where
       above : lt_z (pos base +ℤ step) (pos 1) ≡ false
       above = ap (λ (z : ℤ). lt_z z (pos 1)) (sym read_sum) ∙ e
 
-      pub from_one : nat_abs (to_z w32 (of_z w32 (to_z w32 base +ℤ to_z w32 (of_z w32 step)))) ≡ cond (lt_z (pos base +ℤ step) (pos 1)) 0 (nat_abs (pos base +ℤ step))
-      from_one = rw above (ap nat_abs read_sum)
+      pub from_one : Some (nat_abs (to_z w32 (of_z w32 (to_z w32 base +ℤ to_z w32 (of_z w32 step)))))
+          ≡ positive (cond (lt_z (pos base +ℤ step) (pos 1)) 0 (nat_abs (pos base +ℤ step)))
+      from_one = rw (read_sum, above) (at_least_1 (nat_abs (pos base +ℤ step)) (above_0 (pos base +ℤ step) above))
 
       pub sum_casts : let z = to_z w32 (of_z w32 (to_z w32 base +ℤ to_z w32 (of_z w32 step))) in T (non_neg z) × Fits w32 (nat_abs z)
       sum_casts = rw read_sum (casts (pos base +ℤ step) above sum_fits.sfits)
 
 -- the price for a tier: 0 where base or steps are not in their ranges,
 module _ (base : ℕ) (steps : List ℤ) (tier : ℕ) where
-  pub no_base : base_in_range base ≡ false → 0 ≡ price_or_0 base steps tier
+  pub no_base : base_in_range base ≡ false → None ≡ positive (price_or_0 base steps tier)
   unfolding price_or_0 unpriced
   no_base e = rw e
 
-  pub no_eight : (length steps ≡ 8 → ⊥) → 0 ≡ price_or_0 base steps tier
+  pub no_eight : (length steps ≡ 8 → ⊥) → None ≡ positive (price_or_0 base steps tier)
   unfolding price_or_0 unpriced
   no_eight n = rw (ne_eqb (length steps) 8 n, or-true (not (base_in_range base)))
 
-  pub no_step : all_in_range steps ≡ false → 0 ≡ price_or_0 base steps tier
+  pub no_step : all_in_range steps ≡ false → None ≡ positive (price_or_0 base steps tier)
   unfolding price_or_0 unpriced
   no_step e = rw (e, and-false (eqb (length steps) 8), or-true (not (base_in_range base)))
 
@@ -124,11 +146,11 @@ module _ (base : ℕ) (steps : List ℤ) (tier : ℕ) where
     pub step_ready : step_in_range (to_z w32 (of_z w32 (get_or steps i (pos 0)))) ≡ true
     step_ready = rw (read_step steps i m) (all_at steps a i (rw (n, q) (omega arith)))
 
-    pub priced : {p : ℕ} → let z = pos base +ℤ to_z w32 (of_z w32 (get_or steps i (pos 0))) in
-        p ≡ cond (lt_z z (pos 1)) 0 (nat_abs z) → p ≡ price_or_0 base steps tier
+    pub priced : {p : Option ℕ} → let z = pos base +ℤ to_z w32 (of_z w32 (get_or steps i (pos 0))) in
+        p ≡ positive (cond (lt_z z (pos 1)) 0 (nat_abs z)) → p ≡ positive (price_or_0 base steps tier)
     unfolding price_or_0 unpriced
     priced e =
-        e ∙ ap (λ (s : ℤ). cond (lt_z (pos base +ℤ s) (pos 1)) 0 (nat_abs (pos base +ℤ s))) (read_step steps i m)
+        e ∙ ap (λ (s : ℤ). positive (cond (lt_z (pos base +ℤ s) (pos 1)) 0 (nat_abs (pos base +ℤ s)))) (read_step steps i m)
         ∙ (rw (b, eq-eqb (length steps) 8 n, a, q))
 
 -- the answer for a key that was found at a tier: 4,
@@ -138,22 +160,23 @@ module _ (key tier base : ℕ) (steps : List ℤ) where
   high_tier l = let t = lt-ltb max_tier tier l in (rw t, rw t)
 
   -- 12,
-  module _ {p : ℕ} (l : tier ≤ max_tier) (e : p ≡ price_or_0 base steps tier) where
-    pub not_priced : p ≡ 0 → (wrong_price ≡ tier_refusal tier base steps) × ([] ≡ tier_values key tier base steps)
+  module _ {p : Option ℕ} (l : tier ≤ max_tier) (e : p ≡ positive (price_or_0 base steps tier)) where
+    pub not_priced : p ≡ None → (wrong_price ≡ tier_refusal tier base steps) × ([] ≡ tier_values key tier base steps)
     unfolding tier_refusal tier_values price_or_0
     not_priced z = elim (test (unpriced base steps tier)) [
       | inl t ↦ let f = le-ltb max_tier tier l in (rw (f, t), rw (f, t))
-      | inr t ↦ absurd (omega (arith, z, rw t at e, fair_least base steps tier t))
+      | inr t ↦ absurd (omega (arith, none_zero _ (sym z ∙ rw t at e), fair_least base steps tier t))
     ]
 
     -- or the record
-    pub is_priced : (p ≡ 0 → ⊥) → (done ≡ tier_refusal tier base steps) × (key ∷ tier ∷ p ∷ [] ≡ tier_values key tier base steps)
+    pub is_priced : {price : ℕ} → p ≡ Some price
+        → (done ≡ tier_refusal tier base steps) × (key ∷ tier ∷ price ∷ [] ≡ tier_values key tier base steps)
     unfolding tier_refusal tier_values price_or_0
-    is_priced n = elim (test (unpriced base steps tier)) [
-      | inl t ↦ absurd (n (rw t at e))
+    is_priced q = elim (test (unpriced base steps tier)) [
+      | inl t ↦ absurd ((some_itself 0 (sym q ∙ rw t at e)).1 refl)
       | inr t ↦
           let f = le-ltb max_tier tier l in
-          (rw (f, t), rw (f, t, sym (rw t at e)))
+          (rw (f, t), rw (f, t, sym (some_itself _ (sym q ∙ rw t at e)).0))
     ]
 
 -- The answer for a key, by what lookup found: its own refusal,
@@ -181,11 +204,11 @@ module _ (tabulation ws : List ℕ) (key base : ℕ) (steps : List ℤ) where
       let l = sale_listed tabulation ws key base steps tier (sym v) in
       (e ∙ sym l.0, f ∙ (rw (l.0, l.1)))
 
--- what was found is that the key is not listed, where it is none of the others
-pub is_absent : (f : Found) → ((tier : ℕ) → f ≡ Listed tier → ⊥) → ((n : ℕ) → f ≡ Refused n → ⊥) → f ≡ Absent
-is_absent (Listed tier) p q = absurd (p tier refl)
-is_absent Absent p q = refl
-is_absent (Refused n) p q = absurd (q n refl)
+-- A lookup's answer that is neither a tier nor a refusal is that the key is not there.
+pub is_absent : (f : Result (Option ℕ) Refusal) → ((tier : ℕ) → f ≡ Ok (Some tier) → ⊥) → ((n : Refusal) → f ≡ Err n → ⊥) → f ≡ Ok None
+is_absent (Ok (Some tier)) p q = absurd (p tier refl)
+is_absent (Ok None) p q = refl
+is_absent (Err n) p q = absurd (q n refl)
 
 -- What a lent record holds, by what the opening answered.
 module _ (tabulation ws : List ℕ) (key base : ℕ) (steps : List ℤ) (old : Sale) where

@@ -4,15 +4,16 @@
 
 ghost use Rattle.std.specs.Prelude.{◌≡◌, true, cond, ◌≤◌, pos, nat_abs, ◌+ℤ◌};
 ghost use Rattle.std.specs.Int.Signed.{lt_z};
+ghost use Rattle.refusals.specs.Answer.{number};
 ghost use Rattle.layout.specs.Entries.{max_tier};
-ghost use Rattle.outcome.specs.Sale.{number, values, base_in_range, step_in_range, all_in_range};
+ghost use Rattle.outcome.specs.Sale.{values, base_in_range, step_in_range, all_in_range};
 ghost use Rattle.outcome.specs.Sale.{sale_refusal, sale_values, sale_left, closed};
-ghost use Rattle.sale.specs.Priced.{price_or_0, tier_refusal, tier_values};
+ghost use Rattle.sale.specs.Priced.{price_or_0, positive, tier_refusal, tier_values};
 
-use layout::{Found, MAX_TIER};
+use layout::MAX_TIER;
 use lookup::lookup_within;
-use outcome::{Opened, Sale};
-use refusals::{KEY_ABSENT, NOT_CANONICAL, WRONG_PRICE};
+use outcome::Sale;
+use refusals::Refusal;
 use words::wide;
 
 // The largest base price, in tenths of a cent.
@@ -22,6 +23,9 @@ pub const MAX_BASE: u32 = 99999;
 pub const MIN_STEP: i32 = -500;
 
 pub const MAX_STEP: i32 = 500;
+
+// The least price of a litre.
+const MIN_PRICE: i32 = 1;
 
 // How many steps there are: one for each tier.
 pub const STEPS: usize = 8;
@@ -44,80 +48,69 @@ fn is_step(step: i32) -> bool
 fn are_steps(steps: &[i32]) -> bool
     ensures { result ≡ all_in_range steps.now }
 {
-    let mut i = 0;
-    while i < steps.len() {
-        let step = steps[i];
-        if !is_step(step) {
+    // A loop by hand: that every step is tested is told by the laws of its turns, which docs/CLAIMS.md names.
+    for step in steps {
+        if !is_step(*step) {
             return false;
         }
-        i += 1;
     }
     true
 }
 
-// The price of a litre: base plus step, or 0 where that is below 1.
-fn litre_price(base: u32, step: i32) -> u32
+// The price of a litre: base plus step, where that is at least 1.
+fn litre_price(base: u32, step: i32) -> Option<u32>
     requires { (base_in_range base ≡ true) × (step_in_range step ≡ true) }
-    ensures { result ≡ cond (lt_z (pos base +ℤ step) (pos 1)) 0 (nat_abs (pos base +ℤ step)) }
+    ensures { result
+        ≡ positive (cond (lt_z (pos base +ℤ step) (pos 1)) 0 (nat_abs (pos base +ℤ step))) }
 {
     let price = base as i32 + step;
-    if price < 1 {
-        return 0;
+    if price < MIN_PRICE {
+        return None;
     }
-    price as u32
+    Some(price as u32)
 }
 
-// The price of a litre for a tier, or 0 where 12 applies.
-fn price_for(base: u32, steps: &[i32], tier: u32) -> u32
+// The price of a litre for a tier; none where 12 applies.
+fn price_for(base: u32, steps: &[i32], tier: u32) -> Option<u32>
     requires { tier ≤ max_tier }
-    ensures { result ≡ price_or_0 base steps.now tier }
+    ensures { result ≡ positive (price_or_0 base steps.now tier) }
 {
-    if !is_base(base) {
-        return 0;
-    }
-    if steps.len() != STEPS {
-        return 0;
-    }
-    if !are_steps(steps) {
-        return 0;
+    if !is_base(base) || steps.len() != STEPS || !are_steps(steps) {
+        return None;
     }
     let step = steps[wide(tier)];
     litre_price(base, step)
 }
 
 // The sale of a key that was found at this tier: its record, or 4 or 12.
-fn open_at(key: u32, tier: u32, base: u32, steps: &[i32]) -> Opened
+fn open_at(key: u32, tier: u32, base: u32, steps: &[i32]) -> Result<Sale, Refusal>
     ensures numbered { number result ≡ tier_refusal tier base steps.now }
     ensures valued { values result ≡ tier_values key tier base steps.now }
 {
-    if MAX_TIER < tier {
-        return Opened::Refused(NOT_CANONICAL);
+    if tier > MAX_TIER {
+        return Err(Refusal::NotCanonical);
     }
-    let price = price_for(base, steps, tier);
-    if price == 0 {
-        return Opened::Refused(WRONG_PRICE);
-    }
-    let sale = Sale {
-        key: key,
-        tier: tier,
-        price: price,
+    let Some(price) = price_for(base, steps, tier) else {
+        return Err(Refusal::WrongPrice);
     };
-    Opened::Open(sale)
+    Ok(Sale { key, tier, price })
 }
 
 // Opens a sale of a key: its record, or 1, 2, 5, 7, 4 or 12.
-pub fn open(tabulation: &[u16], words: &[u32], key: u32, base: u32, steps: &[i32]) -> Opened
+pub fn open(
+    tabulation: &[u16],
+    words: &[u32],
+    key: u32,
+    base: u32,
+    steps: &[i32],
+) -> Result<Sale, Refusal>
     ensures numbered { number result ≡ sale_refusal tabulation.now words.now key base
         steps.now }
     ensures valued { values result ≡ sale_values tabulation.now words.now key base
         steps.now }
 {
-    let found = lookup_within(tabulation, words, key);
-    let Found::Listed(tier) = found else {
-        let Found::Refused(n) = found else {
-            return Opened::Refused(KEY_ABSENT);
-        };
-        return Opened::Refused(n);
+    let Some(tier) = lookup_within(tabulation, words, key)? else {
+        return Err(Refusal::KeyAbsent);
     };
     open_at(key, tier, base, steps)
 }
@@ -144,20 +137,17 @@ pub fn open_over(
     ensures left { result.sale ≡ sale_left tabulation.now words.now key base
         steps.now old }
 {
-    let opened = open(tabulation, words, key, base, steps);
-    match opened {
-        Opened::Open(sale) => Written {
-            number: 0,
-            sale: sale,
-        },
-        Opened::Refused(n) => Written {
-            number: n,
+    match open(tabulation, words, key, base, steps) {
+        Ok(sale) => Written { number: 0, sale },
+        Err(refusal) => Written {
+            number: u32::from(refusal),
             sale: old,
         },
     }
 }
 
 // Closes a sale: the price that it was opened with.
+#[tactic(auto, unfolding(outcome::specs::Sale::closed))]
 pub fn close(sale: Sale) -> u32
     ensures { result ≡ closed sale }
 {

@@ -1,5 +1,5 @@
 -- From what was gathered and chosen to the outcome. Assumes nothing.
-use Rattle.std.specs.Prelude.{ℕ, ◌+◌, ◌-◌, ◌*◌, ◌≤◌, ◌<◌, ◌≡◌, refl, Bool, false, not, ◌&&◌, List, [], ◌∷◌, map, take, replicate}
+use Rattle.std.specs.Prelude.{ℕ, ◌+◌, ◌-◌, ◌*◌, ◌≤◌, ◌<◌, ◌≡◌, refl, Bool, false, not, ◌&&◌, List, [], ◌∷◌, map, take, replicate, Result, Ok, Err}
 use Rattle.std.proofs.Common.{sym, ◌∙◌, inl, inr, arith, ne_eqb}
 use Rattle.std.proofs.Math.Bool.{true}
 use Rattle.std.proofs.Math.Dec.{eqb}
@@ -9,7 +9,11 @@ use Rattle.basics.specs.Tests.{test}
 use Rattle.basics.specs.Sets.{keep, any}
 use Rattle.basics.proofs.Sets.{length_keep}
 use Rattle.refusals.specs.Refusal.{done, none_counts, first_refusal}
-use Rattle.refusals.proofs.Refusal.{front_none}
+use Rattle.refusals.specs.declared.Refusal.{Refusal}
+use Rattle.refusals.specs.declared.Refusal.TheVariants.{NoneCounts}
+use Rattle.refusals.specs.Answer.{number, number_of}
+use Rattle.refusals.proofs.Answer as Answer
+use Rattle.refusals.proofs.Refusals.{front_none}
 use Rattle.hashing.specs.Hash.{Hashing}
 use Rattle.layout.specs.declared.Header.{Header}
 use Rattle.layout.specs.Entries.{keys_of, tiered}
@@ -21,9 +25,7 @@ use Rattle.ordered.specs.Keys.{sorted, distinct}
 use Rattle.collect.specs.Collect.{collected}
 use Rattle.scratch_set.specs.Edges.{Lined, lined_buildable}
 use Rattle.gateway.specs.Committing.{Committable, Committed}
-use Rattle.survivors.specs.declared.Salvaged.{Salvaged}
-use Rattle.survivors.specs.declared.Salvaged.TheVariants.{Lost, Refused}
-use Rattle.survivors.specs.Salvage.{counts, counting, standing, standing_keys, survivors, occupied, lost_in, number}
+use Rattle.survivors.specs.Salvage.{counts, counting, standing, standing_keys, survivors, occupied, lost_in}
 use Rattle.survivors.specs.Salvage.{values}
 use Rattle.survivors.specs.Salvage.{area_refusals, nothing_counts, salvage_refusal, salvage_outcome}
 use Rattle.survivors.proofs.Spots.{counting_few}
@@ -44,14 +46,14 @@ pub record Gathered (tabulation ws target scratch : List ℕ) (h : Header) (m : 
   pub front : take (m + 1) scratch ≡ 0 ∷ map spot_key (counting tabulation ws)
 
 -- What is told where 1 to 3 passed, and the target: 15, and it stays; or how many are lost, and the survivors' image.
-pub data Told (tabulation ws target : List ℕ) (t : Salvaged) (us : List ℕ) : Type 0 where
-  hopeless : nothing_counts tabulation ws ≡ true → t ≡ Refused none_counts → us ≡ target
+pub data Told (tabulation ws target : List ℕ) (t : Result ℕ Refusal) (us : List ℕ) : Type 0 where
+  hopeless : nothing_counts tabulation ws ≡ true → t ≡ Err NoneCounts → us ≡ target
       → Told tabulation ws target t us
-  saved : nothing_counts tabulation ws ≡ false → t ≡ Lost (lost_in tabulation ws)
+  saved : nothing_counts tabulation ws ≡ false → t ≡ Ok (lost_in tabulation ws)
       → us ≡ image (params_of tabulation ws) (survivors tabulation ws) → Told tabulation ws target t us
 
 -- what the call tells and leaves but for scratch
-abbrev pub ToldOfSalvage : (tabulation ws target scratch : List ℕ) → Salvaged → List ℕ → Type 0
+abbrev pub ToldOfSalvage : (tabulation ws target scratch : List ℕ) → Result ℕ Refusal → List ℕ → Type 0
 ToldOfSalvage tabulation ws target scratch t us =
     let o = salvage_outcome tabulation ws target scratch in
     (number t ≡ o.number) × ((values t ≡ o.values) × (us ≡ o.target))
@@ -174,20 +176,20 @@ module _ (tabulation ws target scratch : List ℕ) where
   abbrev tests : List (ℕ × Bool)
   tests = area_refusals tabulation ws (length target) (length scratch)
 
-  refused : {n : ℕ} → n ≡ salvage_refusal tabulation ws (length target) (length scratch) → (n ≡ 0 → ⊥)
-      → ToldOfSalvage tabulation ws target scratch (Refused n) target
-  refused {n} e z =
+  refused : (r : Refusal) → number_of r ≡ salvage_refusal tabulation ws (length target) (length scratch)
+      → ToldOfSalvage tabulation ws target scratch (Err r) target
+  refused r e =
       let a = e ∙ sym (salvage_number tabulation ws target scratch) in
-      let b : (salvage_outcome tabulation ws target scratch).number ≡ done → ⊥ = λ q. z (a ∙ q) in (
+      let b : (salvage_outcome tabulation ws target scratch).number ≡ done → ⊥ = λ q. Answer.refused r (a ∙ q) in (
         a,
         (sym (salvage_untold tabulation ws target scratch b), sym (salvage_refused tabulation ws target scratch b)),
       )
 
   -- 1, 2, 2 or 3;
-  pub told_early : {n : ℕ} → n ≡ first_refusal tests → (n ≡ 0 → ⊥)
-      → ToldOfSalvage tabulation ws target scratch (Refused n) target
-  told_early e z =
-      refused (e ∙ sym (salvage_area tabulation ws (length target) (length scratch) (λ q. z (e ∙ q)))) z
+  pub told_early : (r : Refusal) → number_of r ≡ first_refusal tests
+      → ToldOfSalvage tabulation ws target scratch (Err r) target
+  told_early r e =
+      refused r (e ∙ sym (salvage_area tabulation ws (length target) (length scratch) (λ q. Answer.refused r (e ∙ q))))
 
   pub early_salvable : {n : ℕ} → n ≡ first_refusal tests → n ≡ 0
       → Salvable tabulation ws (length target) (length scratch)
@@ -195,12 +197,12 @@ module _ (tabulation ws target scratch : List ℕ) where
       none_salvable tabulation ws (length target) (length scratch) (front_none tests [] (sym e ∙ z) refl)
 
   -- then 15, or how many are lost.
-  pub told_set : Salvable tabulation ws (length target) (length scratch) → {t : Salvaged} {us : List ℕ}
+  pub told_set : Salvable tabulation ws (length target) (length scratch) → {t : Result ℕ Refusal} {us : List ℕ}
       → Told tabulation ws target t us → ToldOfSalvage tabulation ws target scratch t us
   told_set h {t} {us} (hopeless b e f) =
       let a : salvage_refusal tabulation ws (length target) (length scratch) ≡ none_counts =
       salvage_passed tabulation ws (length target) (length scratch) h ∙ (rw b) in
-      rw (e, f) (refused {n = none_counts} (sym a) (λ z. omega arith))
+      rw (e, f) (refused NoneCounts (sym a))
   told_set h {t} {us} (saved b e f) =
       let a : (salvage_outcome tabulation ws target scratch).number ≡ done =
       salvage_number tabulation ws target scratch
@@ -214,7 +216,7 @@ module _ (tabulation ws target scratch : List ℕ) where
       )
 
   -- and with scratch cleared that is its outcome
-  pub told_cleared : (t : Salvaged) {us sheet : List ℕ} → ToldOfSalvage tabulation ws target scratch t us
+  pub told_cleared : (t : Result ℕ Refusal) {us sheet : List ℕ} → ToldOfSalvage tabulation ws target scratch t us
       → sheet ≡ replicate (length scratch) 0
       → record { number = number t; values = values t; words = ws; target = us; scratch = sheet }
       ≡ salvage_outcome tabulation ws target scratch

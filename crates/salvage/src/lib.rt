@@ -4,11 +4,12 @@
 #![tactic(auto)]
 
 ghost use Rattle.std.specs.Prelude.{◌≡◌, not, ◌&&◌, ◌∷◌, ◌+◌, ◌*◌, ◌≤◌, ◌<◌, eqb, length};
+ghost use Rattle.refusals.specs.Answer.{number};
 ghost use Rattle.refusals.specs.Refusal.{first_refusal};
 ghost use Rattle.layout.specs.Layout.{max_places, place_width, slots_of, place_entries, slot_entry, stash_entries};
 ghost use Rattle.layout.specs.Layout.{params_of, header_of, image};
 ghost use Rattle.layout.specs.Shape.{Shaped};
-ghost use Rattle.survivors.specs.Salvage.{counting, standing_keys, survivors, number, values, area_refusals};
+ghost use Rattle.survivors.specs.Salvage.{counting, standing_keys, survivors, values, area_refusals};
 ghost use Rattle.survivors.specs.Salvage.{salvage_outcome};
 ghost use Rattle.survivors.specs.Laws.{Salvable};
 ghost use Rattle.survivors.specs.Looked.{is_issue, sound_issue};
@@ -24,13 +25,13 @@ use edges::pack;
 use gateway::{clear, commit};
 use layout::{Header, PLACE_WIDTH};
 use ranges::{TABULATION_LENGTH, first_part};
-use refusals::{NONE_COUNTS, SHORT_SCRATCH, WRONG_SHAPE, WRONG_TABULATION};
+use refusals::Refusal;
 use scratch_layout::edges_start;
 use slots::{first_slot, second_slot};
-use survivors::Salvaged;
 use words::wide;
 
-// An issue of a first part, with its tier; zeros where there is none.
+// An issue of a first part, with its tier; zeros where there is none. No Option: `choose` asks for keys that count, of
+// which an issue is always found, and would get a case that never comes.
 #[derive(Drop)]
 pub struct Issue {
     pub key: u32,
@@ -41,10 +42,7 @@ pub struct Issue {
 fn is_issue(key: u32, tier: u32, part: u32) -> bool
     ensures { result ≡ is_issue (entry_of key tier) part }
 {
-    if !is_sound(key, tier) {
-        return false;
-    }
-    first_part(key) == part
+    is_sound(key, tier) && first_part(key) == part
 }
 
 // The first sound issue of a key's first part in these places.
@@ -53,14 +51,12 @@ fn issue_in_places(places: &[u32], count: usize, key: u32) -> Issue
     ensures { entry_of result.key result.tier ≡ sound_issue (place_entries count places.now) key }
 {
     let part = first_part(key);
-    let mut i = 0;
-    while i < count {
+    for i in 0..count {
         let c = places[PLACE_WIDTH * i];
         let t = places[PLACE_WIDTH * i + 1];
         if is_issue(c, t, part) {
             return Issue { key: c, tier: t };
         }
-        i += 1;
     }
     Issue { key: 0, tier: 0 }
 }
@@ -108,40 +104,39 @@ fn choose(
 {
     let start = edges_start(r, s);
     let mut m = 0;
-    let mut i = 0;
-    while i < n {
+    for i in 0..n {
         let key = scratch[i + 1];
         let first = first_slot(tabulation, r, station, key);
         let second = second_slot(tabulation, r, station, key);
         let issue = issue_at(words, first, second, key);
-        if issue.key == key {
+        let stands = issue.key == key;
+        if stands {
             scratch[m + 1] = key;
             scratch[start + m] = pack(first, second, issue.tier);
             m += 1;
         }
-        i += 1;
     }
     m
 }
 
-// 1, 2 for the words, 2 for the length of the target, and 3 for that of scratch; or 0.
-fn area_refusal(tabulation: &[u16], words: &[u32], len: usize, room: usize) -> u32
-    ensures { result ≡ first_refusal (area_refusals tabulation.now words.now len room) }
+// 1, 2 for the words, 2 for the length of the target, and 3 for that of scratch.
+fn area_refusal(tabulation: &[u16], words: &[u32], len: usize, room: usize) -> Result<(), Refusal>
+    ensures { number result ≡ first_refusal (area_refusals tabulation.now words.now len room) }
 {
     if tabulation.len() != TABULATION_LENGTH {
-        return WRONG_TABULATION;
+        return Err(Refusal::WrongTabulation);
     }
     if !access::is_shaped(words) {
-        return WRONG_SHAPE;
+        return Err(Refusal::WrongShape);
     }
     if len != words.len() {
-        return WRONG_SHAPE;
+        return Err(Refusal::WrongShape);
     }
     let header = access::read_header(words);
     if room < access::scratch_for(header.slots, header.places) {
-        return SHORT_SCRATCH;
+        return Err(Refusal::ShortScratch);
     }
-    0
+    Ok(())
 }
 
 // Whether something stands in the words, and yet nothing counts.
@@ -167,9 +162,10 @@ fn write_survivors(
     let r = header.slots;
     let s = header.places;
     let n = make_set(&mut scratch[1..], counted);
-    let m = choose(tabulation, words, &mut *scratch, r, s, header.station, n);
+    let m = choose(tabulation, words, scratch, r, s, header.station, n);
     let heading = with_keys(header, m as u32);
-    commit(&mut *target, &mut *scratch, heading);
+    // They always fit.
+    let _ = commit(target, scratch, heading);
 }
 
 // The words passed 1 to 3: 15, or the survivors are written to the target.
@@ -179,7 +175,7 @@ fn salvage_set(
     target: &mut [u32],
     scratch: &mut [u32],
     header: Header,
-) -> Salvaged
+) -> Result<u32, Refusal>
     requires { Salvable tabulation.now words.now (length target.old) (length scratch.old)
         × (header ≡ header_of words.now) }
     ensures { Told tabulation.now words.now target.old result
@@ -188,20 +184,13 @@ fn salvage_set(
     let r = header.slots;
     let s = header.places;
     let occupied = count_occupied(words, r, s);
-    let counted = gather_counting(tabulation, words, &mut *scratch, r, s, header.station);
+    let counted = gather_counting(tabulation, words, scratch, r, s, header.station);
     if is_hopeless(occupied, counted) {
-        return Salvaged::Refused(NONE_COUNTS);
+        return Err(Refusal::NoneCounts);
     }
-    write_survivors(
-        tabulation,
-        words,
-        &mut *target,
-        &mut *scratch,
-        header,
-        counted,
-    );
+    write_survivors(tabulation, words, target, scratch, header, counted);
     let lost = occupied - counted;
-    Salvaged::Lost(lost as u32)
+    Ok(lost as u32)
 }
 
 // The whole of the call but for the clearing of scratch.
@@ -210,16 +199,13 @@ fn salvage_words(
     words: &[u32],
     target: &mut [u32],
     scratch: &mut [u32],
-) -> Salvaged
+) -> Result<u32, Refusal>
     ensures { ToldOfSalvage tabulation.now words.now target.old
         scratch.old result target.new }
 {
-    let refusal = area_refusal(tabulation, words, target.len(), scratch.len());
-    if refusal != 0 {
-        return Salvaged::Refused(refusal);
-    }
+    area_refusal(tabulation, words, target.len(), scratch.len())?;
     let header = access::read_header(words);
-    salvage_set(tabulation, words, &mut *target, &mut *scratch, header)
+    salvage_set(tabulation, words, target, scratch, header)
 }
 
 // Salvage: its whole outcome. The words are only read.
@@ -228,7 +214,7 @@ pub fn salvage(
     words: &[u32],
     target: &mut [u32],
     scratch: &mut [u32],
-) -> Salvaged
+) -> Result<u32, Refusal>
     ensures { record {
       number = number result;
       values = values result;
@@ -239,7 +225,7 @@ pub fn salvage(
         ≡ salvage_outcome tabulation.now words.now target.old
         scratch.old }
 {
-    let answer = salvage_words(tabulation, words, &mut *target, &mut *scratch);
-    clear(&mut *scratch);
+    let answer = salvage_words(tabulation, words, target, scratch);
+    clear(scratch);
     answer
 }

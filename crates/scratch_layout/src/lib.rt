@@ -2,13 +2,14 @@
 // steps of the build share it, and whoever reads what it leaves.
 #![tactic(auto)]
 
-ghost use Rattle.std.specs.Prelude.{◌≡◌, ◌*◌, ◌≤◌, ◌<◌, get_or, set};
+ghost use Rattle.std.specs.Prelude.{◌≡◌, ◌+◌, ◌*◌, ◌≤◌, ◌<◌, get_or, set};
 ghost use Rattle.forest.specs.Edges.{edge_at};
 ghost use Rattle.forest.specs.Graph.{edges_in};
 ghost use Rattle.build.specs.Scratch.{held_at, edges_at, stashed_at, sets_at, next_at};
 ghost use Rattle.build.specs.Scratch.{parts, with_stash, with_sets, with_next};
 ghost use Rattle.build.specs.Access.{Enough};
 
+use std::ops::Range;
 use words::wide;
 
 // A note has the smallest rank of the forest, and this times the one that closes the cycle: ranks are smaller.
@@ -47,6 +48,21 @@ pub fn next_start(r: u32, s: u32) -> usize
     ensures { result ≡ next_at r s }
 {
     wide(8 * r + 3 * s + 1)
+}
+
+// Where the graph of n ranks lies: what the slots hold, and then the edges.
+pub fn graph_range(r: u32, s: u32, n: usize) -> Range<usize>
+    requires { (r ≤ 1024) × (s ≤ 64) × (n ≤ 2 * r + s) }
+    ensures { (result.start ≡ held_at r s) × (result.end ≡ edges_at r s + n) }
+{
+    held_start(r, s)..edges_start(r, s) + n
+}
+
+pub fn sets_range(r: u32, s: u32) -> Range<usize>
+    requires { (r ≤ 1024) × (s ≤ 64) }
+    ensures { (result.start ≡ sets_at r s) × (result.end ≡ next_at r s) }
+{
+    sets_start(r, s)..next_start(r, s)
 }
 
 // The edge of a rank.

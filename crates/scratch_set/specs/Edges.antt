@@ -1,7 +1,7 @@
 -- The edge of a key: its two slots and its tier in one word (`edges`). And a set in scratch: its keys, each at its
 -- rank, and their edges, made one by one, whatever tells the tiers. The definitions come first; the laws say that such
 -- a set can be built, and that its ranks have the slots of its keys. Assumes nothing.
-use Rattle.std.specs.Prelude.{ℕ, zero, suc, ◌+◌, ◌*◌, ◌≤◌, ◌<◌, ◌≡◌, cond, List, ◌∷◌, map, ltb, length, get_or, take, drop, set}
+use Rattle.std.specs.Prelude.{ℕ, zero, suc, ◌+◌, ◌*◌, ◌≤◌, ◌<◌, ◌≡◌, cond, List, ◌∷◌, map, ltb, length, get_or, take, drop, set, Option, Some, None}
 use Rattle.std.proofs.Common.{zero-le, ◌∙◌, ap, inl, inr, add-one, arith, le-ltb, lt-ltb, take-add, drop-drop, drop_at, take-take, get_or-take}
 use Rattle.std.proofs.Math.Path.{sym}
 use Rattle.std.proofs.lemmas.List.{length-map}
@@ -24,7 +24,6 @@ use Rattle.layout.specs.Shape.{Sized}
 use Rattle.layout.proofs.Shape.{by_own_family}
 use Rattle.build.specs.Scratch.{parts, held_at, edges_at, used}
 use Rattle.build.specs.Build.{edges_of, Built, Buildable}
-use Rattle.build.specs.declared.StashCount.{StashCount}
 
 -- No set has a tier above 7. In an edge 0 stands for it: the words have the large one, so that they are never the image with 0.
 abbrev pub small_tier : ℕ → ℕ
@@ -160,7 +159,7 @@ module _ {P : Params} {t : ℕ → ℕ} {S scratch : List ℕ} (D : Lined P t S 
     lined_second i l = sym (ap second_of (edge_is i l) ∙ edge_second (family P) Z.has_slots Z.slots_bound t (get_or S i 0))
 
 -- the build leaves it
-pub lined_built : {P : Params} {t : ℕ → ℕ} {S before after : List ℕ} {count : StashCount} → Lined P t S before → length after ≡ length before
+pub lined_built : {P : Params} {t : ℕ → ℕ} {S before after : List ℕ} {count : Option ℕ} → Lined P t S before → length after ≡ length before
     → used P.slots P.places ≤ length before → length S ≤ 2 * P.slots + P.places
     → Built P.slots P.places (length S) before after count → Lined P t S after
 unfolding parts

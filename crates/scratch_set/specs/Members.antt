@@ -1,6 +1,6 @@
 -- A set in scratch, its keys and their edges: two columns that move together. Where a key stands in it, or another issue of it, its tier, and the set with a key
 -- put in or taken out. The definitions come first: contracts cite them. Assumes nothing.
-use Rattle.std.specs.Prelude.{ℕ, ◌+◌, ◌*◌, ◌-◌, ◌≤◌, ◌<◌, ◌≡◌, refl, Bool, true, false, cond, eqb, get_or}
+use Rattle.std.specs.Prelude.{ℕ, ◌+◌, ◌*◌, ◌-◌, ◌≤◌, ◌<◌, ◌≡◌, refl, Bool, true, false, cond, eqb, get_or, Option, Some, None}
 use Rattle.std.proofs.Common.{sym, ◌∙◌, inl, inr, arith, eq-eqb, ne_eqb, take-take, drop-drop, drop_at, take-add, get_or-take, get_or-drop, length-take-le}
 use Rattle.std.proofs.Math.Path.{ap}
 use mathlib.Core.List.{List, [], ◌∷◌, ◌++◌, map, map-append, Memᴰ as In}
@@ -24,9 +24,7 @@ use Rattle.hashing.proofs.Issues.{not_blank_iff}
 use Rattle.layout.specs.Layout.{Params, another_issue, OneIssue, family}
 use Rattle.layout.proofs.IssuesAfter.{issue_before, issue_at, issue_nowhere}
 use Rattle.layout.specs.Shape.{Sized}
-use Rattle.layout.specs.Answers.{values}
-use Rattle.layout.specs.declared.Found.{Found}
-use Rattle.layout.specs.declared.Found.TheVariants.{Listed, Absent, Refused}
+use Rattle.layout.specs.Answers.{found}
 use Rattle.build.specs.Scratch.{edges_at, used}
 use Rattle.scratch_set.specs.Edges.{edge_with, edge_of, Lined, edge_tier}
 
@@ -246,17 +244,16 @@ pub place_lt : (scratch : List ℕ) (n key at : ℕ) → n < length scratch → 
 place_lt scratch n key at long asc q t = omega (arith, (bound_found key (keys_at n scratch) asc (member_in key (keys_at n scratch) t)).1, keys_length scratch n long)
 
 -- What is told of a key says whether it is one of the n.
-module _ (r s n at key : ℕ) (scratch : List ℕ) (f : Found) (told : values f ≡ looked_in r s n at key scratch) where
-  pub looked_listed : {t : ℕ} → f ≡ Listed t → member key (keys_at n scratch) ≡ true
+module _ (r s n at key : ℕ) (scratch : List ℕ) (f : Option ℕ) (told : found f ≡ looked_in r s n at key scratch) where
+  pub looked_listed : {t : ℕ} → f ≡ Some t → member key (keys_at n scratch) ≡ true
   looked_listed e = elim (test (member key (keys_at n scratch))) [
     | inl t ↦ t
-    | inr t ↦ let q = sym (ap values e) ∙ told in let z = rw t at q in absurd (zero_one (sym (ap first z)))
+    | inr t ↦ let q = sym (ap found e) ∙ told in let z = rw t at q in absurd (zero_one (sym (ap first z)))
   ]
 
-  pub looked_absent : ((t : ℕ) → f ≡ Listed t → ⊥) → member key (keys_at n scratch) ≡ false
+  pub looked_absent : ((t : ℕ) → f ≡ Some t → ⊥) → member key (keys_at n scratch) ≡ false
   looked_absent no' = elim (test (member key (keys_at n scratch))) [ inl t ↦ absurd (missed f no' (rw t at told)) | inr t ↦ t ]
     where
-      missed : (f : Found) → ((t : ℕ) → f ≡ Listed t → ⊥) → {t : ℕ} → values f ≡ 1 ∷ t ∷ [] → ⊥
-      missed (Listed t) n e = n t refl
-      missed Absent n e = zero_one (ap first e)
-      missed (Refused k) n e = zero_one (ap first e)
+      missed : (f : Option ℕ) → ((t : ℕ) → f ≡ Some t → ⊥) → {t : ℕ} → found f ≡ 1 ∷ t ∷ [] → ⊥
+      missed (Some t) n e = n t refl
+      missed None n e = zero_one (ap first e)

@@ -60,10 +60,8 @@ pub fn write_edges(
     ensures { Listed tabulation.now words.now scratch.new }
 {
     let start = edges_start(r, s);
-    let mut i = 0;
-    while i < n {
+    for i in 0..n {
         let key = scratch[i + 1];
         scratch[start + i] = edge_found(tabulation, words, r, station, key);
-        i += 1;
     }
 }

@@ -7,16 +7,14 @@ ghost use Rattle.std.specs.Prelude.{◌≡◌, ◌+◌, ◌*◌, ◌≤◌, ◌<
 ghost use Rattle.basics.specs.Sets.{member, Asc};
 ghost use Rattle.ordered.specs.Keys.{lower_bound};
 ghost use Rattle.hashing.specs.Hash.{tables, Hashing};
-ghost use Rattle.refusals.specs.Refusal.{done};
 ghost use Rattle.layout.specs.Entries.{max_tier};
 ghost use Rattle.layout.specs.Layout.{ValidKeys, another_issue, one_issue};
-ghost use Rattle.layout.specs.Answers.{number, values};
+ghost use Rattle.layout.specs.Answers.{found};
 ghost use Rattle.build.specs.Scratch.{edges_at, used};
 ghost use Rattle.scratch_set.specs.Edges.{edge_with};
 ghost use Rattle.scratch_set.specs.Members.{keys_at, KeyPlaced, tier_placed, looked_in, put_at, taken_out};
 
 use edge_column::edge_given;
-use layout::Found;
 use ordered::{lower_bound, shift_in, shift_out};
 use ranges::first_part;
 use scratch_layout::edges_start;
@@ -38,11 +36,7 @@ pub fn is_at(scratch: &[u32], n: usize, at: usize, key: u32) -> bool
         × (at ≡ lower_bound (keys_at n scratch.now) key) }
     ensures { result ≡ member key (keys_at n scratch.now) }
 {
-    if at < n {
-        let x = scratch[at + 1];
-        return x == key;
-    }
-    false
+    at < n && scratch[at + 1] == key
 }
 
 // Whether no two of the n keys are issues of one first part. No key has the first part 0.
@@ -50,15 +44,13 @@ pub fn one_issue(scratch: &[u32], n: usize) -> bool
     requires { (n < length scratch.now) × ValidKeys (keys_at n scratch.now) }
     ensures { result ≡ one_issue (keys_at n scratch.now) }
 {
-    let mut last: u32 = 0;
-    let mut i = 0;
-    while i < n {
+    let mut last = 0;
+    for i in 0..n {
         let part = first_part(scratch[i + 1]);
         if part == last {
             return false;
         }
         last = part;
-        i += 1;
     }
     true
 }
@@ -93,17 +85,16 @@ pub fn tier_at(scratch: &[u32], r: u32, s: u32, at: usize) -> u32
 }
 
 // What a lookup says of a key, by the set in scratch: its tier, or that it is not there; `at` is its place.
-pub fn look(scratch: &[u32], r: u32, s: u32, n: usize, at: usize, key: u32) -> Found
+pub fn look(scratch: &[u32], r: u32, s: u32, n: usize, at: usize, key: u32) -> Option<u32>
     requires { (((n < length scratch.now) × Asc (keys_at n scratch.now))
         × (at ≡ lower_bound (keys_at n scratch.now) key))
         × (((r ≤ 1024) × (s ≤ 64)) × (edges_at r s + n ≤ length scratch.now)) }
-    ensures numbered { number result ≡ done }
-    ensures valued { values result ≡ looked_in r s n at key scratch.now }
+    ensures { found result ≡ looked_in r s n at key scratch.now }
 {
     if is_at(scratch, n, at, key) {
-        return Found::Listed(tier_at(scratch, r, s, at));
+        return Some(tier_at(scratch, r, s, at));
     }
-    Found::Absent
+    None
 }
 
 // A key and its edge come to place `at` of n keys.
@@ -125,8 +116,8 @@ pub fn put_key(
 {
     let edge = edge_given(tabulation, r, station, key, tier);
     let start = edges_start(r, s);
-    shift_in(&mut *scratch, at + 1, n + 1, key);
-    shift_in(&mut *scratch, start + at, start + n, edge);
+    shift_in(scratch, at + 1, n + 1, key);
+    shift_in(scratch, start + at, start + n, edge);
 }
 
 // The key at place `at` of n keys goes, and its edge.
@@ -135,6 +126,6 @@ pub fn take_key(scratch: &mut [u32], r: u32, s: u32, n: usize, at: usize)
     ensures { scratch.new ≡ taken_out r s n at scratch.old }
 {
     let start = edges_start(r, s);
-    shift_out(&mut *scratch, at + 1, n + 1);
-    shift_out(&mut *scratch, start + at, start + n);
+    shift_out(scratch, at + 1, n + 1);
+    shift_out(scratch, start + at, start + n);
 }

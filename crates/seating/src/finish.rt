@@ -6,7 +6,7 @@ ghost use Rattle.build.specs.Scratch.{parts, with_graph};
 ghost use Rattle.build.specs.Access.{Enough};
 ghost use Rattle.build.specs.FinishCode.{Finishable, rank_finished, ranks_finished};
 
-use scratch_layout::{PAIR_BASE, edges_start, held_start, note, word};
+use scratch_layout::{PAIR_BASE, graph_range, note, word};
 
 // The graph is lent to `forest`.
 fn finish_tree(scratch: &mut [u32], r: u32, s: u32, n: usize, rank: u32)
@@ -15,9 +15,7 @@ fn finish_tree(scratch: &mut [u32], r: u32, s: u32, n: usize, rank: u32)
     ensures { parts r s n scratch.new ≡ with_graph (parts r s n scratch.old)
         (finished_tree r (parts r s n scratch.old).graph rank) }
 {
-    let start = held_start(r, s);
-    let end = edges_start(r, s) + n;
-    forest::finish_tree(&mut scratch[start..end], r, rank);
+    forest::finish_tree(&mut scratch[graph_range(r, s, n)], r, rank);
 }
 
 fn finish_cycle(scratch: &mut [u32], r: u32, s: u32, n: usize, rank: u32)
@@ -26,9 +24,7 @@ fn finish_cycle(scratch: &mut [u32], r: u32, s: u32, n: usize, rank: u32)
     ensures { parts r s n scratch.new ≡ with_graph (parts r s n scratch.old)
         (finished_cycle r (parts r s n scratch.old).graph rank) }
 {
-    let start = held_start(r, s);
-    let end = edges_start(r, s) + n;
-    forest::finish_cycle(&mut scratch[start..end], r, rank);
+    forest::finish_cycle(&mut scratch[graph_range(r, s, n)], r, rank);
 }
 
 // One rank: nothing is to be done for one of the stash, and for one that is not the smallest of its label.
@@ -36,18 +32,18 @@ fn finish_rank(scratch: &mut [u32], r: u32, s: u32, n: usize, rank: u32)
     requires { Enough r s n scratch.old × (rank ≤ n) × Finishable r n (parts r s n scratch.old) }
     ensures { parts r s n scratch.new ≡ rank_finished r rank (parts r s n scratch.old) }
 {
-    let label = word(&*scratch, r, s, n, rank);
+    let label = word(scratch, r, s, n, rank);
     if 2 * r <= label {
         return;
     }
-    let noted = note(&*scratch, r, s, n, label);
+    let noted = note(scratch, r, s, n, label);
     if noted % PAIR_BASE != rank {
         return;
     }
     if noted < PAIR_BASE {
-        finish_tree(&mut *scratch, r, s, n, rank);
+        finish_tree(scratch, r, s, n, rank);
     } else {
-        finish_cycle(&mut *scratch, r, s, n, noted / PAIR_BASE);
+        finish_cycle(scratch, r, s, n, noted / PAIR_BASE);
     }
 }
 
@@ -56,10 +52,7 @@ pub fn finish_ranks(scratch: &mut [u32], r: u32, s: u32, n: usize)
     requires { Enough r s n scratch.old × Finishable r n (parts r s n scratch.old) }
     ensures { parts r s n scratch.new ≡ ranks_finished r n (parts r s n scratch.old) }
 {
-    let last = n as u32;
-    let mut i = 0;
-    while i < last {
-        i += 1;
-        finish_rank(&mut *scratch, r, s, n, i);
+    for rank in 1..=n as u32 {
+        finish_rank(scratch, r, s, n, rank);
     }
 }

@@ -11,23 +11,21 @@ ghost use Rattle.build.specs.NextCode.{chained_parts};
 ghost use Rattle.build.specs.Whole.{noted_from, whole_noting};
 ghost use Rattle.build.specs.Build.{Buildable, Built};
 
-use build::StashCount;
-
 mod finish;
 mod next;
 
-// Steps 1 to 4: the ranks linked and labelled, noted, and the stash told.
-fn prepare(scratch: &mut [u32], r: u32, s: u32, n: usize) -> StashCount
+// Steps 1 to 4: the ranks linked, labelled and noted; how many of them the stash has, or None, where it has no room.
+fn prepare(scratch: &mut [u32], r: u32, s: u32, n: usize) -> Option<u32>
     requires { Buildable r s n scratch.old }
     ensures prepared { parts r s n scratch.new
         ≡ noted_from r s n (parts r s n scratch.old) }
     ensures counted { result ≡ answer (whole_noting r s n (parts r s n scratch.old)) }
 {
-    linking::link_ranks(&mut *scratch, r, s, n);
-    linking::label_ranks(&mut *scratch, r, s, n);
-    noting::clear_notes(&mut *scratch, r, s, n);
-    noting::note_smallest(&mut *scratch, r, s, n);
-    noting::note_closing(&mut *scratch, r, s, n)
+    linking::link_ranks(scratch, r, s, n);
+    linking::label_ranks(scratch, r, s, n);
+    noting::clear_notes(scratch, r, s, n);
+    noting::note_smallest(scratch, r, s, n);
+    noting::note_closing(scratch, r, s, n)
 }
 
 // Steps 5 and 6: every component brought to its seats, and the next ranks.
@@ -36,20 +34,17 @@ fn seat(scratch: &mut [u32], r: u32, s: u32, n: usize)
     ensures { parts r s n scratch.new
         ≡ chained_parts r n (ranks_finished r n (parts r s n scratch.old)) }
 {
-    finish::finish_ranks(&mut *scratch, r, s, n);
-    next::chain_ranks(&mut *scratch, r, s, n);
+    finish::finish_ranks(scratch, r, s, n);
+    next::chain_ranks(scratch, r, s, n);
 }
 
-// The build of n ranks by the edges in scratch: their image in scratch, or that the stash has no room. The words of the
-// keys and the edges stay.
-pub fn build(scratch: &mut [u32], r: u32, s: u32, n: usize) -> StashCount
+// The build of n ranks by the edges in scratch: their image in scratch and how many ranks the stash has, or None, where
+// the stash has no room for them. The words of the keys and the edges stay.
+pub fn build(scratch: &mut [u32], r: u32, s: u32, n: usize) -> Option<u32>
     requires { Buildable r s n scratch.old }
     ensures { Built r s n scratch.old scratch.new result }
 {
-    let count = prepare(&mut *scratch, r, s, n);
-    let StashCount::Ranks(k) = count else {
-        return StashCount::Overflow;
-    };
-    seat(&mut *scratch, r, s, n);
-    StashCount::Ranks(k)
+    let stashed = prepare(scratch, r, s, n)?;
+    seat(scratch, r, s, n);
+    Some(stashed)
 }

@@ -12,16 +12,13 @@ pub fn chain_ranks(scratch: &mut [u32], r: u32, s: u32, n: usize)
     requires { Enough r s n scratch.old }
     ensures { parts r s n scratch.new ≡ chained_parts r n (parts r s n scratch.old) }
 {
-    let m = 2 * r;
-    let mut rank = n as u32;
-    while 0 < rank {
-        let label = word(&*scratch, r, s, n, rank);
-        if label < m {
-            let last = note(&*scratch, r, s, n, label);
-            put_word(&mut *scratch, r, s, n, rank, last % PAIR_BASE);
-            put_note(&mut *scratch, r, s, n, label, rank);
+    for rank in (1..=n as u32).rev() {
+        let label = word(scratch, r, s, n, rank);
+        if label < 2 * r {
+            let last = note(scratch, r, s, n, label);
+            put_word(scratch, r, s, n, rank, last % PAIR_BASE);
+            put_note(scratch, r, s, n, label, rank);
         }
-        rank -= 1;
     }
-    put_word(&mut *scratch, r, s, n, 0, 0);
+    put_word(scratch, r, s, n, 0, 0);
 }

@@ -13,13 +13,6 @@ const HALF_LENGTH: usize = 1280;
 
 const STATION_STRETCH: usize = 1024;
 
-// An entry of a tabulation as a 32-bit number.
-fn entry_wide(x: u16) -> u32
-    ensures { (result ≡ x) × (result < 65536) }
-{
-    x as u32
-}
-
 // The hash of a key in a table of r slots, at a station. The table's half of the tabulation and r are taken before the
 // loop over the bytes of the key's first part, and neither anew for a byte. The station's entry comes last.
 pub fn hash_in(tabulation: &[u16], table: usize, r: u32, station: u32, key: u32) -> u32
@@ -27,19 +20,16 @@ pub fn hash_in(tabulation: &[u16], table: usize, r: u32, station: u32, key: u32)
     ensures { result ≡ hash (tables tabulation.now r station) table key }
 {
     let start = HALF_LENGTH * table;
-    let end = start + HALF_LENGTH;
-    let half = &tabulation[start..end];
+    let half = &tabulation[start..start + HALF_LENGTH];
     let part = first_part(key);
-    let mut sum: u32 = 0;
+    let mut sum = 0;
     let mut rest = part;
-    let mut i: usize = 0;
-    while i < 4 {
-        sum = sum + entry_wide(half[256 * i + (rest % 256) as usize]);
-        rest = rest / 256;
-        i = i + 1;
+    for i in 0..4 {
+        sum += u32::from(half[256 * i + (rest % 256) as usize]);
+        rest /= 256;
     }
     let turned = (part % 256 + station) % 256;
-    (sum + entry_wide(half[STATION_STRETCH + turned as usize])) % r
+    (sum + u32::from(half[STATION_STRETCH + turned as usize])) % r
 }
 
 // The slot of a key in a table, in the row of both tables' slots: table 1's come after the r of table 0.

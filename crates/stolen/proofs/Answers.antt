@@ -8,12 +8,10 @@ use Rattle.ordered.specs.Keys.{with_key}
 use Rattle.refusals.specs.Refusal.{done, wrong_tabulation, wrong_shape, not_canonical, blank_key, key_present}
 use Rattle.refusals.specs.Refusal.{table_full}
 use Rattle.refusals.specs.Refusal.{first_refusal}
-use Rattle.refusals.proofs.Refusal.{first_refusal_in}
+use Rattle.refusals.proofs.Refusals.{first_refusal_in}
 use Rattle.hashing.specs.Hash.{tabulation_length, slots_in_range, station_in_range, blank, Family, tables}
 use Rattle.hashing.specs.Slots.{slot_0}
 use Rattle.probing.specs.Rule.{table_image, look, table_keys}
-use Rattle.stolen.specs.declared.Reported.{Reported}
-use Rattle.stolen.specs.declared.Reported.TheVariants.{Yes, No, Refused}
 use Rattle.stolen.specs.Answers.{stolen_family, stolen_image, stolen_init_refusal, stolen_init_words, stolen_lookup_refusals, stolen_lookup_refusal, says, stolen_lookup_values, stolen_insert_refusals, stolen_insert_refusal, stolen_insert_words}
 
 -- The laws. Which numbers each call can answer, in the order in which it tries them.

@@ -14,7 +14,7 @@ use Rattle.basics.proofs.Sets.{in_member}
 use Rattle.ordered.specs.Keys.{with_key}
 use Rattle.ordered.proofs.Place.{asc_with, with_cases, length_with}
 use Rattle.refusals.specs.Refusal.{done, table_full, None, none, and}
-use Rattle.refusals.proofs.Refusal.{front_none, last_turned}
+use Rattle.refusals.proofs.Refusals.{front_none, last_turned}
 use Rattle.hashing.specs.Hash.{tabulation_length, slots_in_range, station_in_range, blank, Family}
 use Rattle.hashing.proofs.Hash.{in_range_pos}
 use Rattle.hashing.specs.Slots.{slot_0}

@@ -1,7 +1,7 @@
 -- What the calls on a list of stolen keys ('stolen-card list') answer and leave, for every tabulation, words, station
 -- and key (document 02, "Nine"). The contracts are equalities with these definitions. They and probing's Rule.antt are
 -- what a reader must believe.
-use Rattle.std.specs.Prelude.{ℕ, ◌≡◌, Bool, not, cond, ◌&&◌, eqb, length, replicate}
+use Rattle.std.specs.Prelude.{ℕ, ◌≡◌, Bool, true, false, not, cond, ◌&&◌, eqb, length, replicate, Result, Ok, Err}
 use mathlib.Core.List.{List, [], ◌∷◌, ◌++◌, Memᴰ as In}
 use Rattle.std.proofs.Common.{eq-eqb, ne_eqb}
 use Rattle.basics.specs.Sets.{member, any}
@@ -13,8 +13,7 @@ use Rattle.refusals.specs.Refusal.{first_refusal}
 use Rattle.hashing.specs.Hash.{tabulation_length, slots_in_range, station_in_range, blank, Family, tables}
 use Rattle.hashing.specs.Slots.{slot_0}
 use Rattle.probing.specs.Rule.{table_image, look, table_keys}
-use Rattle.stolen.specs.declared.Reported.{Reported}
-use Rattle.stolen.specs.declared.Reported.TheVariants.{Yes, No, Refused}
+use Rattle.refusals.specs.declared.Refusal.{Refusal}
 
 -- "one rack of 1 to 1,024 one-word pockets": the words are the slots, as many as they are long. "A card starts at its
 -- rack 0 place under a given station number."
@@ -44,16 +43,11 @@ stolen_shape_refusals tabulation ws station =
 
 -- lookup
 
--- document 01's number of an answer, and its values: 1 for yes, 0 for no
-abbrev pub number : Reported → ℕ
-number Yes = done
-number No = done
-number (Refused n) = n
-
-abbrev pub values : Reported → List ℕ
-values Yes = 1 ∷ []
-values No = 0 ∷ []
-values (Refused n) = []
+-- the values of a lookup's answer: 1 for yes, 0 for no
+abbrev pub values : Result Bool Refusal → List ℕ
+values (Ok true) = 1 ∷ []
+values (Ok false) = 0 ∷ []
+values (Err refusal) = []
 
 -- "Look-up checks 1, 2 (length or station) and 5"
 abbrev pub stolen_lookup_refusals : List ℕ → List ℕ → ℕ → ℕ → List (ℕ × Bool)

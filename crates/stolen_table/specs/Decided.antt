@@ -1,9 +1,8 @@
 -- What the tests of lookup and insert come to, in the terms of the definitions that they promise. Assumes nothing.
-use Rattle.std.specs.Prelude.{ℕ, ◌-◌, ◌<◌, ◌≡◌, true, false, not, ◌&&◌, length, get_or}
+use Rattle.std.specs.Prelude.{ℕ, ◌-◌, ◌<◌, ◌≡◌, true, false, ◌&&◌, length, get_or}
 use Rattle.std.proofs.Math.Path.{refl}
-use Rattle.std.proofs.Common.{sym, ◌∙◌, inl, inr, arith, ltb-true}
+use Rattle.std.proofs.Common.{sym, ◌∙◌, arith, ltb-true}
 use mathlib.Core.List.{List, Memᴰ as In}
-use Rattle.std.proofs.lemmas.Bool.{not-false}
 use Rattle.basics.proofs.Tests.{and_true}
 use Rattle.basics.specs.Sets.{member}
 use Rattle.basics.proofs.Sets.{in_member}

@@ -1,7 +1,7 @@
 -- The round over the slots, a turn at a time, and the walls that it keeps. Assumes nothing.
 use Prim.Native.Nat.{ℕ, suc, ◌+◌, ◌-◌, ◌<◌, ◌≤◌}
-use Rattle.std.specs.Prelude.{◌≡◌, true, false, ◌&&◌, List, leb, length, get_or, set}
-use Rattle.std.proofs.Common.{sym, ◌∙◌, inl, inr, eq-eqb, ne_eqb, le-leb, get_or-set_same, get_or-set_other}
+use Rattle.std.specs.Prelude.{◌≡◌, true, false, ◌&&◌, List, leb, length, set}
+use Rattle.std.proofs.Common.{◌∙◌, inl, inr, eq-eqb, ne_eqb, le-leb, get_or-set_same, get_or-set_other}
 use Rattle.std.proofs.Math.Numerals.{add-one}
 use native.Mathlib.Omega.{arith}
 use Rattle.std.proofs.lemmas.Bool.{lt-leb}

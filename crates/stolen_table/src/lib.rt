@@ -3,18 +3,18 @@
 #![tactic(auto)]
 
 ghost use Rattle.std.specs.Prelude.{◌≡◌, ◌&&◌, ◌≤◌, ◌<◌, length};
+ghost use Rattle.refusals.specs.Answer.{number};
 ghost use Rattle.hashing.specs.Hash.{slots_in_range, station_in_range, tables, Hashing};
 ghost use Rattle.hashing.specs.Slots.{slot_0};
 ghost use Rattle.probing.specs.Moves.{right};
 ghost use Rattle.probing.specs.Walls.{Barrier};
-ghost use Rattle.stolen.specs.Answers.{number, values, stolen_family, stolen_canonical, stolen_init_refusal};
+ghost use Rattle.stolen.specs.Answers.{values, stolen_family, stolen_canonical, stolen_init_refusal};
 ghost use Rattle.stolen.specs.Answers.{stolen_init_words, stolen_lookup_refusal, stolen_lookup_values};
 ghost use Rattle.stolen.specs.Answers.{stolen_insert_refusal, stolen_insert_words};
 
 use probe::MAX_SLOTS;
 use ranges::TABULATION_LENGTH;
-use refusals::{BLANK_KEY, KEY_PRESENT, NOT_CANONICAL, TABLE_FULL, WRONG_SHAPE, WRONG_TABULATION};
-use stolen::Reported;
+use refusals::Refusal;
 use words::wide;
 
 // Whether a list may have this many slots.
@@ -32,15 +32,16 @@ fn in_shape(slots: usize, station: u32) -> bool
 }
 
 // Lays an empty list: zeros, whatever the words were; or 2, and they stay.
-pub fn init(words: &mut [u32]) -> u32
-    ensures numbered { result ≡ stolen_init_refusal words.old }
+#[tactic(auto, unfolding(stolen::specs::Answers::stolen_init_refusal, stolen::specs::Answers::stolen_init_words))]
+pub fn init(words: &mut [u32]) -> Result<(), Refusal>
+    ensures numbered { number result ≡ stolen_init_refusal words.old }
     ensures laid { words.new ≡ stolen_init_words words.old }
 {
     if !are_slots(words.len()) {
-        return WRONG_SHAPE;
+        return Err(Refusal::WrongShape);
     }
-    words::fill(words, 0);
-    0
+    words.fill(0);
+    Ok(())
 }
 
 // The slot where a key starts: its hash in table 0.
@@ -53,26 +54,24 @@ fn start_of(tabulation: &[u16], slots: usize, station: u32, key: u32) -> usize
 }
 
 // Whether the key is reported, on any words; or 1, 2 or 5.
-pub fn lookup(tabulation: &[u16], words: &[u32], station: u32, key: u32) -> Reported
+#[tactic(auto, using(crate::specs::Decided::shaped_hashing, crate::specs::Decided::key_positive), unfolding(stolen::specs::Answers::stolen_lookup_refusal, stolen::specs::Answers::stolen_lookup_values))]
+pub fn lookup(tabulation: &[u16], words: &[u32], station: u32, key: u32) -> Result<bool, Refusal>
     ensures numbered { number result
         ≡ stolen_lookup_refusal tabulation.now words.now station key }
     ensures valued { values result
         ≡ stolen_lookup_values tabulation.now words.now station key }
 {
     if tabulation.len() != TABULATION_LENGTH {
-        return Reported::Refused(WRONG_TABULATION);
+        return Err(Refusal::WrongTabulation);
     }
     if !in_shape(words.len(), station) {
-        return Reported::Refused(WRONG_SHAPE);
+        return Err(Refusal::WrongShape);
     }
     if ranges::is_blank(key) {
-        return Reported::Refused(BLANK_KEY);
+        return Err(Refusal::BlankKey);
     }
     let start = start_of(tabulation, words.len(), station, key);
-    if probe::is_found(words, start, key) {
-        return Reported::Yes;
-    }
-    Reported::No
+    Ok(probe::is_found(words, start, key))
 }
 
 // Whether a key is right at a turn of the round behind slot `base`: it is not blank, and starts behind its wall.
@@ -106,8 +105,7 @@ fn is_canonical(tabulation: &[u16], words: &[u32], station: u32, base: usize) ->
 {
     let slots = words.len();
     let mut walls = [0u16; MAX_SLOTS];
-    let mut turn = 0;
-    while turn < slots {
+    for turn in 0..slots {
         let key = words[probe::slot_of(slots, base, turn)];
         if key != 0 {
             let wall = probe::wall_of(words, &walls, base, turn, key);
@@ -116,39 +114,39 @@ fn is_canonical(tabulation: &[u16], words: &[u32], station: u32, base: usize) ->
             }
             walls[turn] = wall as u16;
         }
-        turn += 1;
     }
     true
 }
 
 // Puts a key in: the words are then the image of their set with the key; or 1, 2, 4, 5, 6 or 16, and they stay.
-pub fn insert(tabulation: &[u16], words: &mut [u32], station: u32, key: u32) -> u32
-    ensures numbered { result
+#[tactic(auto, using(crate::specs::Decided::shaped_hashing, crate::specs::Decided::key_positive, crate::specs::Decided::found_member), unfolding(stolen::specs::Answers::stolen_insert_refusal, stolen::specs::Answers::stolen_insert_words))]
+pub fn insert(tabulation: &[u16], words: &mut [u32], station: u32, key: u32) -> Result<(), Refusal>
+    ensures numbered { number result
         ≡ stolen_insert_refusal tabulation.now words.old station key }
     ensures laid { words.new
         ≡ stolen_insert_words tabulation.now words.old station key }
 {
     if tabulation.len() != TABULATION_LENGTH {
-        return WRONG_TABULATION;
+        return Err(Refusal::WrongTabulation);
     }
     let slots = words.len();
     if !in_shape(slots, station) {
-        return WRONG_SHAPE;
+        return Err(Refusal::WrongShape);
     }
-    let base = probe::barrier(&*words);
-    if !is_canonical(tabulation, &*words, station, base) {
-        return NOT_CANONICAL;
+    let base = probe::barrier(words);
+    if !is_canonical(tabulation, words, station, base) {
+        return Err(Refusal::NotCanonical);
     }
     if ranges::is_blank(key) {
-        return BLANK_KEY;
+        return Err(Refusal::BlankKey);
     }
     let start = start_of(tabulation, slots, station, key);
-    if probe::is_found(&*words, start, key) {
-        return KEY_PRESENT;
+    if probe::is_found(words, start, key) {
+        return Err(Refusal::KeyPresent);
     }
     if words[base] != 0 {
-        return TABLE_FULL;
+        return Err(Refusal::TableFull);
     }
     probe::carry(words, start, key);
-    0
+    Ok(())
 }

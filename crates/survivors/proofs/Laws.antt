@@ -15,7 +15,7 @@ use Rattle.basics.proofs.Sets.{any_true, true_any, any_false, false_any}
 use Rattle.basics.proofs.Lists.{keep_none}
 use Rattle.refusals.specs.Refusal.{done, wrong_tabulation, wrong_shape, short_scratch, none_counts, first_refusal}
 use Rattle.refusals.specs.Refusal.{None, none, and}
-use Rattle.refusals.proofs.Refusal.{first_refusal_in, front_applies, front_passes, front_none}
+use Rattle.refusals.proofs.Refusals.{first_refusal_in, front_applies, front_passes, front_none}
 use Rattle.hashing.specs.Hash.{Family, tabulation_length}
 use Rattle.layout.specs.Entries.{Entry, tiered}
 use Rattle.layout.specs.Layout.{Params, family, params_of, family_of, slots_of, places_of, station_of, words_length}

@@ -1,9 +1,10 @@
 -- Salvage (document 02, "Eight": reading a head that got wet): who survives in words of the right shape, whatever they
 -- hold, and the whole outcome of the call for every tabulation, words, target and scratch. The contracts are equalities
 -- with these definitions. This file is what a reader must believe; the others say what it means.
-use Rattle.std.specs.Prelude.{ℕ, Bool, true, not, cond, ◌&&◌, ◌||◌, List, [], ◌∷◌, ◌++◌, map, eqb, ltb, leb, length, replicate}
+use Rattle.std.specs.Prelude.{ℕ, Bool, true, not, cond, ◌&&◌, ◌||◌, List, [], ◌∷◌, ◌++◌, map, eqb, ltb, leb, length, replicate, Result, Ok, Err}
 use Rattle.basics.specs.Sets.{keep, any}
 use Rattle.refusals.specs.Refusal.{done, wrong_tabulation, wrong_shape, short_scratch, none_counts, first_refusal}
+use Rattle.refusals.specs.declared.Refusal.{Refusal}
 use Rattle.cuckoo.specs.Placement.{Place, slot, place}
 use Rattle.ordered.specs.Keys.{sorted, distinct}
 use Rattle.hashing.specs.Hash.{Family, tabulation_length, first_part, blank}
@@ -11,8 +12,6 @@ use Rattle.hashing.specs.Slots.{slot_0, slot_1}
 use Rattle.layout.specs.Entries.{Entry, max_tier, tiered, no_entry}
 use Rattle.layout.specs.Layout.{params_of, family_of, slots_of, places_of, scratch_length, shaped, image}
 use Rattle.layout.specs.Layout.{Spot, spots, spot_key}
-use Rattle.survivors.specs.declared.Salvaged.{Salvaged}
-use Rattle.survivors.specs.declared.Salvaged.TheVariants.{Lost, Refused}
 
 -- who survives
 
@@ -56,14 +55,10 @@ lost_in tabulation ws = length (keep (λ x. occupied x && not (counts (family_of
 
 -- the call
 
--- the paper's number of the answer, and its values: how many are lost
-abbrev pub number : Salvaged → ℕ
-number (Lost n) = done
-number (Refused n) = n
-
-abbrev pub values : Salvaged → List ℕ
-values (Lost n) = n ∷ []
-values (Refused n) = []
+-- the values of the answer: how many are lost
+abbrev pub values : Result ℕ Refusal → List ℕ
+values (Ok lost) = lost ∷ []
+values (Err refusal) = []
 
 -- "Checks are 1, 2 for the first area, 2 for the second's length, and 3", of a second area, the target, of n words and
 -- scratch of m;

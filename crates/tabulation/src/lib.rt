@@ -4,34 +4,34 @@
 
 ghost use Rattle.std.specs.Prelude.{◌≡◌};
 ghost use Rattle.hashing.specs.Hash.{tables};
-ghost use Rattle.hashing.specs.Answer.{number, values, hashes_refusal, hashes_values, written};
+ghost use Rattle.refusals.specs.Answer.{number};
+ghost use Rattle.hashing.specs.Answer.{values, hashes_refusal, hashes_values, written};
 
-use hashing::Hashed;
 use ranges::{TABULATION_LENGTH, in_range, is_blank, is_station};
-use refusals::{BLANK_KEY, WRONG_SHAPE, WRONG_TABULATION};
+use refusals::Refusal;
 use slots::hash_in;
 
 // Both hashes of a key, or 1, 2 or 5: for every tabulation, r, station and key.
-pub fn hashes(tabulation: &[u16], r: u32, station: u32, key: u32) -> Hashed
+pub fn hashes(tabulation: &[u16], r: u32, station: u32, key: u32) -> Result<(u32, u32), Refusal>
     ensures numbered { number result ≡ hashes_refusal (tables tabulation.now r station) key }
     ensures valued { values result ≡ hashes_values (tables tabulation.now r station) key }
 {
     if tabulation.len() != TABULATION_LENGTH {
-        return Hashed::Refused(WRONG_TABULATION);
+        return Err(Refusal::WrongTabulation);
     }
     if !in_range(r) {
-        return Hashed::Refused(WRONG_SHAPE);
+        return Err(Refusal::WrongShape);
     }
     if !is_station(station) {
-        return Hashed::Refused(WRONG_SHAPE);
+        return Err(Refusal::WrongShape);
     }
     if is_blank(key) {
-        return Hashed::Refused(BLANK_KEY);
+        return Err(Refusal::BlankKey);
     }
-    Hashed::At(
+    Ok((
         hash_in(tabulation, 0, r, station, key),
         hash_in(tabulation, 1, r, station, key),
-    )
+    ))
 }
 
 // `hashes` for C and Rust: the answer is document 01's number, 0 for done. Done, the two hashes are written to `first`
@@ -51,14 +51,13 @@ pub extern "C" fn pinorange_hashes(
     ensures second_hash { second.new
         ≡ written (tables tabulation.now r station) key 1 second.old }
 {
-    let h = hashes(tabulation, r, station, key);
-    match h {
-        Hashed::At(h0, h1) => {
+    match hashes(tabulation, r, station, key) {
+        Ok((h0, h1)) => {
             *first = h0;
             *second = h1;
             0
         }
-        Hashed::Refused(n) => n,
+        Err(refusal) => refusal.into(),
     }
 }
 

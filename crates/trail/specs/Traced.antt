@@ -1,6 +1,6 @@
 -- The trail call, from its steps to its outcome: which walk leads through the words of a dictionary, that it starts where the key sits, and what is answered and
 -- written. The contracts of the functions cite `seat_in`, `Traceable` and what is told: of a trail, of a set, of a call. Assumes nothing.
-use Rattle.std.specs.Prelude.{ℕ, zero, suc, ◌+◌, ◌-◌, ◌≤◌, ◌<◌, ◌≡◌, refl, true, false, cond, eqb, ltb, length, take, replicate}
+use Rattle.std.specs.Prelude.{ℕ, zero, suc, ◌+◌, ◌-◌, ◌≤◌, ◌<◌, ◌≡◌, refl, true, false, cond, eqb, ltb, length, take, replicate, Result, Ok, Err}
 use Rattle.std.proofs.Common.{sym, ◌∙◌, inl, inr, arith, eq-eqb, ne_eqb, lt-ltb, le-ltb, length-take-le}
 use Rattle.std.proofs.Math.Path.{ap}
 use mathlib.Core.List.{List, [], ◌∷◌, ◌++◌}
@@ -20,6 +20,10 @@ use Rattle.cuckoo.proofs.Trail.{seat_holds, trail_none}
 use Rattle.cuckoo.specs.Round.{path}
 use Rattle.cuckoo.proofs.Round.{path_none, path_step}
 use Rattle.refusals.specs.Refusal.{done, blank_key, key_absent, short_trail, first_refusal}
+use Rattle.refusals.specs.declared.Refusal.{Refusal}
+use Rattle.refusals.specs.declared.Refusal.TheVariants.{BlankKey, KeyAbsent, ShortTrail}
+use Rattle.refusals.specs.Answer.{number, number_of}
+use Rattle.refusals.proofs.Answer.{refused}
 use Rattle.hashing.specs.Hash.{tables, blank}
 use Rattle.hashing.specs.Slots.{slot_0, slot_1}
 use Rattle.hashing.proofs.Slots.{slot_0_lt, slot_1_le, slot_1_lt}
@@ -32,11 +36,7 @@ use Rattle.layout.proofs.Image.{image_key}
 use Rattle.layout.specs.declared.Header.{Header}
 use Rattle.layout.proofs.Shape.{same_header, by_own_family}
 use Rattle.layout.proofs.Standing.{keys_in_valid, not_blank}
-use Rattle.outcome.specs.declared.Traced.{Traced}
-use Rattle.outcome.specs.declared.Traced.TheVariants.{Length, Refused}
-use Rattle.outcome.specs.Trail.{number, values, trail_of, trail_in, trail_refusals, trail_refusal, trail_outcome}
-use Rattle.gateway.specs.declared.Loaded.{Loaded}
-use Rattle.gateway.specs.declared.Loaded.TheVariants as loaded
+use Rattle.outcome.specs.Trail.{values, trail_of, trail_in, trail_refusals, trail_refusal, trail_outcome}
 use Rattle.gateway.specs.Loading.{LoadedSet, LoadTold, loaded_refused, refused_first, loaded_passes}
 use Rattle.gateway.specs.LoadedSet.{loaded_shape, loaded_range}
 use Rattle.walking.specs.Walk.{key_of, across, Readable, Closed}
@@ -45,13 +45,13 @@ use Rattle.walking.specs.Cut.{Cut, met_keys, first_visit}
 use Rattle.walking.proofs.CutLaws.{cut_trail}
 
 -- What is told of a trail L, where n is the number: how many keys it has, and its keys with zeros behind them over the old words; refused, these stay.
-pub record TrailTold (n : ℕ) (L old : List ℕ) (t : Traced) (new : List ℕ) : Type 0 where
+pub record TrailTold (n : ℕ) (L old : List ℕ) (t : Result ℕ Refusal) (new : List ℕ) : Type 0 where
   pub numbered : number t ≡ n
   pub valued : values t ≡ cond (eqb n done) (length L ∷ []) []
   pub written : new ≡ cond (eqb n done) (L ++ replicate (length old - length L) 0) old
 
 -- what is told of the trail of a key of the set: 11 is all that can be refused
-abbrev pub ToldOfTrail : List ℕ → List ℕ → ℕ → List ℕ → (Traced → List ℕ → Type 0)
+abbrev pub ToldOfTrail : List ℕ → List ℕ → ℕ → List ℕ → (Result ℕ Refusal → List ℕ → Type 0)
 ToldOfTrail tabulation ws key old t new =
     TrailTold (first_refusal ((short_trail, ltb (length old) (length (trail_in tabulation ws key))) ∷ [])) (trail_in tabulation ws key) old t new
 
@@ -69,31 +69,33 @@ pub record Traceable (tabulation ws scratch : List ℕ) (r station key : ℕ) : 
   pub some_key : key ≡ 0 → ⊥
 
 -- The laws. What is told
-pub told_refused : {n m : ℕ} {L old : List ℕ} → n ≡ m → (n ≡ done → ⊥) → TrailTold m L old (Refused n) old
-told_refused {n} e z = rw (← e) (record { numbered = refl; valued = rw (ne_eqb n done z); written = rw (ne_eqb n done z) })
+pub told_refused : (refusal : Refusal) {m : ℕ} {L old : List ℕ} → number_of refusal ≡ m → TrailTold m L old (Err refusal) old
+told_refused refusal e =
+    let t = ne_eqb (number_of refusal) done (refused refusal) in
+    rw (← e) (record { numbered = refl; valued = rw t; written = rw t })
 
-pub told_length : {k m : ℕ} {L old new : List ℕ} → m ≡ done → k ≡ length L → new ≡ L ++ replicate (length old - length L) 0 → TrailTold m L old (Length k) new
+pub told_length : {k m : ℕ} {L old new : List ℕ} → m ≡ done → k ≡ length L → new ≡ L ++ replicate (length old - length L) 0 → TrailTold m L old (Ok k) new
 told_length {m = m} e q w =
     let t = eq-eqb m done e in
     record { numbered = sym e; valued = rw (t, q); written = rw t w }
 
-pub told_as : {n m : ℕ} {L old new : List ℕ} {t : Traced} → n ≡ m → TrailTold n L old t new → TrailTold m L old t new
+pub told_as : {n m : ℕ} {L old new : List ℕ} {t : Result ℕ Refusal} → n ≡ m → TrailTold n L old t new → TrailTold m L old t new
 told_as e R = rw (← e) R
 
 -- of a trail that is empty, too long, or written from the keys K of a walk
 pub told_empty : {L old new : List ℕ} → L ≡ [] → new ≡ replicate (length old) 0
-    → TrailTold (first_refusal ((short_trail, ltb (length old) (length L)) ∷ [])) L old (Length 0) new
+    → TrailTold (first_refusal ((short_trail, ltb (length old) (length L)) ∷ [])) L old (Ok 0) new
 told_empty {old = old} e w =
     let z : length old - 0 ≡ length old = omega arith in
     rw e (told_length (rw (le-ltb (length old) 0 (omega arith))) refl (rw z w))
 
 pub told_short : {q : ℕ} {L old : List ℕ} → length L ≡ q → length old < q
-    → TrailTold (first_refusal ((short_trail, ltb (length old) (length L)) ∷ [])) L old (Refused short_trail) old
-told_short {L = L} {old} e l = told_refused (rw (lt-ltb (length old) (length L) (omega arith))) (λ z. omega arith)
+    → TrailTold (first_refusal ((short_trail, ltb (length old) (length L)) ∷ [])) L old (Err ShortTrail) old
+told_short {L = L} {old} e l = told_refused ShortTrail (rw (lt-ltb (length old) (length L) (omega arith)))
 
 pub told_found : {q : ℕ} {L K M old new : List ℕ} → L ≡ take q K → length L ≡ q → M ≡ K → q ≤ length old
     → new ≡ mid_of 0 (q - 0) M ++ replicate (length old - length (mid_of 0 (q - 0) M)) 0
-    → TrailTold (first_refusal ((short_trail, ltb (length old) (length L)) ∷ [])) L old (Length q) new
+    → TrailTold (first_refusal ((short_trail, ltb (length old) (length L)) ∷ [])) L old (Ok q) new
 told_found {q} {L} {K} {M} {old} e n m l w =
     let z : q - 0 ≡ q = omega arith in
     let k : mid_of 0 (q - 0) M ≡ L = rw (z, m) (sym e) in
@@ -104,7 +106,7 @@ pub cleared : {n : ℕ} (X : List ℕ) {Y : List ℕ} → Y ≡ replicate (lengt
 cleared X e q l = (omega arith, rw q e)
 
 -- is the outcome.
-pub told_outcome : (tabulation ws scratch : List ℕ) (key : ℕ) {old new left : List ℕ} {t : Traced}
+pub told_outcome : (tabulation ws scratch : List ℕ) (key : ℕ) {old new left : List ℕ} {t : Result ℕ Refusal}
     → TrailTold (trail_refusal tabulation ws scratch key (length old)) (trail_in tabulation ws key) old t new → left ≡ replicate (length scratch) 0
     → record { number = number t; values = values t; words = ws; scratch = left; trail = new } ≡ trail_outcome tabulation ws scratch key old
 unfolding trail_outcome
@@ -238,33 +240,32 @@ loaded_traceable {key = key} Z e b =
 
 -- What a set that was loaded leads to: 5,
 module _ (tabulation ws : List ℕ) (key : ℕ) (old : List ℕ) where
-  abbrev pub ToldOfSet : Traced → List ℕ → Type 0
+  abbrev pub ToldOfSet : Result ℕ Refusal → List ℕ → Type 0
   ToldOfSet t new = TrailTold (first_refusal (trail_refusals tabulation ws key (length old))) (trail_in tabulation ws key) old t new
 
-  pub told_blank : blank key ≡ true → ToldOfSet (Refused blank_key) old
-  told_blank b = told_refused (rw b) (λ q. omega arith)
+  pub told_blank : blank key ≡ true → ToldOfSet (Err BlankKey) old
+  told_blank b = told_refused BlankKey (rw b)
 
   -- 7,
-  pub told_absent : blank key ≡ false → member key (keys_of (set_in tabulation ws)) ≡ false → ToldOfSet (Refused key_absent) old
-  told_absent b m = told_refused (rw (b, m)) (λ q. omega arith)
+  pub told_absent : blank key ≡ false → member key (keys_of (set_in tabulation ws)) ≡ false → ToldOfSet (Err KeyAbsent) old
+  told_absent b m = told_refused KeyAbsent (rw (b, m))
 
   -- and then the trail: 11, or nothing.
-  pub told_listed : blank key ≡ false → member key (keys_of (set_in tabulation ws)) ≡ true → {t : Traced} {new : List ℕ}
+  pub told_listed : blank key ≡ false → member key (keys_of (set_in tabulation ws)) ≡ true → {t : Result ℕ Refusal} {new : List ℕ}
       → ToldOfTrail tabulation ws key old t new → ToldOfSet t new
   told_listed b m = told_as (rw (b, m))
 
 -- The whole call: 1 to 4, as load refuses,
 module _ (tabulation ws scratch : List ℕ) (key : ℕ) (old : List ℕ) where
-  abbrev pub ToldOfCall : Traced → List ℕ → Type 0
+  abbrev pub ToldOfCall : Result ℕ Refusal → List ℕ → Type 0
   ToldOfCall t new = TrailTold (trail_refusal tabulation ws scratch key (length old)) (trail_in tabulation ws key) old t new
 
-  module _ {left : List ℕ} {l : Loaded} (T : LoadTold tabulation ws scratch left l) where
-    pub told_load : {n : ℕ} → l ≡ loaded.Refused n → ToldOfCall (Refused n) old
+  module _ {left : List ℕ} {l : Result Header Refusal} (T : LoadTold tabulation ws scratch left l) where
+    pub told_load : {refusal : Refusal} → l ≡ Err refusal → ToldOfCall (Err refusal) old
     unfolding trail_refusal
-    told_load e =
-        told_refused (refused_first tabulation ws scratch T e (trail_refusals tabulation ws key (length old))) (loaded_refused tabulation ws scratch T e).1
+    told_load {refusal} e = told_refused refusal (refused_first tabulation ws scratch T e (trail_refusals tabulation ws key (length old)))
 
     -- and what a set that was loaded leads to.
-    pub told_set : {h : Header} → l ≡ loaded.Set h → {t : Traced} {new : List ℕ} → ToldOfSet tabulation ws key old t new → ToldOfCall t new
+    pub told_set : {h : Header} → l ≡ Ok h → {t : Result ℕ Refusal} {new : List ℕ} → ToldOfSet tabulation ws key old t new → ToldOfCall t new
     unfolding trail_refusal
     told_set e = told_as (sym (loaded_passes tabulation ws scratch T e (trail_refusals tabulation ws key (length old))))

@@ -4,17 +4,17 @@
 #![tactic(auto)]
 
 ghost use Rattle.std.specs.Prelude.{◌≡◌};
+ghost use Rattle.refusals.specs.Answer.{number};
 ghost use Rattle.layout.specs.Layout.{header_of};
 ghost use Rattle.gateway.specs.Loading.{LoadedSet};
-ghost use Rattle.outcome.specs.Trail.{number, values, trail_outcome};
+ghost use Rattle.outcome.specs.Trail.{values, trail_outcome};
 ghost use Rattle.walking.specs.Walk.{Readable};
 ghost use Rattle.trail.specs.Traced.{seat_in, Traceable, ToldOfTrail, ToldOfSet, ToldOfCall};
 
 use access::key_in;
-use gateway::{Loaded, clear, load};
+use gateway::{clear, load};
 use layout::Header;
-use outcome::Traced;
-use refusals::{BLANK_KEY, KEY_ABSENT, SHORT_TRAIL};
+use refusals::Refusal;
 use scratch_set::{is_at, place_of};
 use slots::{first_slot, second_slot};
 use walking::cut::{cut, met, write_keys};
@@ -42,25 +42,25 @@ fn trace(
     station: u32,
     key: u32,
     trail: &mut [u32],
-) -> Traced
+) -> Result<u32, Refusal>
     requires { Traceable tabulation.now words.now scratch.old r station key }
     ensures { ToldOfTrail tabulation.now words.now key trail.old result
         trail.new }
 {
     let slot = seat_of(tabulation, words, r, station, key);
     if key_in(words, slot) != key {
-        fill(&mut *trail, 0);
-        return Traced::Length(0);
+        fill(trail, 0);
+        return Ok(0);
     }
-    clear(&mut *scratch);
-    let at = walk(tabulation, words, &mut *scratch, r, station, slot);
-    let count = cut(&*scratch, r, at.slot, at.steps);
+    clear(scratch);
+    let at = walk(tabulation, words, scratch, r, station, slot);
+    let count = cut(scratch, r, at.slot, at.steps);
     if trail.len() < count {
-        return Traced::Refused(SHORT_TRAIL);
+        return Err(Refusal::ShortTrail);
     }
-    let keys = met(&*scratch, r, at.steps);
-    write_keys(&mut *trail, &keys[0..count]);
-    Traced::Length(count as u32)
+    let keys = met(scratch, r, at.steps);
+    write_keys(trail, &keys[0..count]);
+    Ok(count as u32)
 }
 
 // The set of the words stands in scratch: 5, 7, or the trail of the key.
@@ -71,27 +71,27 @@ fn trace_listed(
     heading: Header,
     key: u32,
     trail: &mut [u32],
-) -> Traced
+) -> Result<u32, Refusal>
     requires { LoadedSet tabulation.now words.now scratch.old × (heading ≡ header_of words.now) }
     ensures { ToldOfSet tabulation.now words.now key trail.old result
         trail.new }
 {
     if ranges::is_blank(key) {
-        return Traced::Refused(BLANK_KEY);
+        return Err(Refusal::BlankKey);
     }
     let n = wide(heading.keys);
-    let at = place_of(&*scratch, n, key);
-    if !is_at(&*scratch, n, at, key) {
-        return Traced::Refused(KEY_ABSENT);
+    let at = place_of(scratch, n, key);
+    if !is_at(scratch, n, at, key) {
+        return Err(Refusal::KeyAbsent);
     }
     trace(
         tabulation,
         words,
-        &mut *scratch,
+        scratch,
         heading.slots,
         heading.station,
         key,
-        &mut *trail,
+        trail,
     )
 }
 
@@ -102,22 +102,12 @@ fn trail_words(
     scratch: &mut [u32],
     key: u32,
     trail: &mut [u32],
-) -> Traced
+) -> Result<u32, Refusal>
     ensures { ToldOfCall tabulation.now words.now scratch.old key
         trail.old result trail.new }
 {
-    let loaded = load(tabulation, words, &mut *scratch);
-    match loaded {
-        Loaded::Set(heading) => trace_listed(
-            tabulation,
-            words,
-            &mut *scratch,
-            heading,
-            key,
-            &mut *trail,
-        ),
-        Loaded::Refused(n) => Traced::Refused(n),
-    }
+    let heading = load(tabulation, words, scratch)?;
+    trace_listed(tabulation, words, scratch, heading, key, trail)
 }
 
 // The trail of a key: its whole outcome. The words are only read.
@@ -127,7 +117,7 @@ pub fn trail(
     scratch: &mut [u32],
     key: u32,
     trail: &mut [u32],
-) -> Traced
+) -> Result<u32, Refusal>
     ensures { record {
       number = number result;
       values = values result;
@@ -138,7 +128,7 @@ pub fn trail(
         ≡ trail_outcome tabulation.now words.now scratch.old key
         trail.old }
 {
-    let answer = trail_words(tabulation, words, &mut *scratch, key, &mut *trail);
-    clear(&mut *scratch);
+    let answer = trail_words(tabulation, words, scratch, key, trail);
+    clear(scratch);
     answer
 }

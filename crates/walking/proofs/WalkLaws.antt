@@ -1,5 +1,5 @@
 -- The laws of what specs/Walk.antt defines.
-use Rattle.std.specs.Prelude.{ℕ, zero, suc, ◌+◌, ◌*◌, ◌%◌, ◌<◌, ◌≤◌, ◌≡◌, refl, Bool, true, false, not, cond, ◌&&◌, ◌⊎◌, List, eqb, ltb, length, get_or, set, replicate}
+use Rattle.std.specs.Prelude.{ℕ, zero, suc, ◌+◌, ◌*◌, ◌%◌, ◌<◌, ◌≤◌, ◌≡◌, refl, Bool, true, false, not, ◌&&◌, List, eqb, ltb, length, get_or, set, replicate}
 use Rattle.std.proofs.Common.{sym, ◌∙◌, ap, inl, inr, arith, length-set, get_or-set_same, get_or-set_other}
 use borrow.Author.Tests.{eqb-true, eq-eqb, ne_eqb, lt-ltb, le-ltb}
 use Rattle.std.proofs.lemmas.List.{length-replicate, get_or-replicate}
@@ -7,11 +7,10 @@ use Rattle.basics.specs.Tests.{test}
 use Rattle.basics.proofs.Tests.{eq?, and_true}
 use Rattle.cuckoo.specs.Round.{path}
 use Rattle.cuckoo.proofs.Round.{path_none, path_step}
-use Rattle.hashing.specs.Hash.{Hashing, tables}
+use Rattle.hashing.specs.Hash.{tables}
 use Rattle.hashing.specs.Slots.{slot_0, slot_1}
 use Rattle.hashing.proofs.Slots.{slot_0_lt, slot_1_lt}
-use Rattle.layout.specs.Layout.{family_of, slots_of, station_of, slot_entry}
-use Rattle.layout.specs.Shape.{Shaped}
+use Rattle.layout.specs.Layout.{family_of, slots_of}
 use Rattle.layout.proofs.Shape.{by_own_family}
 use Rattle.walking.specs.Walk.{key_of, across, unvisited, with_visit, run_length, WalkRoom, New, Readable, Walked, Onward, Closed, Stepped}
 

@@ -1,24 +1,13 @@
 -- From the walk to the trail: the smallest key since the walk first came to the slot where it stands is the root, and the trail is the keys as far as it is
 -- first met. What the searches through the keys give, and why that is the trail of the definition. Assumes nothing.
-use Prim.Native.Nat.{ℕ, zero, suc, ◌+◌, ◌*◌, ◌-◌, ◌<◌, ◌≤◌}
-use Rattle.std.specs.Prelude.{◌≡◌, ◌⊎◌, List, ◌++◌, length, get_or, set, take, drop, replicate}
-use Rattle.std.proofs.Math.Path.{refl, ap}
-use Rattle.std.proofs.Common.{sym, ◌∙◌, inl, inr, arith, length-drop, get_or-take, get_or-drop, length-take-le, ext_get_or}
-use borrow.Rule.Slice.PartMut.{mid_of}
-use Rattle.std.proofs.Math.Seq.{take-length, paste}
-use Rattle.basics.proofs.Tests.{eq?}
+use Prim.Native.Nat.{ℕ, ◌+◌, ◌-◌, ◌<◌, ◌≤◌}
+use Rattle.std.specs.Prelude.{◌≡◌, ◌⊎◌, List, length, get_or, take, drop}
 use Rattle.basics.specs.Sets.{Asc}
-use Rattle.basics.proofs.Lists.{drop_zeros}
-use Rattle.basics.proofs.Parts.{part_lent, to_end, pasted_more}
-use Rattle.basics.proofs.Parts.{part_length}
-use Rattle.cuckoo.specs.Graph.{root, occupant}
+use Rattle.cuckoo.specs.Graph.{occupant}
 use Rattle.cuckoo.specs.Settling.{Settled}
 use Rattle.cuckoo.specs.Seating.{Ends}
 use Rattle.cuckoo.specs.Places.{Seat}
-use Rattle.cuckoo.proofs.Places.{seat_occupant}
-use Rattle.cuckoo.specs.Trail.{trail}
-use Rattle.cuckoo.specs.Round.{path, along}
-use Rattle.cuckoo.proofs.Round.{path_shift, under, under_path, trail_along, root_met, root_least_met}
+use Rattle.cuckoo.specs.Round.{path}
 use Rattle.walking.specs.Walk.{Closed}
 
 -- m is the smallest of the first n keys of K, and of all of them

@@ -1,20 +1,12 @@
 -- The walk by which code finds a trail: from slot to slot, each time along the key in it to that key's other slot, until it comes to a slot where it was. The
 -- first 2r words of scratch note, for each slot, after how many steps it was visited; the keys that are met stand in the 2r words behind. What a step
 -- does to these words, and what they say when the walk is over. Assumes nothing.
-use Rattle.std.specs.Prelude.{ℕ, zero, suc, ◌+◌, ◌*◌, ◌%◌, ◌<◌, ◌≤◌, ◌≡◌, refl, Bool, true, false, not, cond, ◌&&◌, ◌⊎◌, List, eqb, ltb, length, get_or, set, replicate}
-use Rattle.std.proofs.Common.{sym, ◌∙◌, ap, inl, inr, arith, length-set, get_or-set_same, get_or-set_other}
-use borrow.Author.Tests.{eqb-true, eq-eqb, ne_eqb, lt-ltb, le-ltb}
-use Rattle.std.proofs.lemmas.List.{length-replicate, get_or-replicate}
-use Rattle.basics.specs.Tests.{test}
-use Rattle.basics.proofs.Tests.{eq?, and_true}
+use Rattle.std.specs.Prelude.{ℕ, zero, suc, ◌+◌, ◌<◌, ◌≤◌, ◌≡◌, cond, ◌⊎◌, List, eqb, ltb, length, get_or, set}
 use Rattle.cuckoo.specs.Round.{path}
-use Rattle.cuckoo.proofs.Round.{path_none, path_step}
-use Rattle.hashing.specs.Hash.{Hashing, tables}
+use Rattle.hashing.specs.Hash.{Hashing}
 use Rattle.hashing.specs.Slots.{slot_0, slot_1}
-use Rattle.hashing.proofs.Slots.{slot_0_lt, slot_1_lt}
 use Rattle.layout.specs.Layout.{family_of, slots_of, station_of, slot_entry}
 use Rattle.layout.specs.Shape.{Shaped}
-use Rattle.layout.proofs.Shape.{by_own_family}
 
 -- the key in a slot of the words
 abbrev pub key_of : List ℕ → ℕ → ℕ

@@ -1,32 +1,16 @@
 // From the keys that a walk met to the trail: the root is the smallest since the walk first came to the slot where it
 // stands, and the trail ends where the root is first met (specs/Cut.antt).
 ghost use Rattle.std.specs.Prelude.{◌≡◌, ◌++◌, ◌-◌, ◌≤◌, ◌<◌, length, drop, replicate};
-ghost use Rattle.walking.specs.Cut.{Lesser, SmallestIn, Stands, First, Cut, Stretch, Met, met_keys, first_visit};
+ghost use Rattle.walking.specs.Cut.{SmallestIn, Stands, First, Cut, Stretch, Met, met_keys, first_visit};
 
 use words::{fill, wide};
-
-// The smaller of two keys.
-fn lesser(x: u32, y: u32) -> u32
-    ensures { Lesser x y result }
-{
-    if y < x {
-        return y;
-    }
-    x
-}
 
 // The smallest of some keys.
 fn smallest(keys: &[u32]) -> u32
     requires { 0 < length keys.now }
     ensures { SmallestIn keys.now result }
 {
-    let mut least = keys[0];
-    let mut i = 1;
-    while i < keys.len() {
-        least = lesser(least, keys[i]);
-        i += 1;
-    }
-    least
+    keys.iter().copied().min().unwrap()
 }
 
 // The first place of a key that is there.
@@ -34,11 +18,7 @@ fn find(keys: &[u32], key: u32) -> usize
     requires { Stands keys.now key }
     ensures { First keys.now key result }
 {
-    let mut i = 0;
-    while keys[i] != key {
-        i += 1;
-    }
-    i
+    keys.iter().position(|x| *x == key).unwrap()
 }
 
 // The keys that a walk met: a part of scratch.
@@ -58,19 +38,18 @@ pub fn cut(scratch: &[u32], r: u32, slot: u32, steps: u32) -> usize
 {
     let keys = met(scratch, r, steps);
     let back = wide(scratch[wide(slot)]) - 1;
-    let root = smallest(&keys[back..keys.len()]);
+    let root = smallest(&keys[back..]);
     find(keys, root) + 1
 }
 
-// Keys over the first words, the others as they are.
+// Keys over the first words, the others as they are. By an index: the library needs nothing of C but `memset`, and std's
+// `copy_from_slice` needs `memmove`.
 fn copy(words: &mut [u32], keys: &[u32])
     requires { length keys.now ≤ length words.old }
     ensures { words.new ≡ keys.now ++ drop (length keys.now) words.old }
 {
-    let mut i = 0;
-    while i < keys.len() {
+    for i in 0..keys.len() {
         words[i] = keys[i];
-        i += 1;
     }
 }
 
@@ -80,6 +59,6 @@ pub fn write_keys(words: &mut [u32], keys: &[u32])
     ensures { words.new ≡ keys.now
         ++ replicate (length words.old - length keys.now) 0 }
 {
-    fill(&mut *words, 0);
-    copy(&mut *words, keys);
+    fill(words, 0);
+    copy(words, keys);
 }

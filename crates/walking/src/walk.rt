@@ -38,13 +38,11 @@ fn goes_on(scratch: &[u32], slot: u32, steps: u32) -> bool
     requires { slot < length scratch.now }
     ensures { result ≡ (eqb (get_or scratch.now slot 0) 0 && not (eqb (steps % run_length) 0)) }
 {
-    if scratch[wide(slot)] != 0 {
-        return false;
-    }
-    steps % RUN != 0
+    scratch[wide(slot)] == 0 && steps % RUN != 0
 }
 
-// The step out of table 0: the slot is visited, and the walk goes on in table 1, in the other slot of its key.
+// The step out of table 0: the slot is visited, and the walk goes on in table 1, in the other slot of its key. The two
+// steps stay functions that call one another, and no loop over one: that form is asked of this project.
 #[cycle(out_of_0_out_of_1)]
 fn out_of_0(
     tabulation: &[u16],
@@ -59,18 +57,10 @@ fn out_of_0(
     ensures { Onward (across tabulation.now words.now) (key_of words.now) r
         scratch.old steps slot scratch.new result.steps result.slot }
 {
-    let key = visit(words, &mut *scratch, r, slot, steps);
+    let key = visit(words, scratch, r, slot, steps);
     let next = second_slot(tabulation, r, station, key);
-    if goes_on(&*scratch, next, steps + 1) {
-        return out_of_1(
-            tabulation,
-            words,
-            &mut *scratch,
-            r,
-            station,
-            next,
-            steps + 1,
-        );
+    if goes_on(scratch, next, steps + 1) {
+        return out_of_1(tabulation, words, scratch, r, station, next, steps + 1);
     }
     Stand {
         slot: next,
@@ -93,18 +83,10 @@ fn out_of_1(
     ensures { Onward (across tabulation.now words.now) (key_of words.now) r
         scratch.old steps slot scratch.new result.steps result.slot }
 {
-    let key = visit(words, &mut *scratch, r, slot, steps);
+    let key = visit(words, scratch, r, slot, steps);
     let next = first_slot(tabulation, r, station, key);
-    if goes_on(&*scratch, next, steps + 1) {
-        return out_of_0(
-            tabulation,
-            words,
-            &mut *scratch,
-            r,
-            station,
-            next,
-            steps + 1,
-        );
+    if goes_on(scratch, next, steps + 1) {
+        return out_of_0(tabulation, words, scratch, r, station, next, steps + 1);
     }
     Stand {
         slot: next,
@@ -127,12 +109,14 @@ fn run(
         scratch.old steps slot scratch.new result.steps result.slot }
 {
     if slot < r {
-        return out_of_0(tabulation, words, &mut *scratch, r, station, slot, steps);
+        out_of_0(tabulation, words, scratch, r, station, slot, steps)
+    } else {
+        out_of_1(tabulation, words, scratch, r, station, slot, steps)
     }
-    out_of_1(tabulation, words, &mut *scratch, r, station, slot, steps)
 }
 
-// The walk from a slot on, over scratch that is zeros, until it comes to a slot where it was.
+// The walk from a slot on, over scratch that is zeros, until it comes to a slot where it was: a `while`, since scratch
+// says when that is, and no count does.
 pub fn walk(
     tabulation: &[u16],
     words: &[u32],
@@ -146,15 +130,12 @@ pub fn walk(
     ensures { Closed (across tabulation.now words.now) (key_of words.now) start
         r scratch.new result.steps result.slot }
 {
-    let mut slot = start;
-    let mut steps = 0;
-    while scratch[wide(slot)] == 0 {
-        let at = run(tabulation, words, &mut *scratch, r, station, slot, steps);
-        slot = at.slot;
-        steps = at.steps;
+    let mut at = Stand {
+        slot: start,
+        steps: 0,
+    };
+    while scratch[wide(at.slot)] == 0 {
+        at = run(tabulation, words, scratch, r, station, at.slot, at.steps);
     }
-    Stand {
-        slot: slot,
-        steps: steps,
-    }
+    at
 }

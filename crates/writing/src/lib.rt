@@ -18,14 +18,14 @@ pub fn put_byte(out: &mut [u8], at: usize, byte: u8) -> usize
     at + 1
 }
 
-// How many digits a number has.
+// How many digits a number has: a `while`, since the number that is left says when it is done.
 fn digits(n: u64) -> usize
     ensures { result ≡ length (decimal n) }
 {
     let mut k = 1;
     let mut rest = n;
     while 9 < rest {
-        rest = rest / 10;
+        rest /= 10;
         k += 1;
     }
     k
@@ -38,7 +38,7 @@ fn digit(d: u64) -> u8
     48 + d as u8
 }
 
-// A number in decimal, from its last digit to its first.
+// A number in decimal, from its last digit to its first: a `while` that goes by the number, too.
 fn put_number(out: &mut [u8], at: usize, n: u64) -> usize
     requires { at + length (decimal n) ≤ length out.old }
     ensures { Written (decimal n) out.old at out.new result }
@@ -49,7 +49,7 @@ fn put_number(out: &mut [u8], at: usize, n: u64) -> usize
     while 9 < rest {
         i -= 1;
         out[i] = digit(rest % 10);
-        rest = rest / 10;
+        rest /= 10;
     }
     out[i - 1] = digit(rest);
     end

@@ -1,7 +1,6 @@
 -- `bulk_input::count` meets its contract.
-use native.Mathlib.Omega.{arith}
+use Rattle.std.proofs.Common.{arith}
 use Rattle.bulk.proofs.Input.{input_count}
-use borrow.Author.Rules.{rules}
 use Rattle.bulk_input.proofs.count.Goals as goal
 
 pub returns : goal.returns

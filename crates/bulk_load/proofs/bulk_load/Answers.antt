@@ -2,7 +2,6 @@
 use mathlib.Core.Path.{sym, ◌∙◌}
 use Rattle.outcome.proofs.Laws.{outcome_of}
 use Rattle.bulk.proofs.Laws.{bulk_scratch}
-use borrow.Author.Rules.{rules}
 use Rattle.bulk_load.proofs.bulk_load.Goals as goal
 
 pub returns : goal.returns

@@ -10,7 +10,6 @@ use Rattle.layout.specs.Answers.{fresh_header}
 use Rattle.layout.specs.Shape.{Sized}
 use Rattle.bulk_load.specs.Loading.{Fillable, load_sized, load_crowded, load_fillable, load_committable}
 use Rattle.bulk_load.specs.Loading.{load_committed}
-use borrow.Author.Rules.{rules}
 use Rattle.bulk_load.proofs.load_set.Goals as goal
 
 pub overflow_mul-r : goal.overflow_mul-r

@@ -3,7 +3,6 @@ use mathlib.Core.Path.{◌∙◌, ap}
 use native.Mathlib.Omega.{arith}
 use Rattle.layout.specs.Layout.{stash_at}
 use Rattle.candidates.specs.Candidates.{all_occupied}
-use borrow.Author.Rules.{rules}
 use Rattle.candidates.proofs.count_occupied.Goals as goal
 
 pub returns : goal.returns

@@ -6,13 +6,7 @@ use native.Mathlib.Omega.{arith}
 use lib.ListN.{length-set, length-take, length-drop}
 use Rattle.hashing.specs.Hash.{tables}
 use Rattle.candidates.specs.Candidates.{slots_few, gathered_counting}
-use borrow.Author.Rules.{rules}
 use Rattle.candidates.proofs.gather_counting.Goals as goal
-
-pub gather_slots-n-requires : goal.gather_slots-n-requires
-gather_slots-n-requires c =
-    let p = c.requires in
-    (p.0.0, (p.0.1.0, p.0.1.1.0), simp length-set (omega arith))
 
 pub gather_places-end-requires : goal.gather_places-end-requires
 gather_places-end-requires c =
@@ -21,11 +15,6 @@ gather_places-end-requires c =
     (c.args.r + c.args.r) in
     let e = simp length-set at c.gather_slots-n.auto.scratch in
     (simp (length-take, length-drop) (omega arith), omega arith, omega arith)
-
-pub shape_of-scratch : goal.shape_of-scratch
-shape_of-scratch c =
-    let e = simp length-set at c.gather_slots-n.auto.scratch in
-    search (rules, e)
 
 pub returns : goal.returns
 returns c =

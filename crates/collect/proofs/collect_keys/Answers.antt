@@ -4,7 +4,6 @@ use native.Mathlib.Omega.{arith}
 use lib.ListN.{length, length-take, length-drop}
 use Rattle.layout.specs.Layout.{key_words, keys_in}
 use Rattle.collect.specs.Collect.{non_blank, gathered_few, collected}
-use borrow.Author.Rules.{rules}
 use Rattle.collect.proofs.collect_keys.Goals as goal
 
 pub make_set-requires : goal.make_set-requires

@@ -20,7 +20,7 @@ stash_start-requires c = let h = same_header c.read_header-header.ensures in sea
 pub gather-end-requires : goal.gather-end-requires
 gather-end-requires c =
     let h = same_header c.read_header-header.ensures in
-    let l = non_blank_few c.args.words.now header_length slot_width (2 * c.wide.result) in
+    let l = non_blank_few c.args.words.now header_length slot_width (2 * c.wide-slots.result) in
     let e = simp length-set at c.gather-n.auto.scratch in
     (search rules, omega arith, omega arith)
 
@@ -32,7 +32,7 @@ shape_of-scratch c =
 pub returns : goal.returns
 returns c =
     let h = same_header c.read_header-header.ensures in
-    let f = rw (c.wide.ensures ∙ h.slots) at c.gather-n.ensures in
-    let e = c.wide-2.ensures ∙ h.places in
+    let f = rw (c.wide-slots.ensures ∙ h.slots) at c.gather-n.ensures in
+    let e = c.wide-places.ensures ∙ h.places in
     let g = rw (c.stash_start.ensures ∙ ap stash_at h.slots, e, f.front) at c.gather-end.ensures in
     let all = gathered_front c.args.words.now c.requires.0 c.args.scratch.now _ c.gather-end.result (omega arith) g.front (omega (arith, f.counted, g.counted)) in record { front = all.0; counted = all.1 }

@@ -4,7 +4,6 @@ use native.Mathlib.Omega.{arith}
 use lib.ListN.{take}
 use lib.Seq.{length-take-le, take-append-le}
 use Rattle.ordered.proofs.Distinct.{distinct_length}
-use borrow.Author.Rules.{rules}
 use Rattle.collect.proofs.make_set.Goals as goal
 
 pub slice_bounds-drop_doubles-end-2 : goal.slice_bounds-drop_doubles-end-2

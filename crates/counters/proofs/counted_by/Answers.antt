@@ -1,13 +1,13 @@
 -- `counters::counted_by` meets its contract: an accepted call moves `done` on, a refusal moves `refused` on.
-use borrow.Author.Tests.{eq-eqb, ne_eqb}
-use borrow.Author.Rules.{rules}
+use Rattle.std.proofs.Common.{ne_eqb}
+use Rattle.refusals.proofs.Answer.{refused}
 use Rattle.counters.specs.Counters.{counted}
 use Rattle.counters.proofs.counted_by.Goals as goal
 
-pub returns-then-answer-eq0 : goal.returns-then-answer-eq0
+pub returns-in-Ok : goal.returns-in-Ok
 unfolding counted
-returns-then-answer-eq0 c = simp (eq-eqb _ _ c.before.if-answer-eq0.true, c.one_more.ensures)
+returns-in-Ok c = simp (c.in-Ok.is, c.one_more.ensures)
 
-pub returns : goal.returns
+pub returns-in-Err : goal.returns-in-Err
 unfolding counted
-returns c = simp (ne_eqb _ _ c.before.if-answer-eq0.false, c.one_more-2.ensures)
+returns-in-Err c = simp (c.in-Err.is, ne_eqb _ _ (refused c.in-Err.field-0), c.one_more-in-Err.ensures)

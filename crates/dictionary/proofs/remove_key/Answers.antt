@@ -5,7 +5,6 @@ use mathlib.Core.Bool.{true}
 use mathlib.Core.Logic.{inl, inr}
 use denote.Enum.Declared.{tag_of}
 use Rattle.basics.specs.Sets.{member}
-use Rattle.layout.specs.contracts.Found.{the_type}
 use Rattle.scratch_set.specs.Members.{keys_at, looked_listed, looked_absent}
 use Rattle.dictionary.specs.Core.{searchable, in_range, at_lt, remove_absent, remove_committable}
 use Rattle.dictionary.specs.Core.{remove_committed}
@@ -15,8 +14,8 @@ use Rattle.dictionary.proofs.remove_key.Goals as goal
 pub place_of-at-requires : goal.place_of-at-requires
 place_of-at-requires c = searchable c.requires
 
-pub look-found-requires : goal.look-found-requires
-look-found-requires c =
+pub look-requires : goal.look-requires
+look-requires c =
     let b = in_range c.requires in
     ((searchable c.requires, c.place_of-at.ensures), ((b.0.slots_bound, b.1.0), omega (arith, b.1.1)))
 
@@ -25,15 +24,15 @@ returns-in_default c =
     let a = c.args in
     remove_absent c.requires c.place_of-at.ensures refl
     (looked_absent a.heading.slots a.heading.places a.n c.place_of-at.result a.key a.scratch.now
-    c.look-found.result c.look-found.ensures.valued
-    c.in_default.not-Listed)
+    c.look.result c.look.ensures
+    c.in_default.not-Some)
 
 pub take_key-requires : goal.take_key-requires
 take_key-requires c =
     let here : let a = c.args in member a.key (keys_at a.n a.scratch.now) ≡ true = let a = c.args in
     looked_listed a.heading.slots a.heading.places a.n c.place_of-at.result a.key a.scratch.now
-    c.look-found.result c.look-found.ensures.valued
-    c.in-Listed.is in
+    c.look.result c.look.ensures
+    c.in-Some.is in
     let b = in_range c.requires in
     ((b.0.slots_bound, b.1.0), (at_lt c.requires c.place_of-at.ensures refl (here), b.1.1))
 
@@ -41,16 +40,16 @@ pub overflow_sub-heading : goal.overflow_sub-heading
 overflow_sub-heading c =
     let here : let a = c.args in member a.key (keys_at a.n a.scratch.now) ≡ true = let a = c.args in
     looked_listed a.heading.slots a.heading.places a.n c.place_of-at.result a.key a.scratch.now
-    c.look-found.result c.look-found.ensures.valued
-    c.in-Listed.is in
+    c.look.result c.look.ensures
+    c.in-Some.is in
     omega (arith, at_lt c.requires c.place_of-at.ensures refl (here), c.requires.count)
 
 pub commit-requires : goal.commit-requires
 commit-requires c =
     let here : let a = c.args in member a.key (keys_at a.n a.scratch.now) ≡ true = let a = c.args in
     looked_listed a.heading.slots a.heading.places a.n c.place_of-at.result a.key a.scratch.now
-    c.look-found.result c.look-found.ensures.valued
-    c.in-Listed.is in
+    c.look.result c.look.ensures
+    c.in-Some.is in
     rw c.with_keys-next.ensures
     (remove_committable c.requires c.place_of-at.ensures refl (here) c.take_key.ensures
     c.take_key.auto.scratch)
@@ -59,7 +58,7 @@ pub returns : goal.returns
 returns c =
     let here : let a = c.args in member a.key (keys_at a.n a.scratch.now) ≡ true = let a = c.args in
     looked_listed a.heading.slots a.heading.places a.n c.place_of-at.result a.key a.scratch.now
-    c.look-found.result c.look-found.ensures.valued
-    c.in-Listed.is in
+    c.look.result c.look.ensures
+    c.in-Some.is in
     remove_committed c.requires c.place_of-at.ensures refl (here) c.take_key.ensures c.take_key.auto.scratch
     (rw c.with_keys-next.ensures at c.commit.ensures)

@@ -1,7 +1,6 @@
 -- `forest::edge` meets its contract.
 use native.Mathlib.Omega.{arith}
 use Rattle.forest.proofs.Graph.{edges_length, edge_word}
-use borrow.Author.Rules.{rules}
 use Rattle.forest.proofs.edge.Goals as goal
 
 pub bounds-graph-at : goal.bounds-graph-at

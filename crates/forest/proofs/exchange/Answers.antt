@@ -1,7 +1,5 @@
 -- `forest::exchange` meets its contract: the two calls one after the other, over edges that stay.
-use mathlib.Core.Path.{◌∙◌}
-use Rattle.forest.specs.Graph.{Kept}
-use Rattle.forest.proofs.Graph.{kept_start, kept_graph, kept_rank, kept_edges, turned, taken, exchange_done}
+use Rattle.forest.proofs.Graph.{kept_start, kept_graph, kept_rank, kept_edges, taken, taken_turned, exchange_done}
 use borrow.Author.Rules.{rules}
 use Rattle.forest.proofs.exchange.Goals as goal
 
@@ -17,23 +15,16 @@ reroot-requires c =
 
 pub first_slot-first-requires : goal.first_slot-first-requires
 first_slot-first-requires c =
-    let once : let a = c.args in Kept a.r a.graph.now c.reroot.new.graph = (turned c.requires.0 (taken c.requires.0 c.args.rank c.requires.2 c.args.low c.requires.3) _ _ c.requires.2 c.reroot.ensures).0 in
-    let K = once in
+    let K = taken_turned c.requires.0 c.args.rank c.requires.2 c.args.low c.requires.3 _ c.reroot.ensures in
     (kept_graph c.requires.0 K, rw (kept_edges c.requires.0 K) (kept_rank c.requires.0 (kept_start c.requires.0) c.args.low c.requires.3))
 
 pub reroot-requires-2 : goal.reroot-requires-2
 reroot-requires-2 c =
-    let once : let a = c.args in Kept a.r a.graph.now c.reroot.new.graph = (turned c.requires.0 (taken c.requires.0 c.args.rank c.requires.2 c.args.low c.requires.3) _ _ c.requires.2 c.reroot.ensures).0 in
-    let K = once in (
+    let K = taken_turned c.requires.0 c.args.rank c.requires.2 c.args.low c.requires.3 _ c.reroot.ensures in (
       kept_graph c.requires.0 K,
       search rules,
       rw (kept_edges c.requires.0 K) (kept_rank c.requires.0 (kept_start c.requires.0) c.args.low c.requires.3),
     )
-
-pub shape_of-graph : goal.shape_of-graph
-shape_of-graph c =
-    let once : let a = c.args in Kept a.r a.graph.now c.reroot.new.graph = (turned c.requires.0 (taken c.requires.0 c.args.rank c.requires.2 c.args.low c.requires.3) _ _ c.requires.2 c.reroot.ensures).0 in
-    c.reroot-2.auto.graph ∙ (once).size
 
 pub returns : goal.returns
 returns c =

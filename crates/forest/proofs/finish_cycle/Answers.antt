@@ -1,25 +1,20 @@
 -- `forest::finish_cycle` meets its contract: the calls one after the other, over edges that stay.
-use native.Mathlib.Omega.{arith}
-use Rattle.forest.specs.Graph.{Kept}
-use Rattle.forest.proofs.Graph.{kept_start, kept_graph, kept_edges, turned, cycle_done}
+use Rattle.forest.proofs.Graph.{kept_graph, kept_edges, bare_turned, cycle_done}
 use borrow.Author.Rules.{rules}
 use Rattle.forest.proofs.finish_cycle.Goals as goal
 
 pub second_slot-second-requires : goal.second_slot-second-requires
 second_slot-second-requires c =
-    let once : let a = c.args in Kept a.r a.graph.now c.reroot.new.graph = let G = c.requires.0 in (turned G (kept_start G) 0 _ (omega (arith, c.requires.2)) c.reroot.ensures).0 in
-    let K = once in
+    let K = bare_turned c.requires.0 c.args.rank c.requires.2 _ c.reroot.ensures in
     (kept_graph c.requires.0 K, search rules, rw (kept_edges c.requires.0 K) c.requires.2)
 
 pub lowest_slot-low-requires : goal.lowest_slot-low-requires
 lowest_slot-low-requires c =
-    let once : let a = c.args in Kept a.r a.graph.now c.reroot.new.graph = let G = c.requires.0 in (turned G (kept_start G) 0 _ (omega (arith, c.requires.2)) c.reroot.ensures).0 in
-    (kept_graph c.requires.0 (once), search rules)
+    (kept_graph c.requires.0 (bare_turned c.requires.0 c.args.rank c.requires.2 _ c.reroot.ensures), search rules)
 
 pub exchange-requires : goal.exchange-requires
 exchange-requires c =
-    let once : let a = c.args in Kept a.r a.graph.now c.reroot.new.graph = let G = c.requires.0 in (turned G (kept_start G) 0 _ (omega (arith, c.requires.2)) c.reroot.ensures).0 in
-    let K = once in
+    let K = bare_turned c.requires.0 c.args.rank c.requires.2 _ c.reroot.ensures in
     (kept_graph c.requires.0 K, search rules, rw (kept_edges c.requires.0 K) c.requires.2, search rules)
 
 pub returns : goal.returns

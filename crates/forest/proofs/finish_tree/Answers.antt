@@ -1,6 +1,5 @@
 -- `forest::finish_tree` meets its contract, which is that of the one call.
 use Rattle.forest.specs.Finish.{finish_tree}
-use borrow.Author.Rules.{rules}
 use Rattle.forest.proofs.finish_tree.Goals as goal
 
 pub returns : goal.returns

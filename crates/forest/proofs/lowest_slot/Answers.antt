@@ -1,44 +1,34 @@
 use native.Mathlib.Omega.{arith}
-use Prim.Native.Nat.{ℕ, ◌<◌, ◌*◌, ◌-◌, suc}
+use Prim.Native.Nat.{ℕ, ◌<◌, ◌*◌, ◌-◌, suc, ◌+◌}
 use mathlib.Core.Bool.{cond}
-use mathlib.Core.Logic.{inl, inr}
 use mathlib.Core.Path.{◌≡◌, refl, ◌∙◌, sym, ap}
-use native.Mathlib.Numerals.{add-one}
 use lib.Dec.{ltb}
 use lib.ListN.{get_or}
 use borrow.Author.Tests.{lt-ltb, le-ltb}
 use Rattle.forest.specs.Way.{lowest_slot}
 use Rattle.forest.proofs.Way.{lowest_none, lowest_stop, lowest_step}
-use Rattle.forest.specs.Graph.{lowest, held_in, other_slot}
-use Rattle.forest.proofs.Graph.{held_word, kept_start, kept_rank}
+use Rattle.forest.specs.Graph.{held_in, other_slot}
+use Rattle.forest.proofs.Graph.{held_word}
 use borrow.Author.Rules.{rules}
 use Rattle.forest.proofs.lowest_slot.Goals as goal
 
-pub loop-left-init : goal.loop-left-init
-loop-left-init c = (search rules, search rules, rw (add-one (2 * c.args.r)))
-
 pub returns-then-rank-eq0 : goal.returns-then-rank-eq0
 returns-then-rank-eq0 c =
-    let l = c.loop-left in
+    let l = c.loop in
     let g = c.args.graph.now in
     let z = sym (held_word c.requires.0 l.at l.invariant.0) ∙ c.if-rank-eq0.true in
-    (sym (l.invariant.2 ∙ lowest_stop (other_slot c.args.r g) l.left (held_in c.args.r g) l.at l.low z), search rules)
+    (sym (l.invariant.2 ∙ lowest_stop (other_slot c.args.r g) (2 * c.args.r + 1 - l.counter) (held_in c.args.r g) l.at l.low z), search rules)
 
-pub other_slot-at-requires : goal.other_slot-at-requires
-other_slot-at-requires c =
-    let l = c.loop-left in
-    (search rules, omega (arith, c.if-rank-eq0.false), kept_rank c.requires.0 (kept_start c.requires.0) l.at l.invariant.0)
-
-pub loop-left-preserved : goal.loop-left-preserved
-loop-left-preserved c =
-    let l = c.loop-left in
+pub loop-preserved : goal.loop-preserved
+loop-preserved c =
+    let l = c.loop in
     let r = c.args.r in
     let g = c.args.graph.now in
     let w = held_word c.requires.0 l.at l.invariant.0 in
     let w' = held_word c.requires.0 l.low l.invariant.1 in
     let x = get_or g l.at 0 in
     let y = get_or g l.low 0 in
-    let e : l.left ≡ suc (l.left - 1) = omega arith in
+    let e : 2 * r + 1 - l.counter ≡ suc (2 * r + 1 - (l.counter + 1)) = omega arith in
     let k : (c.if-rank-graph.low ≡ cond (ltb x y) l.at l.low) × (c.if-rank-graph.low < 2 * r) = elim c.if-rank-graph.branch [
       | goal.then-rank-graph q ↦ (rw (lt-ltb x y q.if-rank-graph.true) q.low-is, omega arith)
       | goal.else-rank-graph q ↦ (rw (le-ltb x y (omega arith)) q.low-is, omega arith)
@@ -46,12 +36,12 @@ loop-left-preserved c =
       c.other_slot-at.ensures.1,
       k.1,
       l.invariant.2 ∙ ap (λ (n : ℕ). lowest_slot (other_slot r g) n (held_in r g) l.at l.low) e
-          ∙ lowest_step (other_slot r g) (l.left - 1) (held_in r g) l.at l.low (λ q. c.if-rank-eq0.false (w ∙ q))
+          ∙ lowest_step (other_slot r g) (2 * r + 1 - (l.counter + 1)) (held_in r g) l.at l.low (λ q. c.if-rank-eq0.false (w ∙ q))
           ∙ rw (k.0, c.other_slot-at.ensures.0, w, w') refl,
     )
 
 pub returns : goal.returns
 returns c =
-    let l = c.loop-left in
-    let z : l.left ≡ 0 = omega arith in
+    let l = c.loop in
+    let z : 2 * c.args.r + 1 - l.counter ≡ 0 = omega arith in
     (sym (l.invariant.2 ∙ rw z (lowest_none (other_slot c.args.r c.args.graph.now) (held_in c.args.r c.args.graph.now) l.at l.low)), search rules)

@@ -11,8 +11,8 @@ returns-then-slot-r c =
     let a = c.args in
     (rw (lt-ltb a.slot a.r (omega arith)) c.second_slot.ensures.0, search rules)
 
-pub returns : goal.returns
+pub returns-else-slot-r : goal.returns-else-slot-r
 unfolding other_end
-returns c =
+returns-else-slot-r c =
     let a = c.args in
     (rw (le-ltb a.slot a.r (omega arith)) c.first_slot.ensures.0, search rules)

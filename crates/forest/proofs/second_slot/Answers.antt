@@ -4,7 +4,6 @@ use mathlib.Core.Path.{◌∙◌, ap}
 use Rattle.edges.specs.Edge.{second_of}
 use Rattle.forest.specs.Edges.{end_1}
 use Rattle.forest.proofs.Edges.{ends_fit}
-use borrow.Author.Rules.{rules}
 use Rattle.forest.proofs.second_slot.Goals as goal
 
 pub returns : goal.returns

@@ -1,32 +1,23 @@
 -- `forms::sizes_of` meets its contract: the tests of the law `sizes_split`.
-use mathlib.Core.Path.{◌≡◌, sym, ◌∙◌}
-use native.Mathlib.Omega.{arith}
-use lib.Seq.{length-take-le}
-use Rattle.basics.proofs.Parts.{to_end}
-use Rattle.grammar.specs.Parted.{comma, place_of}
-use Rattle.grammar.proofs.Parted.{place_le}
-use Rattle.grammar.specs.Number.{number_of}
-use Prim.Native.Nat.{◌+◌, ◌-◌, ◌<◌}
-use native.Mathlib.Numerals.{add-one}
-use lib.ListN.{length, take, drop}
-use Rattle.grammar.specs.Command.{pair_of}
+use Rattle.std.proofs.Common.{sym, ◌∙◌}
 use Rattle.grammar.proofs.SizesLaws.{sizes_none, sizes_split}
 use Rattle.forms.proofs.sizes_of.Goals as goal
 
-pub returns-then-text-end : goal.returns-then-text-end
-returns-then-text-end c =
-    let l = c.args.text.now in
-    sym (sizes_none l (omega (arith, c.find-end.ensures, place_le comma l)))
+pub returns-in_err-first : goal.returns-in_err-first
+returns-in_err-first c = c.from_residual.ensures ∙ sym (sizes_none _ (rw c.in_err-first.was at c.split_once.ensures))
 
-pub slice_bounds-number_in-end : goal.slice_bounds-number_in-end
-slice_bounds-number_in-end c = sym (length-take-le _ _ (omega arith))
+pub returns-in_err-r : goal.returns-in_err-r
+returns-in_err-r c =
+    let (h, f, b) = rw c.in_ok-first.was at c.split_once.ensures in
+    c.from_residual-in_err-r.ensures ∙ sym (sizes_split _ h ∙ rw (← f, ← c.number_in.ensures, c.in_err-r.was))
+
+pub returns-in_err-s : goal.returns-in_err-s
+returns-in_err-s c =
+    let (h, f, b) = rw c.in_ok-first.was at c.split_once.ensures in
+    c.from_residual-in_err-s.ensures
+    ∙ sym (sizes_split _ h ∙ rw (← f, ← b, ← c.number_in.ensures, ← c.pair_of.ensures, c.in_ok-r.was, c.in_err-s.was))
 
 pub returns : goal.returns
 returns c =
-    let l = c.args.text.now in
-    let e = c.find-end.result in
-    let p : e ≡ place_of comma l = c.find-end.ensures in
-    let a : c.number_in-first.result ≡ number_of (take e l) = c.number_in-first.ensures in
-    let b : c.pair_of-behind.result ≡ pair_of (take (length l - (e + 1)) (drop (e + 1) l)) = c.pair_of-behind.ensures in
-    let h : place_of comma l < length l = omega arith in
-    c.all_three.ensures ∙ rw (a, b, to_end, add-one, p) (sym (sizes_split l h))
+    let (h, f, b) = rw c.in_ok-first.was at c.split_once.ensures in
+    sym (sizes_split _ h ∙ rw (← f, ← b, ← c.number_in.ensures, ← c.pair_of.ensures, c.in_ok-r.was, c.in_ok-s.was))

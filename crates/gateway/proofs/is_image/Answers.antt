@@ -79,8 +79,8 @@ returns-then-not-one_issue c =
     read_twice (collected) c.write_edges.auto.scratch c.write_edges.ensures
     c.one_issue.ensures c.if-not-one_issue.true
 
-pub build-count-requires : goal.build-count-requires
-build-count-requires c =
+pub build-requires : goal.build-requires
+build-requires c =
     let collected : let a = c.args in let h = a.header in Collected a.tabulation.now a.words.now c.collect_keys-n.new.scratch h.slots h.places h.station c.collect_keys-n.result = let p = c.requires.0 in
     let h = same_header c.requires.1 in
     record {
@@ -133,7 +133,7 @@ returns-in_default c =
       front = c.collect_keys-n.ensures.front;
     } in
     read_full (collected) c.write_edges.auto.scratch c.write_edges.ensures (single)
-    c.build-count.auto.scratch c.build-count.ensures c.in_default.is
+    c.build.auto.scratch c.build.ensures c.in_default.is
 
 pub matches_built-requires : goal.matches_built-requires
 matches_built-requires c =
@@ -155,9 +155,9 @@ matches_built-requires c =
     let C = collected in (
       (shape _ c.requires.0.shape, (C.slots, C.places)),
       built_readable (collected_room C).0
-          (collected_buildable C c.write_edges.auto.scratch c.write_edges.ensures) c.build-count.auto.scratch
-          c.build-count.ensures
-          c.in-Ranks.is,
+          (collected_buildable C c.write_edges.auto.scratch c.write_edges.ensures) c.build.auto.scratch
+          c.build.ensures
+          c.in-Some.is,
     )
 
 pub returns : goal.returns
@@ -195,5 +195,5 @@ returns c =
       front = c.collect_keys-n.ensures.front;
     } in
     read_told (collected) c.write_edges.auto.scratch c.write_edges.ensures (single)
-    c.build-count.auto.scratch c.build-count.ensures c.in-Ranks.is
+    c.build.auto.scratch c.build.ensures c.in-Some.is
     c.matches_built.ensures

@@ -2,7 +2,6 @@
 use mathlib.Core.Path.{sym}
 use native.Mathlib.Omega.{arith}
 use Rattle.image.specs.Ranks.{held_length, slot_ranks, place_ranks, written_by_parts}
-use borrow.Author.Rules.{rules}
 use Rattle.image.proofs.write_image.Goals as goal
 
 pub slice_bounds-write_slots-end : goal.slice_bounds-write_slots-end

@@ -6,9 +6,6 @@ use Rattle.build.proofs.LinkCode.{one_marked, two_marked, ends_merge, end_fits, 
 use borrow.Author.Rules.{rules}
 use Rattle.linking.proofs.link_rank.Goals as goal
 
-pub ends_of-ends-requires : goal.ends_of-ends-requires
-ends_of-ends-requires c = (search rules, search rules, search rules, c.requires.3.graph.edges)
-
 pub returns-then-ends : goal.returns-then-ends
 returns-then-ends c =
     c.put_word.ensures ∙ within_sets c.requires.3 c.ends_of-ends.ensures c.if-ends.true

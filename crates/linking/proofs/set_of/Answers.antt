@@ -6,18 +6,12 @@ use mathlib.Core.List.{List}
 use Rattle.partition.specs.Words.{rep_of}
 use Rattle.partition.proofs.Words.{rep_fits}
 use Rattle.build.specs.Scratch.{parts}
-use Rattle.build.proofs.Access.{sets_part, part_lent, part_long}
-use borrow.Author.Rules.{rules}
+use Rattle.build.proofs.Access.{sets_part, part_lent}
 use Rattle.linking.proofs.set_of.Goals as goal
-
-pub representative-requires : goal.representative-requires
-representative-requires c =
-    let e = part_long (sets_part c.requires.0) c.sets_start-start.ensures c.next_start-end.ensures in
-    (omega (arith, e, c.requires.0.slots_bound), omega (arith, e, c.requires.1))
 
 pub returns : goal.returns
 returns c =
     let sets = sets_part c.requires.0 in
-    let e = c.representative.ensures ∙ ap (λ (words : List ℕ). rep_of words c.args.slot) (part_lent sets c.sets_start-start.ensures c.next_start-end.ensures) in
+    let e = c.representative.ensures ∙ ap (λ (words : List ℕ). rep_of words c.args.slot) (part_lent sets c.sets_range.ensures.0 c.sets_range.ensures.1) in
     let X = (parts c.args.r c.args.s c.args.n c.args.scratch.now).sets in
     (e, omega (arith, e, rep_fits X c.args.slot (rw sets.size c.requires.1), sets.size))

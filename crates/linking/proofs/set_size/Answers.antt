@@ -5,8 +5,8 @@ use Rattle.linking.proofs.set_size.Goals as goal
 
 pub size-requires : goal.size-requires
 size-requires c =
-    (search rules, rw (part_lent (sets_part c.requires.0) c.sets_start-start.ensures c.next_start-end.ensures) c.requires.1)
+    (search rules, rw (part_lent (sets_part c.requires.0) c.sets_range.ensures.0 c.sets_range.ensures.1) c.requires.1)
 
 pub returns : goal.returns
 returns c =
-    cc (c.size.ensures, part_lent (sets_part c.requires.0) c.sets_start-start.ensures c.next_start-end.ensures)
+    cc (c.size.ensures, part_lent (sets_part c.requires.0) c.sets_range.ensures.0 c.sets_range.ensures.1)

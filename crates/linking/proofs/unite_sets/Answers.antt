@@ -6,9 +6,9 @@ use Rattle.linking.proofs.unite_sets.Goals as goal
 
 pub unite-requires : goal.unite-requires
 unite-requires c =
-    (search rules, rw (part_lent (sets_part c.requires.0) c.sets_start-start.ensures c.next_start-end.ensures) c.requires.1)
+    (search rules, rw (part_lent (sets_part c.requires.0) c.sets_range.ensures.0 c.sets_range.ensures.1) c.requires.1)
 
 pub returns : goal.returns
 returns c =
-    part_renewed (sets_part c.requires.0) c.sets_start-start.ensures c.next_start-end.ensures
+    part_renewed (sets_part c.requires.0) c.sets_range.ensures.0 c.sets_range.ensures.1
     (λ sets. united sets c.args.first c.args.second) c.unite.ensures c.unite.auto.words

@@ -58,11 +58,8 @@ returns-then-in_one-in_other c =
     let second_is : let a = c.args in c.second_slot-other.result ≡ slot_1 (family_of a.tabulation.now a.words.now) a.key = let a = c.args in
     let h = same_header c.read_header-header.ensures in
     by_own_family (λ F. slot_1 F a.key) a.tabulation.now a.words.now h.slots h.station c.second_slot-other.ensures in
-    let a = c.args in record {
-      numbered = refl;
-      valued = own_listed a.words.now _ _ a.key c.in_slot-in_one.ensures c.in_slot-in_other.ensures a.tabulation.now (first_is) (second_is)
-          c.if-in_one-in_other.true c.tier_at.ensures;
-    }
+    let a = c.args in own_listed a.words.now _ _ a.key c.in_slot-in_one.ensures c.in_slot-in_other.ensures a.tabulation.now (first_is) (second_is)
+    c.if-in_one-in_other.true c.tier_at.ensures
 
 pub returns : goal.returns
 returns c =
@@ -72,8 +69,5 @@ returns c =
     let second_is : let a = c.args in c.second_slot-other.result ≡ slot_1 (family_of a.tabulation.now a.words.now) a.key = let a = c.args in
     let h = same_header c.read_header-header.ensures in
     by_own_family (λ F. slot_1 F a.key) a.tabulation.now a.words.now h.slots h.station c.second_slot-other.ensures in
-    let a = c.args in record {
-      numbered = c.in_stash.ensures.numbered;
-      valued = c.in_stash.ensures.valued ∙ own_missed a.words.now _ _ a.key c.in_slot-in_one.ensures c.in_slot-in_other.ensures
-          a.tabulation.now (first_is) (second_is) c.if-in_one-in_other.false;
-    }
+    let a = c.args in c.in_stash.ensures ∙ own_missed a.words.now _ _ a.key c.in_slot-in_one.ensures c.in_slot-in_other.ensures
+    a.tabulation.now (first_is) (second_is) c.if-in_one-in_other.false

@@ -42,10 +42,7 @@ returns-then-in_slot c =
     by_own_family (λ F. slot_0 F a.key) a.tabulation.now a.words.now h.slots h.station c.first_slot-first.ensures in
     rw (first_is) at c.in_slot.ensures in
     let a = c.args in
-    record {
-      numbered = refl;
-      valued = found_first a.tabulation.now a.words.now a.key (sym (first-test) ∙ c.if-in_slot.true) (rw (first_is) at c.slot_tier.ensures);
-    }
+    found_first a.tabulation.now a.words.now a.key (sym (first-test) ∙ c.if-in_slot.true) (rw (first_is) at c.slot_tier.ensures)
 
 pub second_slot-second-requires : goal.second_slot-second-requires
 second_slot-second-requires c = let h = same_header c.read_header-header.ensures in search rules
@@ -83,11 +80,7 @@ returns-then-in_slot-2 c =
     let h = same_header c.read_header-header.ensures in
     by_own_family (λ F. slot_0 F a.key) a.tabulation.now a.words.now h.slots h.station c.first_slot-first.ensures in
     rw (first_is) at c.in_slot.ensures in
-    let a = c.args in record {
-      numbered = refl;
-      valued = found_second a.tabulation.now a.words.now a.key (sym (first-test) ∙ c.if-in_slot.false) (sym (second-test) ∙ c.if-in_slot-2.true)
-          (rw (second_is) at c.slot_tier-then-in_slot-2.ensures);
-    }
+    let a = c.args in found_second a.tabulation.now a.words.now a.key (sym (first-test) ∙ c.if-in_slot.false) (sym (second-test) ∙ c.if-in_slot-2.true) (rw (second_is) at c.slot_tier-then-in_slot-2.ensures)
 
 pub returns : goal.returns
 returns c =
@@ -100,7 +93,4 @@ returns c =
     by_own_family (λ F. slot_0 F a.key) a.tabulation.now a.words.now h.slots h.station c.first_slot-first.ensures in
     rw (first_is) at c.in_slot.ensures in
     let a = c.args in
-    record {
-      numbered = refl;
-      valued = found_neither a.tabulation.now a.words.now a.key (sym (first-test) ∙ c.if-in_slot.false) (sym (second-test) ∙ c.if-in_slot-2.false);
-    }
+    found_neither a.tabulation.now a.words.now a.key (sym (first-test) ∙ c.if-in_slot.false) (sym (second-test) ∙ c.if-in_slot-2.false)

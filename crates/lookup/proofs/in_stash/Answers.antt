@@ -14,7 +14,4 @@ find_place-requires c = let h = same_header c.read_header-header.ensures in sear
 
 pub returns : goal.returns
 returns c =
-    let h = same_header c.read_header-header.ensures in record {
-      numbered = c.find_place.ensures.numbered;
-      valued = found_stash _ _ (c.stash_start-start.ensures ∙ ap stash_at h.slots) (c.wide-count.ensures ∙ h.places) c.find_place.ensures.valued;
-    }
+    let h = same_header c.read_header-header.ensures in found_stash _ _ (c.stash_start-start.ensures ∙ ap stash_at h.slots) (c.wide-count.ensures ∙ h.places) c.find_place.ensures

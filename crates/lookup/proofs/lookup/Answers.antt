@@ -8,8 +8,7 @@ use borrow.Author.Tests.{eq-eqb, ne_eqb, not-true, not-false}
 use Rattle.layout.specs.Layout.{shaped}
 use Rattle.layout.proofs.Shape.{shape}
 use Rattle.layout.specs.Answers.{lookup_refusal, lookup_values}
-use Rattle.layout.specs.contracts.Found.{the_type}
-use Rattle.lookup.specs.Found.{slots_first, slots_absent}
+use Rattle.lookup.specs.Found.{slots_listed, slots_absent}
 use borrow.Author.Rules.{rules}
 use Rattle.lookup.proofs.lookup.Goals as goal
 
@@ -41,22 +40,21 @@ returns-then-is_blank c =
       valued = simp (t, u, v);
     }
 
-pub in_slots-found-requires : goal.in_slots-found-requires
-in_slots-found-requires c =
+pub in_slots-requires : goal.in_slots-requires
+in_slots-requires c =
     let formed : shaped c.args.words.now ≡ true = sym c.is_shaped.ensures ∙ c.if-not-is_shaped.false in
     (search rules, shape _ (formed))
 
-pub returns-in_default : goal.returns-in_default
+pub returns-in-Some : goal.returns-in-Some
 unfolding lookup_refusal lookup_values
-returns-in_default c =
+returns-in-Some c =
     let formed : shaped c.args.words.now ≡ true = sym c.is_shaped.ensures ∙ c.if-not-is_shaped.false in
     let a = c.args in
     let t = eq-eqb _ _ c.if-tabulation-ne-TABULATION_LENGTH.false in
     let v = sym c.is_blank.ensures ∙ c.if-is_blank.false in
-    let f = slots_first a.tabulation.now a.words.now a.key c.in_slots-found.result c.in_slots-found.ensures.valued
-    c.in_default.not-Absent in
+    let f = slots_listed a.tabulation.now a.words.now a.key c.in_slots.result c.in_slots.ensures c.in-Some.is in
     record {
-      numbered = c.in_slots-found.ensures.numbered ∙ sym (simp (t, formed, v));
+      numbered = sym (simp (t, formed, v));
       valued = f ∙ sym (simp (t, formed, v));
     }
 
@@ -65,15 +63,15 @@ in_stash-requires c =
     let formed : shaped c.args.words.now ≡ true = sym c.is_shaped.ensures ∙ c.if-not-is_shaped.false in
     shape _ (formed)
 
-pub returns : goal.returns
+pub returns-in-None : goal.returns-in-None
 unfolding lookup_refusal lookup_values
-returns c =
+returns-in-None c =
     let formed : shaped c.args.words.now ≡ true = sym c.is_shaped.ensures ∙ c.if-not-is_shaped.false in
     let a = c.args in
     let t = eq-eqb _ _ c.if-tabulation-ne-TABULATION_LENGTH.false in
     let v = sym c.is_blank.ensures ∙ c.if-is_blank.false in
-    let f = slots_absent a.tabulation.now a.words.now a.key c.in_slots-found.result c.in_slots-found.ensures.valued c.in-Absent.is in
+    let f = slots_absent a.tabulation.now a.words.now a.key c.in_slots.result c.in_slots.ensures c.in-None.is in
     record {
-      numbered = c.in_stash.ensures.numbered ∙ sym (simp (t, formed, v));
-      valued = c.in_stash.ensures.valued ∙ f ∙ sym (simp (t, formed, v));
+      numbered = sym (simp (t, formed, v));
+      valued = c.in_stash.ensures ∙ f ∙ sym (simp (t, formed, v));
     }

@@ -45,6 +45,6 @@ returns c =
     let u = sym c.is_shaped.ensures ∙ c.if-not-is_shaped.false in
     let v = sym c.is_blank.ensures ∙ c.if-is_blank.false in
     record {
-      numbered = c.found_within.ensures.numbered ∙ sym (simp (t, u, v));
-      valued = c.found_within.ensures.valued ∙ sym (simp (t, u, v));
+      numbered = sym (simp (t, u, v));
+      valued = c.found_within.ensures ∙ sym (simp (t, u, v));
     }

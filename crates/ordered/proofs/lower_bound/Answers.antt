@@ -1,25 +1,12 @@
-use borrow.Author.Rules.{rules}
-use Prim.Native.Nat.{◌≤◌, ◌+◌, ◌-◌, ◌/◌}
-use native.Mathlib.Omega.{arith}
-use lib.ListN.{length}
-use Rattle.ordered.specs.Keys.{lower_bound}
-use Rattle.ordered.proofs.Place.{bound_le, bound_low, bound_high}
+use Rattle.std.proofs.Common.{rules, ltb}
+use Rattle.std.proofs.lemmas.List.Sorted.{IsPartitionPoint-from_clause}
+use Rattle.ordered.proofs.Place.{asc_parted, point_is_bound}
 use Rattle.ordered.proofs.lower_bound.Goals as goal
 
-pub loop-low-init : goal.loop-low-init
-loop-low-init c =
-    (search rules, bound_le c.args.key c.args.keys.now, search rules)
-
-pub loop-low-preserved-then-x-key : goal.loop-low-preserved-then-x-key
-loop-low-preserved-then-x-key c =
-    let l = c.before.before.before.loop-low in
-    let d = c.before.before.before.before in
-    let m = l.low + (l.high - l.low) / 2 in
-    (omega (arith, bound_low d.args.key d.requires m (omega arith) c.if-x-key.true), search rules, search rules)
-
-pub loop-low-preserved : goal.loop-low-preserved
-loop-low-preserved c =
-    let l = c.before.before.before.loop-low in
-    let d = c.before.before.before.before in
-    let m = l.low + (l.high - l.low) / 2 in
-    (search rules, bound_high d.args.key d.requires m (omega arith) c.if-x-key.false, omega arith)
+pub returns : goal.returns
+returns c =
+    let a = c.args in
+    let f = c.partition_point in
+    let point =
+    IsPartitionPoint-from_clause (λ d. ltb d a.key) a.keys.now f.result f.ensures.partitioned (asc_parted a.key c.requires) (λ x b g k. search rules) in
+    point_is_bound a.key c.requires f.result f.ensures.bound point

@@ -1,20 +1,14 @@
-use borrow.Author.Rules.{rules}
-use mathlib.Core.Path.{◌≡◌, sym, ◌∙◌}
-use Prim.Native.Nat.{◌≤◌, ◌-◌}
-use native.Mathlib.Omega.{arith}
-use lib.ListN.{length}
-use Rattle.ordered.specs.Shift.{shifted_in}
+use Rattle.std.proofs.Common.{sym, ◌∙◌, arith, rules}
 use Rattle.ordered.proofs.Shift.{shifted_in_step, shifted_in_last}
 use Rattle.ordered.proofs.shift_in.Goals as goal
 
 pub loop-i-preserved : goal.loop-i-preserved
 loop-i-preserved c =
-    let l = c.before.before.loop-i in
-    let a = c.before.before.before.args in
-    (search rules, search rules, l.invariant.2 ∙ shifted_in_step l.words l.i a.n l.carry (omega arith) (omega arith))
+    let l = c.loop-i in
+    let r = c.replace-carry.ensures in
+    (search rules, rw (r.after, r.value) (l.invariant.1 ∙ shifted_in_step l.words l.i c.args.n l.carry (omega arith) (omega arith)))
 
 pub returns : goal.returns
 returns c =
-    let l = c.before.loop-i in
-    let a = c.before.before.args in
-    sym (l.invariant.2 ∙ shifted_in_last l.words l.i a.n l.carry (omega arith) (omega arith))
+    let l = c.loop-i in
+    sym (l.invariant.1 ∙ shifted_in_last l.words l.i c.args.n l.carry (omega arith) (omega arith))

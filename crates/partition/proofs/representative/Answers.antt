@@ -1,29 +1,23 @@
-use Prim.Native.Nat.{◌<◌}
-use mathlib.Core.Path.{◌≡◌, sym, ◌∙◌}
-use native.Mathlib.Omega.{arith}
-use borrow.Author.Rules.{rules}
-use lib.ListN.{length}
-use Rattle.partition.specs.Words.{walk, rep_of}
+use Rattle.std.proofs.Common.{◌≡◌, ◌∙◌, sym, ◌+◌, ◌-◌, arith, rules}
+use Rattle.partition.specs.Words.{rep_of, max_steps}
 use Rattle.partition.proofs.Words.{walk_none, walk_stop, walk_step}
 use Rattle.partition.proofs.representative.Goals as goal
 
 pub returns-then-n-word : goal.returns-then-n-word
 unfolding rep_of
 returns-then-n-word c =
-    let l = c.loop-left in
-    let words = c.args.words.now in
-    sym (l.invariant.1 ∙ walk_stop words l.left l.v (omega arith))
+    let l = c.loop in
+    sym (l.invariant.1 ∙ walk_stop c.args.words.now (max_steps - l.counter) l.v (omega arith))
 
-pub loop-left-preserved : goal.loop-left-preserved
-loop-left-preserved c =
-    let l = c.loop-left in
-    let words = c.args.words.now in
-    (search rules, l.invariant.1 ∙ walk_step words l.left l.v (omega arith) (omega arith))
+pub loop-preserved : goal.loop-preserved
+loop-preserved c =
+    let l = c.loop in
+    let e : max_steps - (l.counter + 1) ≡ max_steps - l.counter - 1 = omega arith in
+    (search rules, l.invariant.1 ∙ rw e (walk_step c.args.words.now (max_steps - l.counter) l.v (omega arith) (omega arith)))
 
 pub returns : goal.returns
 unfolding rep_of
 returns c =
-    let l = c.loop-left in
-    let words = c.args.words.now in
-    let z : l.left ≡ 0 = omega arith in
-    cc (l.invariant.1, walk_none words l.v)
+    let l = c.loop in
+    let z : max_steps - l.counter ≡ 0 = omega arith in
+    sym (l.invariant.1 ∙ rw z (walk_none c.args.words.now l.v))

@@ -1,6 +1,5 @@
 -- `partition::singletons` meets its contract: it fills the words with n + 1.
 use Rattle.partition.specs.Words.{singletons_of}
-use borrow.Author.Rules.{rules}
 use Rattle.partition.proofs.singletons.Goals as goal
 
 pub returns : goal.returns

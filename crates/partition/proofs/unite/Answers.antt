@@ -1,6 +1,5 @@
 -- `partition::unite` meets its contract: the comparison of the sizes is that of the definition.
 use native.Mathlib.Omega.{arith}
-use borrow.Author.Rules.{rules}
 use borrow.Author.Tests.{lt-ltb, le-ltb}
 use Rattle.partition.specs.Words.{size_of, smaller, larger, united}
 use Rattle.partition.proofs.unite.Goals as goal

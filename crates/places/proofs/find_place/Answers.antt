@@ -1,14 +1,9 @@
-use Prim.Native.Nat.{◌≤◌, ◌-◌}
-use mathlib.Core.Path.{◌≡◌, refl, sym, ◌∙◌}
+use mathlib.Core.Path.{◌≡◌, sym, ◌∙◌}
 use native.Mathlib.Numerals.{add-one}
 use native.Mathlib.Omega.{arith}
-use borrow.Author.Tests.{not-true}
 use lib.ListN.{length-take, length-drop}
 use lib.Seq.{length-take-le}
-use borrow.Author.Rules.{rules}
-use Rattle.layout.specs.Layout.{place_entries}
-use Rattle.layout.specs.Answers.{looked_up}
-use Rattle.places.specs.Search.{not_among, from_place, all_places, no_place, place_here, place_later}
+use Rattle.places.specs.Search.{not_among, all_places, no_place, place_here, place_later}
 use Rattle.places.proofs.find_place.Goals as goal
 
 pub slice_bounds-among-end : goal.slice_bounds-among-end
@@ -19,33 +14,23 @@ among-requires c = simp (length-take, length-drop) (omega (arith, c.requires.0))
 
 pub returns-then-not-among : goal.returns-then-not-among
 returns-then-not-among c =
-    record {
-      numbered = refl;
-      valued = not_among c.args.places.now c.args.count c.args.key (omega (arith, c.requires.0))
-          (sym c.among.ensures ∙ c.if-not-among.true);
-    }
+    not_among c.args.places.now c.args.count c.args.key (omega (arith, c.requires.0)) (sym c.among.ensures ∙ c.if-not-among.true)
 
 pub loop-i-init : goal.loop-i-init
-loop-i-init c = let a = c.args in (omega arith, all_places a.places.now a.count a.key)
+loop-i-init c = let a = c.args in all_places a.places.now a.count a.key
 
 pub returns-then-key-places : goal.returns-then-key-places
 returns-then-key-places c =
     let a = c.args in
-    record {
-      numbered = refl;
-      valued = place_here a.places.now a.count a.key (omega arith) c.if-key-places.true ∙ sym c.loop-i.invariant.1;
-    }
+    place_here a.places.now a.count a.key (omega arith) c.if-key-places.true ∙ sym c.loop-i.invariant
 
 pub loop-i-preserved : goal.loop-i-preserved
 loop-i-preserved c =
     let a = c.args in
-    (omega arith, c.loop-i.invariant.1 ∙ rw add-one (place_later a.places.now a.count a.key (omega arith) c.if-key-places.false))
+    c.loop-i.invariant ∙ rw add-one (place_later a.places.now a.count a.key (omega arith) c.if-key-places.false)
 
 pub returns : goal.returns
 returns c =
     let a = c.args in
-    let e : c.loop-i.i ≡ a.count = omega (arith, c.loop-i.invariant.0) in
-    record {
-      numbered = refl;
-      valued = no_place a.places.now a.count a.key ∙ sym (rw e at c.loop-i.invariant.1);
-    }
+    let e : c.loop-i.i ≡ a.count = omega arith in
+    no_place a.places.now a.count a.key ∙ sym (rw e at c.loop-i.invariant)

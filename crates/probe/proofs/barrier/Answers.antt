@@ -1,15 +1,13 @@
-use Prim.Native.Nat.{ℕ, ◌-◌, ◌≤◌, ◌<◌}
-use mathlib.Core.Path.{◌≡◌}
+use Prim.Native.Nat.{◌<◌}
 use mathlib.Core.Logic.{inl, inr}
 use native.Mathlib.Omega.{arith}
-use lib.ListN.{length, get_or}
+use lib.ListN.{get_or}
 use Rattle.basics.proofs.Tests.{eq?}
 use Rattle.probing.specs.Walls.{empty, largest as none-larger}
-use borrow.Author.Rules.{rules}
 use Rattle.probe.proofs.barrier.Goals as goal
 
 pub loop-slot-init : goal.loop-slot-init
-loop-slot-init c = (c.requires, omega arith, λ p l. absurd (omega arith))
+loop-slot-init c = (c.requires, λ p l. absurd (omega arith))
 
 pub returns-then-word-eq0 : goal.returns-then-word-eq0
 returns-then-word-eq0 c = record {
@@ -25,18 +23,16 @@ loop-slot-preserved c =
     elim c.if-words-largest.branch [
       | goal.then-words-largest w ↦ rw w.largest-is (
         omega arith,
-        omega arith,
         λ p k. elim (eq? p l.slot) [
           | inl e ↦ rw e (filled, omega arith)
-          | inr n ↦ let r = l.invariant.2 p (omega arith) in (r.0, omega (arith, r.1, w.if-words-largest.true))
+          | inr n ↦ let r = l.invariant.1 p (omega arith) in (r.0, omega (arith, r.1, w.if-words-largest.true))
         ],
       )
       | goal.else-words-largest w ↦ rw w.largest-is (
         l.invariant.0,
-        omega arith,
         λ p k. elim (eq? p l.slot) [
           | inl e ↦ rw e (filled, w.if-words-largest.false)
-          | inr n ↦ l.invariant.2 p (omega arith)
+          | inr n ↦ l.invariant.1 p (omega arith)
         ],
       )
     ]
@@ -46,5 +42,5 @@ returns c =
     let l = c.loop-slot in
     record {
       inside = l.invariant.0;
-      unpassed = none-larger (λ p k. l.invariant.2 p (omega arith));
+      unpassed = none-larger (λ p k. l.invariant.1 p (omega arith));
     }

@@ -1,35 +1,35 @@
-use Prim.Native.Nat.{◌<◌}
-use mathlib.Core.Path.{◌≡◌, sym, ◌∙◌}
-use mathlib.Core.Logic.{inl, inr}
-use native.Mathlib.Omega.{arith}
-use lib.ListN.{length, length-set}
-use Rattle.probing.specs.Moves.{displace}
+use Rattle.std.proofs.Common.{◌≡◌, ◌+◌, ◌-◌, ◌∙◌, refl, sym, arith, length}
 use Rattle.probe.specs.Turns.{carry_end, carry_swap, carry_on, carry_round}
-use borrow.Author.Rules.{rules}
 use Rattle.probe.proofs.carry.Goals as goal
+
+pub loop-init : goal.loop-init
+loop-init c = let e : length c.args.words.now - 0 ≡ length c.args.words.now = omega arith in rw e (omega arith, refl)
 
 pub returns-then-word-eq0 : goal.returns-then-word-eq0
 returns-then-word-eq0 c =
-    let l = c.loop-left in
-    sym (l.invariant.2 ∙ carry_end _ l.left l.words l.carried l.slot (omega arith) c.if-word-eq0.true)
+    let l = c.loop in
+    sym (l.invariant.1 ∙ carry_end _ (length c.args.words.now - l.counter) l.words l.carried l.slot (omega arith) c.if-word-eq0.true)
 
-pub loop-left-preserved : goal.loop-left-preserved
-loop-left-preserved c =
-    let l = c.loop-left in
+pub loop-preserved : goal.loop-preserved
+loop-preserved c =
+    let l = c.loop in
+    let m = length c.args.words.now in
+    let left = m - l.counter in
+    let next : m - (l.counter + 1) ≡ left - 1 = omega arith in
+    let n = c.next_slot-slot.ensures in
     elim c.if-carried-word.branch [
       | goal.then-carried-word w ↦ (
-        c.next_slot-slot.ensures.inside,
-        rw (w.words-is, length-set) l.invariant.1,
-        l.invariant.2 ∙ rw (c.next_slot-slot.ensures.at, w.words-is, w.carried-is) (carry_swap _ l.left l.words l.carried l.slot (omega arith) w.if-carried-word.true),
+        n.inside,
+        l.invariant.1 ∙ rw (n.at, next, w.words-is, w.carried-is) (carry_swap _ left l.words l.carried l.slot (omega arith) w.if-carried-word.true),
       )
       | goal.else-carried-word w ↦ (
-        c.next_slot-slot.ensures.inside,
-        rw w.words-is l.invariant.1,
-        l.invariant.2 ∙ rw (c.next_slot-slot.ensures.at, w.words-is, w.carried-is) (carry_on _ l.left l.words l.carried l.slot (omega arith) c.if-word-eq0.false w.if-carried-word.false),
+        n.inside,
+        l.invariant.1
+            ∙ rw (n.at, next, w.words-is, w.carried-is) (carry_on _ left l.words l.carried l.slot (omega arith) c.if-word-eq0.false w.if-carried-word.false),
       )
     ]
 
 pub returns : goal.returns
 returns c =
-    let l = c.loop-left in
-    sym (l.invariant.2 ∙ carry_round _ l.left l.words l.carried l.slot (omega arith))
+    let l = c.loop in
+    sym (l.invariant.1 ∙ carry_round _ (length c.args.words.now - l.counter) l.words l.carried l.slot (omega arith))

@@ -1,7 +1,6 @@
 -- `probe::next_slot` meets its contract.
 use mathlib.Core.Path.{◌∙◌}
 use Rattle.probe.specs.Turns.{wrap_after}
-use borrow.Author.Rules.{rules}
 use Rattle.probe.proofs.next_slot.Goals as goal
 
 pub returns : goal.returns

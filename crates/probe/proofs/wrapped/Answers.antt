@@ -10,8 +10,8 @@ returns-then-number-slots c = record {
   inside = c.if-number-slots.true;
 }
 
-pub returns : goal.returns
-returns c = record {
+pub returns-else-number-slots : goal.returns-else-number-slots
+returns-else-number-slots c = record {
   at = sym (wrap_high _ _ c.if-number-slots.false);
   inside = omega arith;
 }

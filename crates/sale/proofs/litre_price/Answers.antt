@@ -9,14 +9,14 @@ pub overflow_add-price : goal.overflow_add-price
 overflow_add-price c =
     rw (summed c.args.base c.args.step c.requires.0 c.requires.1 c.ranges.step) (sum_fits c.args.base c.args.step c.requires.0 c.requires.1)
 
-pub returns-then-price-lt1 : goal.returns-then-price-lt1
-returns-then-price-lt1 c =
-    below_one c.args.base c.args.step c.requires.0 c.requires.1 c.ranges.step c.if-price-lt1.true
+pub returns-then-price-lt-MIN_PRICE : goal.returns-then-price-lt-MIN_PRICE
+returns-then-price-lt-MIN_PRICE c =
+    below_one c.args.base c.args.step c.requires.0 c.requires.1 c.ranges.step c.if-price-lt-MIN_PRICE.true
 
 pub overflow_cast-result : goal.overflow_cast-result
 overflow_cast-result c =
-    sum_casts c.args.base c.args.step c.requires.0 c.requires.1 c.ranges.step c.if-price-lt1.false
+    sum_casts c.args.base c.args.step c.requires.0 c.requires.1 c.ranges.step c.if-price-lt-MIN_PRICE.false
 
 pub returns : goal.returns
 returns c =
-    from_one c.args.base c.args.step c.requires.0 c.requires.1 c.ranges.step c.if-price-lt1.false
+    from_one c.args.base c.args.step c.requires.0 c.requires.1 c.ranges.step c.if-price-lt-MIN_PRICE.false

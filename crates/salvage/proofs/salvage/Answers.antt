@@ -1,6 +1,5 @@
 -- `salvage::salvage` meets its contract: what `salvage_words` tells and leaves, and cleared scratch.
 use Rattle.salvage.specs.Salvaging.{told_cleared}
-use borrow.Author.Rules.{rules}
 use Rattle.salvage.proofs.salvage.Goals as goal
 
 pub returns : goal.returns

@@ -2,9 +2,8 @@
 use mathlib.Core.Path.{refl, sym, ◌∙◌, ap}
 use native.Mathlib.Omega.{arith}
 use Rattle.layout.proofs.Shape.{shape, same_header}
-use Rattle.survivors.specs.declared.Salvaged.TheVariants.{Lost}
+use Rattle.std.proofs.Common.{Ok}
 use Rattle.salvage.specs.Salvaging.{hopeless, saved, hopeless_test, lost_left, salvable_hashing}
-use borrow.Author.Rules.{rules}
 use Rattle.salvage.proofs.salvage_set.Goals as goal
 
 pub count_occupied-occupied-requires : goal.count_occupied-occupied-requires
@@ -62,4 +61,4 @@ returns c =
     let n = c.gather_counting-counted.ensures.counted in
     saved (hopeless_test a.tabulation.now a.words.now f n ∙ sym c.is_hopeless.ensures
     ∙ c.if-is_hopeless.false)
-    (ap Lost (lost_left a.tabulation.now a.words.now f n).1) c.write_survivors.ensures
+    (ap Ok (lost_left a.tabulation.now a.words.now f n).1) c.write_survivors.ensures

@@ -6,7 +6,6 @@ use lib.ListN.{length, length-take, length-drop}
 use Rattle.salvage.specs.Chosen.{CandidatesStand, choosing_shaped}
 use Rattle.salvage.specs.Salvaging.{gathered_room, gathered_candidates, chosen_few, chosen_committable}
 use Rattle.salvage.specs.Salvaging.{chosen_committed}
-use borrow.Author.Rules.{rules}
 use Rattle.salvage.proofs.write_survivors.Goals as goal
 
 pub slice_bounds-make_set-count : goal.slice_bounds-make_set-count

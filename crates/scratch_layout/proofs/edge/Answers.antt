@@ -1,6 +1,5 @@
 -- `scratch_layout::edge` meets its contract: the edges stand in the graph, behind the held words.
 use Rattle.build.proofs.Access.{edge_at_word}
-use borrow.Author.Rules.{rules}
 use Rattle.scratch_layout.proofs.edge.Goals as goal
 
 pub returns : goal.returns

@@ -1,7 +1,6 @@
 -- `scratch_layout::put_note` meets its contract: a word of a part, written.
 use native.Mathlib.Omega.{arith}
 use Rattle.build.proofs.Access.{sets_part, part_set}
-use borrow.Author.Rules.{rules}
 use Rattle.scratch_layout.proofs.put_note.Goals as goal
 
 pub returns : goal.returns

@@ -1,7 +1,6 @@
 -- `scratch_layout::word` meets its contract: a word of a part.
 use native.Mathlib.Omega.{arith}
 use Rattle.build.proofs.Access.{next_part, part_word}
-use borrow.Author.Rules.{rules}
 use Rattle.scratch_layout.proofs.word.Goals as goal
 
 pub returns : goal.returns

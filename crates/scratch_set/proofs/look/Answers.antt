@@ -12,14 +12,7 @@ tier_at-requires c =
     (c.requires.1.0, omega (arith, c.requires.1.1))
 
 pub returns-then-is_at : goal.returns-then-is_at
-returns-then-is_at c =
-    record {
-      numbered = refl;
-      valued = rw (sym c.is_at.ensures ∙ c.if-is_at.true, c.tier_at.ensures) refl;
-    }
+returns-then-is_at c = rw (sym c.is_at.ensures ∙ c.if-is_at.true, c.tier_at.ensures)
 
 pub returns : goal.returns
-returns c = record {
-  numbered = refl;
-  valued = rw (sym c.is_at.ensures ∙ c.if-is_at.false) refl;
-}
+returns c = rw (sym c.is_at.ensures ∙ c.if-is_at.false)

@@ -16,6 +16,3 @@ use Rattle.scratch_set.proofs.one_issue.Given as goal
 
 abbrev pub invariant-loop-i : goal.invariant-loop-i
 invariant-loop-i l = (l.i ≤ l.n) × (parts_apart 0 (keys_at l.n l.scratch) ≡ parts_apart l.last (drop l.i (keys_at l.n l.scratch)))
-
-abbrev pub decreases-loop-i : goal.decreases-loop-i
-decreases-loop-i l = l.n - l.i

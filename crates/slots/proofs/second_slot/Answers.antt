@@ -2,7 +2,6 @@
 use native.Mathlib.Omega.{arith}
 use Rattle.hashing.specs.Hash.{tables}
 use Rattle.hashing.proofs.Hash.{hash_lt}
-use borrow.Author.Rules.{rules}
 use Rattle.slots.proofs.second_slot.Goals as goal
 
 pub overflow_add-result : goal.overflow_add-result

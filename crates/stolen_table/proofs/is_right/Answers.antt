@@ -7,7 +7,6 @@ use Rattle.hashing.specs.Hash.{tables}
 use Rattle.hashing.specs.Slots.{slot_0}
 use Rattle.probing.specs.Moves.{right, slot_turn}
 use Rattle.stolen_table.specs.Round.{right_blank, right_key}
-use borrow.Author.Rules.{rules}
 use Rattle.stolen_table.proofs.is_right.Goals as goal
 
 pub returns-then-is_blank : goal.returns-then-is_blank

@@ -3,7 +3,6 @@ use mathlib.Core.Path.{◌∙◌}
 use native.Mathlib.Omega.{arith}
 use Rattle.hashing.specs.Hash.{tables}
 use Rattle.hashing.proofs.Slots.{slot_0_lt}
-use borrow.Author.Rules.{rules}
 use Rattle.stolen_table.proofs.start_of.Goals as goal
 
 pub returns : goal.returns

@@ -1,10 +1,6 @@
--- After i turns the first i words have the value.
-use Rattle.std.proofs.Common.{length, ◌-◌, ◌≡◌, ◌≤◌, replicate, drop, ◌++◌}
+-- The words before the index have the value.
+use Rattle.std.proofs.Common.{◌≡◌, ◌++◌, replicate, drop}
 use Rattle.words.proofs.fill.Given as goal
 
-abbrev pub invariant-loop-i : goal.invariant-loop-i
-invariant-loop-i l =
-    (l.i ≤ length l.initial.words) × (length l.words ≡ length l.initial.words) × (l.words ≡ replicate l.i l.value ++ drop l.i l.initial.words)
-
-abbrev pub decreases-loop-i : goal.decreases-loop-i
-decreases-loop-i l = length l.initial.words - l.i
+abbrev pub invariant-loop-word : goal.invariant-loop-word
+invariant-loop-word l = l.words ≡ replicate l.word-index l.value ++ drop l.word-index l.initial.words

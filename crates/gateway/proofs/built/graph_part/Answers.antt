@@ -10,4 +10,4 @@ pub returns : goal.returns
 unfolding parts
 returns c =
     let d = c.args in
-    part_lent d.scratch.now (held_at d.r d.s) (2 * d.r + d.n) c.held_start-start.ensures (omega (arith, c.edges_start.ensures))
+    part_lent d.scratch.now (held_at d.r d.s) (2 * d.r + d.n) c.graph_range.ensures.0 (omega (arith, c.graph_range.ensures))

@@ -1,8 +1,20 @@
--- `printing::listing::list` calls `list_words` on words that passed the shape test.
-use Rattle.std.proofs.Common.{sym, ◌∙◌}
+-- `printing::listing::list` lists words that passed the shape test.
+use Rattle.std.proofs.Common.{sym, ◌∙◌, arith}
 use Rattle.layout.proofs.Shape.{shape}
-use borrow.Author.Rules.{rules}
 use Rattle.printing.proofs.listing.list.Goals as goal
 
-pub list_words-requires : goal.list_words-requires
-list_words-requires g c = (shape _ (sym c.is_shaped.ensures ∙ c.if-is_shaped.true), search rules)
+pub table_0-requires : goal.table_0-requires
+table_0-requires g c = shape _ (sym c.is_shaped.ensures ∙ c.if-not-is_shaped.false)
+
+pub list_table-requires : goal.list_table-requires
+list_table-requires g c =
+    let z = shape _ (sym c.is_shaped.ensures ∙ c.if-not-is_shaped.false) in
+    omega (arith, z)
+
+pub table_1-requires : goal.table_1-requires
+table_1-requires g c = shape _ (sym c.is_shaped.ensures ∙ c.if-not-is_shaped.false)
+
+pub list_table-requires-2 : goal.list_table-requires-2
+list_table-requires-2 g c =
+    let z = shape _ (sym c.is_shaped.ensures ∙ c.if-not-is_shaped.false) in
+    omega (arith, z)

@@ -12,6 +12,3 @@ use Rattle.scratch_set.proofs.edge_column.write_edges.Given as goal
 abbrev pub invariant-loop-i : goal.invariant-loop-i
 invariant-loop-i l =
     (l.i ≤ l.n) × EdgesFound l.tabulation l.words l.initial.scratch l.scratch l.start l.i
-
-abbrev pub decreases-loop-i : goal.decreases-loop-i
-decreases-loop-i l = l.n - l.i

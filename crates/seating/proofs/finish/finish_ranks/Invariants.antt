@@ -1,19 +1,8 @@
--- `seating::finish::finish_ranks` meets its contract: after i turns the parts are `ranks_finished` i.
-use native.Mathlib.Omega.{arith}
-use Prim.Native.Nat.{ℕ, ◌+◌, ◌-◌, ◌≤◌}
-use mathlib.Core.Path.{◌≡◌, ◌∙◌, ap}
-use native.Mathlib.Numerals.{add-one}
-use lib.ListN.{length}
-use Rattle.build.specs.Scratch.{Parts, parts}
-use Rattle.build.proofs.Access.{enough_kept}
-use Rattle.build.specs.FinishCode.{Finishable, rank_finished, ranks_finished}
-use Rattle.build.proofs.FinishCode.{finished_none, finished_able, finished_more}
-use borrow.Author.Rules.{rules}
+-- `seating::finish::finish_ranks` meets its contract: the ranks below the present one are finished.
+use Rattle.std.proofs.Common.{◌≡◌, ◌+◌, ◌-◌, ◌≤◌}
+use Rattle.build.specs.Scratch.{parts}
+use Rattle.build.specs.FinishCode.{ranks_finished}
 use Rattle.seating.proofs.finish.finish_ranks.Given as goal
 
-abbrev pub invariant-loop-i : goal.invariant-loop-i
-invariant-loop-i l =
-    (l.i ≤ l.n) × (length l.scratch ≡ length l.initial.scratch) × (parts l.r l.s l.n l.scratch ≡ ranks_finished l.r l.i (parts l.r l.s l.n l.initial.scratch))
-
-abbrev pub decreases-loop-i : goal.decreases-loop-i
-decreases-loop-i l = l.n - l.i
+abbrev pub invariant-loop-rank : goal.invariant-loop-rank
+invariant-loop-rank l = (l.rank ≤ l.n + 1) × (parts l.r l.s l.n l.scratch ≡ ranks_finished l.r (l.rank - 1) (parts l.r l.s l.n l.initial.scratch))

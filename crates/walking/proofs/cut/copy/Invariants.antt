@@ -10,6 +10,3 @@ use Rattle.walking.proofs.cut.copy.Given as goal
 
 abbrev pub invariant-loop-i : goal.invariant-loop-i
 invariant-loop-i l = (l.i ≤ length l.keys) × (l.words ≡ paste l.initial.words 0 l.keys l.i)
-
-abbrev pub decreases-loop-i : goal.decreases-loop-i
-decreases-loop-i l = length l.keys - l.i

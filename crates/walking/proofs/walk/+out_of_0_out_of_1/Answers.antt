@@ -1,8 +1,7 @@
 -- The two steps, out of table 0 and out of table 1, meet their contracts.
-use Rattle.std.proofs.Common.{◌<◌, arith}
+use Rattle.std.proofs.Common.{arith}
 use Rattle.hashing.specs.Hash.{tables}
 use Rattle.hashing.proofs.Slots.{slot_0_lt}
-use Rattle.walking.specs.Walk.{Stepped}
 use Rattle.walking.proofs.WalkLaws.{stepped, out_0, out_1, onward_then, goes_new}
 use Rattle.walking.proofs.walk.+out_of_0_out_of_1.Goals as goal
 

@@ -1,0 +1,2 @@
+-- What the proofs of `bulk_input` share.
+pub mod Laws

@@ -1,0 +1,3 @@
+-- The laws of the crate `lines`.
+pub mod Buffer
+pub mod Stream
