@@ -73,11 +73,11 @@ module _ (es bytes : List ℕ) (i : ℕ) (e : length bytes ≡ 2 * length es) (f
   encode_end l = all bytes (bytes_of es) (2 * i) (omega arith) (omega (arith, bytes_length es)) f
 
 module _ (bytes es : List ℕ) (i : ℕ) (e : length bytes ≡ 2 * length es) (f : take i es ≡ take i (entries_of bytes)) where
-  pub decode_step : i < length es
-      → take (i + 1) (set es i (256 * get_or bytes (2 * i + 1) 0 + get_or bytes (2 * i) 0)) ≡ take (i + 1) (entries_of bytes)
-  decode_step l =
+  pub decode_step : i < length es → {entry : ℕ} → entry ≡ 256 * get_or bytes (2 * i + 1) 0 + get_or bytes (2 * i) 0
+      → take (i + 1) (set es i entry) ≡ take (i + 1) (entries_of bytes)
+  decode_step l v =
       let n = entries_length (length es) bytes e in
-      rw add-one (more es (entries_of bytes) i _ l (omega arith) (sym (entries_at bytes i (omega arith))) f)
+      rw (v, add-one) (more es (entries_of bytes) i _ l (omega arith) (sym (entries_at bytes i (omega arith))) f)
 
   pub decode_end : length es ≤ i → es ≡ entries_of bytes
   decode_end l = all es (entries_of bytes) i l (omega (arith, entries_length (length es) bytes e)) f

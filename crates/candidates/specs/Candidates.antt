@@ -8,6 +8,7 @@ use mathlib.Core.List.{List, [], ◌∷◌, ◌++◌, map, map-append, append-ni
 use Rattle.std.proofs.Math.Numerals.{add-one}
 use native.Mathlib.Omega.{arith}
 use borrow.Rule.Slice.PartMut.{mid_of}
+use mir.Val.{bool_byte}
 use Rattle.std.proofs.Math.ListN.{take}
 use Rattle.std.proofs.lemmas.List.{length-map}
 use Rattle.basics.specs.Tests.{test}
@@ -53,6 +54,15 @@ module _ (F : Family) (some : 0 < F.slots) (v key : ℕ) where
 
   pub own_second : F.slots ≤ v → eqb v (slot_1 F key) ≡ own_place F (slot v) key
   own_second l = rw (ne_eqb v (slot_0 F key) (λ q. omega (arith, slot_0_lt F some key)))
+
+-- A test as the number by which the end of what is gathered moves.
+pub as_number : (a : Bool) {b : Bool} → a ≡ b → bool_byte a ≡ cond b 1 0
+as_number true e = rw (← e) refl
+as_number false e = rw (← e) refl
+
+pub at_most_one : (b : Bool) {n : ℕ} → n ≡ cond b 1 0 → n ≤ 1
+at_most_one true e = omega (arith, e)
+at_most_one false e = omega (arith, e)
 
 map_cond : (t : Bool) (x : Spot) (X : List Spot)
     → map spot_key (cond t (x ∷ X) X) ≡ cond t (spot_key x ∷ map spot_key X) (map spot_key X)

@@ -67,10 +67,8 @@ fn gather_slots(
     for v in 0..2 * r {
         let key = key_in(words, v);
         let tier = slot_tier(words, v);
-        if counts_in_slot(tabulation, r, station, v, key, tier) {
-            scratch[end] = key;
-            end += 1;
-        }
+        scratch[end] = key;
+        end += usize::from(counts_in_slot(tabulation, r, station, v, key, tier));
     }
     end
 }
@@ -87,10 +85,8 @@ fn gather_places(places: &[u32], count: usize, scratch: &mut [u32], n: usize) ->
     for i in 0..count {
         let key = places[PLACE_WIDTH * i];
         let tier = places[PLACE_WIDTH * i + 1];
-        if is_sound(key, tier) {
-            scratch[end] = key;
-            end += 1;
-        }
+        scratch[end] = key;
+        end += usize::from(is_sound(key, tier));
     }
     end
 }

@@ -79,7 +79,7 @@ fn run(
         refused: 0,
     };
     let laid = counting::init(&mut *words, sizes.r, sizes.s, sizes.station, none);
-    if laid.answer.is_err() {
+    if laid.answer != 0 {
         printing::print_no_sizes(rt);
         return;
     }

@@ -4,9 +4,8 @@
 
 use counters::Counters;
 use grammar::{Command, NEWLINE};
-use lines::Line;
+use lines::{Line, next_number};
 use printing::Printer;
-use refusals::Refusal;
 use std::io::Read;
 
 // The bytes that a read of the input takes at most.
@@ -44,9 +43,10 @@ impl<'a> Session<'a> {
         }
     }
 
-    // A function of its own, since the borrow checker does not cover the call within `answer`.
-    fn looked_up(&self, key: u32) -> Result<Option<u32>, Refusal> {
-        lookup::lookup(self.tabulation, self.words, key)
+    // A function of its own, since the borrow checker does not cover the call within `answer`. Rows have numbers.
+    fn looked_up(&self, key: u32) -> Result<Option<u32>, u32> {
+        let looked = lookup::lookup(self.tabulation, self.words, key)?;
+        Ok(looked)
     }
 
     // A whole line.
@@ -83,7 +83,7 @@ impl<'a> Session<'a> {
         }
     }
 
-    // One byte of the input. The last line number that there is room for stays.
+    // One byte of the input.
     fn take_byte(&mut self, rt: &(impl Print + Eprint + Alloc), byte: u8) {
         if byte != NEWLINE {
             self.line.push(byte);
@@ -91,7 +91,7 @@ impl<'a> Session<'a> {
         }
         self.answer(rt);
         self.line = Line::new();
-        self.number = self.number.saturating_add(1);
+        self.number = next_number(self.number);
     }
 
     // One read of the input, and whether to go on. The rows are written out after it, so that a person at the bench

@@ -1,2 +1,3 @@
 -- The laws of the crate `counters`.
 pub mod Counting
+mod Saturated

@@ -3,10 +3,7 @@
 #![tactic(auto)]
 
 ghost use Rattle.std.specs.Prelude.{◌≡◌};
-ghost use Rattle.refusals.specs.Answer.{number};
 ghost use Rattle.counters.specs.Counters.{one_more, counted};
-
-use refusals::Refusal;
 
 // Accepted calls and refused ones.
 #[repr(C)]
@@ -16,14 +13,16 @@ pub struct Counters {
     pub refused: u32,
 }
 
-// What a counted call gives back: its answer, and the counters moved on.
+// What a counted call gives back: its answer, and the counters moved on. It stands for an exported call, and C gets the
+// number: any is taken, whether or not a refusal has it.
 #[derive(Clone, Copy)]
 pub struct Counted {
-    pub answer: Result<(), Refusal>,
+    pub answer: u32,
     pub counters: Counters,
 }
 
 // One more, but a count at the limit stays.
+#[tactic(auto, using(crate::proofs::Saturated::saturated))]
 fn one_more(count: u32) -> u32
     ensures { result ≡ one_more count }
 {
@@ -31,25 +30,26 @@ fn one_more(count: u32) -> u32
 }
 
 // The counters after a call that gave this answer.
-pub fn counted_by(counters: Counters, answer: Result<(), Refusal>) -> Counters
-    ensures { result ≡ counted counters (number answer) }
+pub fn counted_by(counters: Counters, answer: u32) -> Counters
+    ensures { result ≡ counted counters answer }
 {
-    match answer {
-        Ok(()) => Counters {
+    if answer == 0 {
+        Counters {
             done: one_more(counters.done),
             ..counters
-        },
-        Err(_) => Counters {
+        }
+    } else {
+        Counters {
             refused: one_more(counters.refused),
             ..counters
-        },
+        }
     }
 }
 
 // An answer, with the counters that it moves on.
-pub fn with_counts(answer: Result<(), Refusal>, counters: Counters) -> Counted
+pub fn with_counts(answer: u32, counters: Counters) -> Counted
     ensures same { result.answer ≡ answer }
-    ensures moved { result.counters ≡ counted counters (number answer) }
+    ensures moved { result.counters ≡ counted counters answer }
 {
     let moved = counted_by(counters, answer);
     Counted {

@@ -60,5 +60,7 @@ pub fn pair_of(text: &[u8]) -> Option<(u32, u32)>
     ensures { result ≡ pair_of text.now }
 {
     let (first, second) = split_once(text)?;
-    Some((number_in(first)?, number_in(second)?))
+    let a = number_in(first)?;
+    let b = number_in(second)?;
+    Some((a, b))
 }

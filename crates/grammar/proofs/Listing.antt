@@ -10,7 +10,6 @@ use Rattle.grammar.specs.Parted.{parted, but_empty_last, lines_of}
 use Rattle.grammar.specs.Command.{command_of}
 use Rattle.grammar.specs.Sizes.{sizes_of}
 use Rattle.grammar.specs.Row.{insert_row, remove_row, lookup_row, error_row, slot_row, stash_row, book_row}
-use Rattle.refusals.specs.declared.Refusal.TheVariants.{BlankKey}
 use Rattle.grammar.specs.declared.Command.TheVariants.{Insert, Remove, Lookup}
 
 -- the bytes of an ASCII text
@@ -62,7 +61,7 @@ tier_output = refl
 
 -- the rows that the listing does not have
 pub other_rows :
-    remove_row 4294967295 7 ++ (lookup_row 17 (Ok None) ++ (lookup_row 0 (Err BlankKey) ++ (error_row 4294967296 ++ book_row)))
+    remove_row 4294967295 7 ++ (lookup_row 17 (Ok None) ++ (lookup_row 0 (Err 5) ++ (error_row 4294967296 ++ book_row)))
     ≡ bytes "W,4294967295,7\nL,17,N\nL,0,R5\nE,4294967296\nB\n"
 unfolding remove_row lookup_row error_row book_row decimal digits
 other_rows = refl

@@ -1,10 +1,9 @@
 -- What the console prints, byte by byte: a row of fields parted by commas and ended by a newline. Assumes nothing.
 use Rattle.std.specs.Prelude.{Option, Some, None, Result, Ok, Err, ℕ, List, [], ◌∷◌, ◌++◌}
-use Rattle.refusals.specs.Answer.{number_of}
+use Rattle.refusals.specs.Refusal.{done}
 use Rattle.grammar.specs.Decimal.{decimal}
 use Rattle.grammar.specs.Parted.{newline, comma}
 use Rattle.grammar.specs.Command.{letter_A, letter_W, letter_L}
-use Rattle.refusals.specs.declared.Refusal.{Refusal}
 
 -- ASCII: 'P', 'D', 'E', 'B', 'N' and 'R'
 abbrev pub letter_P : ℕ
@@ -42,19 +41,24 @@ remove_row key answer = answer_row letter_W key answer
 unfoldable pub insert_row : ℕ → ℕ → ℕ → List ℕ
 insert_row key tier answer = row ((letter_A ∷ []) ∷ decimal key ∷ decimal tier ∷ decimal answer ∷ [])
 
--- "Look-up answers the tier or that the card isn't listed": document 01's values of a lookup's answer, 1 and the tier, or 0
-abbrev pub values : Result (Option ℕ) Refusal → List ℕ
+-- "Look-up answers the tier or that the card isn't listed": document 01's number of a lookup's answer, whichever number
+-- it is refused with, and its values, 1 and the tier, or 0
+abbrev pub number : Result (Option ℕ) ℕ → ℕ
+number (Ok looked) = done
+number (Err refusal) = refusal
+
+abbrev pub values : Result (Option ℕ) ℕ → List ℕ
 values (Ok (Some tier)) = 1 ∷ tier ∷ []
 values (Ok None) = 0 ∷ []
 values (Err refusal) = []
 
 -- "L prints the tier or N"; "a refusal as R and its number"
-abbrev pub lookup_answer : Result (Option ℕ) Refusal → List ℕ
+abbrev pub lookup_answer : Result (Option ℕ) ℕ → List ℕ
 lookup_answer (Ok (Some tier)) = decimal tier
 lookup_answer (Ok None) = letter_N ∷ []
-lookup_answer (Err refusal) = letter_R ∷ decimal (number_of refusal)
+lookup_answer (Err refusal) = letter_R ∷ decimal refusal
 
-unfoldable pub lookup_row : ℕ → Result (Option ℕ) Refusal → List ℕ
+unfoldable pub lookup_row : ℕ → Result (Option ℕ) ℕ → List ℕ
 lookup_row key looked = row ((letter_L ∷ []) ∷ decimal key ∷ lookup_answer looked ∷ [])
 
 -- "A line of another form prints E,line number"

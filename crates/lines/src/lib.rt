@@ -2,6 +2,8 @@
 // allocated here. Every promise speaks of `Buffers`: which bytes were read.
 #![tactic(auto)]
 
+ghost use Rattle.std.specs.Prelude.{◌+◌, min, ◌≡◌};
+
 use forms::{command_of, sizes_of};
 use grammar::{Command, LONGEST, Sizes};
 
@@ -14,6 +16,13 @@ const TOO_LONG: usize = LONGEST + 1;
 pub struct Line {
     bytes: [u8; LONGEST],
     count: usize,
+}
+
+// The number of the next line; the last one that there is room for stays.
+pub fn next_number(line: u64) -> u64
+    ensures { result ≡ min (line + 1) 18446744073709551615 }
+{
+    line.saturating_add(1)
 }
 
 impl Line {

@@ -3,9 +3,11 @@
 #![tactic(auto)]
 
 ghost use Rattle.std.specs.Prelude.{◌+◌, ◌≤◌, ◌≡◌};
-ghost use Rattle.grammar.specs.Row.{row_room};
+ghost use Rattle.grammar.specs.Row.{insert_row, remove_row, lookup_row, error_row, slot_row};
+ghost use Rattle.grammar.specs.Row.{stash_row, book_row, row_room};
+ghost use Rattle.writing.specs.Written.{Written};
+ghost use Rattle.printing.specs.Place.{place_for};
 
-use refusals::{Refusal, number};
 use rows::ROW_ROOM;
 
 pub mod listing;
@@ -15,7 +17,7 @@ pub const ROOM: usize = 4096;
 
 // The rows that are not written out yet, the first `count` bytes of the buffer, and whether a write has failed. From then
 // on rows are put into the buffer and never written: behind a gap they could be taken for the answers to other lines.
-#[derive(Drop)]
+#[derive(Clone, Copy)]
 pub struct Printer {
     bytes: [u8; ROOM],
     count: usize,
@@ -35,14 +37,17 @@ impl Printer {
     }
 
     // Whether a write has failed.
-    pub fn is_lost(&self) -> bool {
+    pub fn is_lost(&self) -> bool
+        ensures { result ≡ self.now.lost }
+    {
         self.lost
     }
 
     // Writes out what the buffer holds, unless rows are lost. The console ends with status 0 all the same, so the write
     // that fails is told on standard error; none follows it, so there is one line of it in a run.
     pub fn flush(&mut self, rt: &(impl Print + Eprint + Alloc))
-        ensures { self.new.count ≡ 0 }
+        ensures emptied { self.new.count ≡ 0 }
+        ensures kept { self.new.bytes ≡ self.old.bytes }
     {
         if !self.lost {
             if let Err(error) = rt.write_all(&self.bytes[..self.count]) {
@@ -55,45 +60,48 @@ impl Printer {
 
     // Room for the next row: the buffer is written out first if it has none.
     fn make_room(&mut self, rt: &(impl Print + Eprint + Alloc))
-        ensures { self.new.count + row_room ≤ 4096 }
+        ensures roomy { self.new.count + row_room ≤ 4096 }
+        ensures at { self.new.count ≡ place_for self.old.count }
+        ensures kept { self.new.bytes ≡ self.old.bytes }
     {
         if ROOM - ROW_ROOM < self.count {
             self.flush(rt);
         }
     }
 
-    pub fn insert(
-        &mut self,
-        rt: &(impl Print + Eprint + Alloc),
-        key: u32,
-        tier: u32,
-        answer: Result<(), Refusal>,
-    ) {
+    pub fn insert(&mut self, rt: &(impl Print + Eprint + Alloc), key: u32, tier: u32, answer: u32)
+        ensures { Written (insert_row key tier answer) self.old.bytes (place_for self.old.count)
+            self.new.bytes self.new.count }
+    {
         self.make_room(rt);
-        self.count = rows::put_insert(&mut self.bytes, self.count, key, tier, number(answer));
+        self.count = rows::put_insert(&mut self.bytes, self.count, key, tier, answer);
     }
 
-    pub fn remove(
-        &mut self,
-        rt: &(impl Print + Eprint + Alloc),
-        key: u32,
-        answer: Result<(), Refusal>,
-    ) {
+    pub fn remove(&mut self, rt: &(impl Print + Eprint + Alloc), key: u32, answer: u32)
+        ensures { Written (remove_row key answer) self.old.bytes (place_for self.old.count)
+            self.new.bytes self.new.count }
+    {
         self.make_room(rt);
-        self.count = rows::put_remove(&mut self.bytes, self.count, key, number(answer));
+        self.count = rows::put_remove(&mut self.bytes, self.count, key, answer);
     }
 
     pub fn lookup(
         &mut self,
         rt: &(impl Print + Eprint + Alloc),
         key: u32,
-        looked: Result<Option<u32>, Refusal>,
-    ) {
+        looked: Result<Option<u32>, u32>,
+    )
+        ensures { Written (lookup_row key looked) self.old.bytes (place_for self.old.count)
+            self.new.bytes self.new.count }
+    {
         self.make_room(rt);
         self.count = rows::put_lookup(&mut self.bytes, self.count, key, looked);
     }
 
-    pub fn error(&mut self, rt: &(impl Print + Eprint + Alloc), line: u64) {
+    pub fn error(&mut self, rt: &(impl Print + Eprint + Alloc), line: u64)
+        ensures { Written (error_row line) self.old.bytes (place_for self.old.count)
+            self.new.bytes self.new.count }
+    {
         self.make_room(rt);
         self.count = rows::put_error(&mut self.bytes, self.count, line);
     }
@@ -106,17 +114,26 @@ impl Printer {
         key: u32,
         next: u32,
         tier: u32,
-    ) {
+    )
+        ensures { Written (slot_row table slot key next tier) self.old.bytes (place_for self.old.count)
+            self.new.bytes self.new.count }
+    {
         self.make_room(rt);
         self.count = rows::put_slot(&mut self.bytes, self.count, table, slot, key, next, tier);
     }
 
-    pub fn stashed(&mut self, rt: &(impl Print + Eprint + Alloc), key: u32, tier: u32) {
+    pub fn stashed(&mut self, rt: &(impl Print + Eprint + Alloc), key: u32, tier: u32)
+        ensures { Written (stash_row key tier) self.old.bytes (place_for self.old.count)
+            self.new.bytes self.new.count }
+    {
         self.make_room(rt);
         self.count = rows::put_stashed(&mut self.bytes, self.count, key, tier);
     }
 
-    fn no_book(&mut self, rt: &(impl Print + Eprint + Alloc)) {
+    fn no_book(&mut self, rt: &(impl Print + Eprint + Alloc))
+        ensures { Written book_row self.old.bytes (place_for self.old.count)
+            self.new.bytes self.new.count }
+    {
         self.make_room(rt);
         self.count = rows::put_no_book(&mut self.bytes, self.count);
     }

@@ -9,7 +9,6 @@ ghost use Rattle.grammar.specs.Row.{error_row, slot_row, stash_row, book_row, ro
 ghost use Rattle.writing.specs.Written.{Written};
 
 use grammar::{COMMA, NEWLINE};
-use refusals::Refusal;
 use writing::{put_byte, put_field, put_long, put_word};
 
 // Every row that is printed fits into so many bytes. Each function asks for them itself, since it takes any slice at any
@@ -51,7 +50,7 @@ pub fn put_remove(out: &mut [u8], at: usize, key: u32, answer: u32) -> usize
 }
 
 // L,key,R and the number of the refusal
-fn put_refused(out: &mut [u8], at: usize, key: u32, refusal: Refusal) -> usize
+fn put_refused(out: &mut [u8], at: usize, key: u32, refusal: u32) -> usize
     requires { at + row_room ≤ length out.old }
     ensures written { Written (lookup_row key (Err refusal)) out.old at
         out.new result }
@@ -61,7 +60,7 @@ fn put_refused(out: &mut [u8], at: usize, key: u32, refusal: Refusal) -> usize
     let third = put_field(&mut *out, second, key);
     let letter = put_byte(&mut *out, third, COMMA);
     let number = put_byte(&mut *out, letter, b'R');
-    let end = put_word(&mut *out, number, refusal.into());
+    let end = put_word(&mut *out, number, refusal);
     put_byte(&mut *out, end, NEWLINE)
 }
 
@@ -78,14 +77,9 @@ fn put_absent(out: &mut [u8], at: usize, key: u32) -> usize
     put_byte(&mut *out, end, NEWLINE)
 }
 
-// L,key,tier  L,key,N  or a refusal
+// L,key,tier  L,key,N  or a refusal: any number, as the other rows take any answer
 #[tactic(auto, unfolding(grammar::specs::Row::lookup_row))]
-pub fn put_lookup(
-    out: &mut [u8],
-    at: usize,
-    key: u32,
-    looked: Result<Option<u32>, Refusal>,
-) -> usize
+pub fn put_lookup(out: &mut [u8], at: usize, key: u32, looked: Result<Option<u32>, u32>) -> usize
     requires { at + row_room ≤ length out.old }
     ensures written { Written (lookup_row key looked) out.old at out.new result }
     ensures short { result ≤ at + row_room }

@@ -40,7 +40,7 @@ pub fn init(words: &mut [u32]) -> Result<(), Refusal>
     if !are_slots(words.len()) {
         return Err(Refusal::WrongShape);
     }
-    words.fill(0);
+    words::fill(words, 0);
     Ok(())
 }
 

@@ -1,13 +1,12 @@
 -- `counters::counted_by` meets its contract: an accepted call moves `done` on, a refusal moves `refused` on.
-use Rattle.std.proofs.Common.{ne_eqb}
-use Rattle.refusals.proofs.Answer.{refused}
+use borrow.Author.Tests.{eq-eqb, ne_eqb}
 use Rattle.counters.specs.Counters.{counted}
 use Rattle.counters.proofs.counted_by.Goals as goal
 
-pub returns-in-Ok : goal.returns-in-Ok
+pub returns-then-answer-eq0 : goal.returns-then-answer-eq0
 unfolding counted
-returns-in-Ok c = simp (c.in-Ok.is, c.one_more.ensures)
+returns-then-answer-eq0 c = simp (eq-eqb _ _ c.before.if-answer-eq0.true, c.one_more.ensures)
 
-pub returns-in-Err : goal.returns-in-Err
+pub returns-else-answer-eq0 : goal.returns-else-answer-eq0
 unfolding counted
-returns-in-Err c = simp (c.in-Err.is, ne_eqb _ _ (refused c.in-Err.field-0), c.one_more-in-Err.ensures)
+returns-else-answer-eq0 c = simp (ne_eqb _ _ c.before.if-answer-eq0.false, c.one_more-else-answer-eq0.ensures)

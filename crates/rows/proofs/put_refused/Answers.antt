@@ -8,6 +8,6 @@ pub returns : goal.returns
 unfolding lookup_row
 returns c =
     record {
-      written = c.put_byte-second.ensures then c.put_field-third.ensures.written then c.put_byte-letter.ensures then c.put_byte-number.ensures then (rw c.into.ensures at c.put_word-end.ensures.written) then c.put_byte.ensures;
+      written = c.put_byte-second.ensures then c.put_field-third.ensures.written then c.put_byte-letter.ensures then c.put_byte-number.ensures then c.put_word-end.ensures.written then c.put_byte.ensures;
       short = search rules;
     }

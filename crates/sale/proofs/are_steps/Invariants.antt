@@ -4,5 +4,5 @@ use Rattle.std.proofs.Common.{◌≡◌, drop}
 use Rattle.outcome.specs.Sale.{all_in_range}
 use Rattle.sale.proofs.are_steps.Given as goal
 
-abbrev pub invariant-loop-step : goal.invariant-loop-step
-invariant-loop-step l = all_in_range l.steps ≡ all_in_range (drop l.step-index l.steps)
+abbrev pub invariant-loop-i : goal.invariant-loop-i
+invariant-loop-i l = all_in_range l.steps ≡ all_in_range (drop l.i l.steps)
