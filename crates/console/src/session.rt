@@ -2,6 +2,10 @@
 // this is a `Run` of lines/specs/Stream.antt, whose law (lines/proofs/Stream.antt) says that these are the lines of the
 // input, and all of them, unless a row cannot be written.
 
+ghost use Rattle.std.specs.Prelude.{◌≡◌};
+ghost use Rattle.grammar.specs.Row.{number, values};
+ghost use Rattle.layout.specs.Answers.{lookup_refusal, lookup_values};
+
 use counters::Counters;
 use grammar::{Command, NEWLINE};
 use lines::{Line, next_number};
@@ -21,6 +25,15 @@ pub struct Session<'a> {
     printer: &'a mut Printer,
     line: Line,
     number: u64,
+}
+
+// What a lookup answers, with the number of a refusal, which a row prints.
+fn looked_up(tabulation: &[u16], words: &[u32], key: u32) -> Result<Option<u32>, u32>
+    ensures numbered { number result ≡ lookup_refusal tabulation.now words.now key }
+    ensures valued { values result ≡ lookup_values tabulation.now words.now key }
+{
+    let looked = lookup::lookup(tabulation, words, key)?;
+    Ok(looked)
 }
 
 impl<'a> Session<'a> {
@@ -43,10 +56,9 @@ impl<'a> Session<'a> {
         }
     }
 
-    // A function of its own, since the borrow checker does not cover the call within `answer`. Rows have numbers.
+    // A function of its own, since the borrow checker does not cover the call within `answer`.
     fn looked_up(&self, key: u32) -> Result<Option<u32>, u32> {
-        let looked = lookup::lookup(self.tabulation, self.words, key)?;
-        Ok(looked)
+        looked_up(self.tabulation, self.words, key)
     }
 
     // A whole line.

@@ -22,7 +22,7 @@ pub struct Counted {
 }
 
 // One more, but a count at the limit stays.
-#[tactic(auto, using(crate::proofs::Saturated::saturated))]
+#[tactic(auto, using(crate::proofs::Saturated::saturated, crate::proofs::Saturated::stays))]
 fn one_more(count: u32) -> u32
     ensures { result ≡ one_more count }
 {

@@ -96,10 +96,13 @@ pub fn lookup(tabulation: &[u16], words: &[u32], key: u32) -> Result<Option<u32>
     if ranges::is_blank(key) {
         return Err(Refusal::BlankKey);
     }
-    match in_slots(tabulation, words, key) {
-        Some(tier) => Ok(Some(tier)),
-        None => Ok(in_stash(words, key)),
+    if let Some(tier) = in_slots(tabulation, words, key) {
+        return Ok(Some(tier));
     }
+    let Some(tier) = in_stash(words, key) else {
+        return Ok(None);
+    };
+    Ok(Some(tier))
 }
 
 // Where a key is found, in its slots or in the stash; both slots are worked out and read first, as `tier_at` wants

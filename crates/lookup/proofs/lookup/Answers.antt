@@ -63,15 +63,28 @@ in_stash-requires c =
     let formed : shaped c.args.words.now ≡ true = sym c.is_shaped.ensures ∙ c.if-not-is_shaped.false in
     shape _ (formed)
 
-pub returns-in-None : goal.returns-in-None
+pub returns-in_default-in_stash : goal.returns-in_default-in_stash
 unfolding lookup_refusal lookup_values
-returns-in-None c =
+returns-in_default-in_stash c =
     let formed : shaped c.args.words.now ≡ true = sym c.is_shaped.ensures ∙ c.if-not-is_shaped.false in
     let a = c.args in
     let t = eq-eqb _ _ c.if-tabulation-ne-TABULATION_LENGTH.false in
     let v = sym c.is_blank.ensures ∙ c.if-is_blank.false in
-    let f = slots_absent a.tabulation.now a.words.now a.key c.in_slots.result c.in_slots.ensures c.in-None.is in
+    let f = slots_absent a.tabulation.now a.words.now a.key c.in_slots.result c.in_slots.ensures c.in_default.is in
     record {
       numbered = sym (simp (t, formed, v));
-      valued = c.in_stash.ensures ∙ f ∙ sym (simp (t, formed, v));
+      valued = (rw c.in_default-in_stash.is at c.in_stash.ensures) ∙ f ∙ sym (simp (t, formed, v));
+    }
+
+pub returns : goal.returns
+unfolding lookup_refusal lookup_values
+returns c =
+    let formed : shaped c.args.words.now ≡ true = sym c.is_shaped.ensures ∙ c.if-not-is_shaped.false in
+    let a = c.args in
+    let t = eq-eqb _ _ c.if-tabulation-ne-TABULATION_LENGTH.false in
+    let v = sym c.is_blank.ensures ∙ c.if-is_blank.false in
+    let f = slots_absent a.tabulation.now a.words.now a.key c.in_slots.result c.in_slots.ensures c.in_default.is in
+    record {
+      numbered = sym (simp (t, formed, v));
+      valued = (rw c.in-Some-in_stash.is at c.in_stash.ensures) ∙ f ∙ sym (simp (t, formed, v));
     }
