@@ -48,8 +48,8 @@ fn is_step(step: i32) -> bool
 fn are_steps(steps: &[i32]) -> bool
     ensures { result ≡ all_in_range steps.now }
 {
-    // A loop by hand: that every step is tested is told by the laws of its turns, which docs/CLAIMS.md names. By an index,
-    // since an edit that leaves out tier 0 is refused for that only where it changes a number.
+    // A loop by hand: that every step is tested is told by the laws of its turns, which docs/CLAIMS.md names. It goes
+    // by an index, since an edit that leaves out tier 0 is refused for that only where it changes a number.
     for i in 0..steps.len() {
         if !is_step(steps[i]) {
             return false;
